@@ -1,0 +1,6 @@
+mod Examples
+pub mod NumberWriting
+pub mod Drafts
+pub mod Written
+pub mod Shortest
+pub mod Fitting

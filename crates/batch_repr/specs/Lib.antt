@@ -1,0 +1,6 @@
+pub mod Batches
+pub mod Limits
+pub mod Spelling
+pub mod Written
+pub mod Building
+pub mod Draft

@@ -1,0 +1,11 @@
+-- The limits of keys, values and notes (docs/FORMATS.md, "Limits").
+use Rattle.std.specs.Prelude.{◌≤◌, length}
+use Rattle.wal_base.specs.declared.entry.Entry.{Entry}
+use Rattle.wal_base.specs.declared.entry.Entry.TheVariants.{Set, Delete, Note}
+use Rattle.batch_repr.specs.declared.limits.TheConstants.{KEY_MAX, VALUE_MAX}
+
+-- a key, a value or a note within its limit
+abbrev pub IsWithinLimits : Entry → Type 0
+IsWithinLimits (Set key value) = (length key ≤ KEY_MAX) × (length value ≤ VALUE_MAX)
+IsWithinLimits (Delete key) = length key ≤ KEY_MAX
+IsWithinLimits (Note bytes) = length bytes ≤ VALUE_MAX

@@ -1,0 +1,16 @@
+//! The limits of keys, values and batches. They are this project's own.
+
+/// The most bytes of a key.
+pub const KEY_MAX: usize = 65_535;
+
+/// The most bytes of a value, and of a note.
+pub const VALUE_MAX: usize = 1_048_576;
+
+/// The most bytes of a batch as it is written, its header included.
+pub const BATCH_MAX: usize = 4_194_304;
+
+/// The greatest number at which a batch may end: 2^56 - 1.
+pub const NUMBER_MAX: u64 = 72_057_594_037_927_935;
+
+/// The bytes of a batch's header.
+pub(crate) const HEADER: usize = 12;

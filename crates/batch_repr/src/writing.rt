@@ -1,0 +1,67 @@
+//! Entries as they are written, and the header of a batch.
+
+ghost use Rattle.std.specs.Prelude.{◌≡◌, ◌<◌, ◌≤◌, ◌^◌, ◌++◌, length, take, drop, OnOk};
+ghost use Rattle.std.specs.Int.{w32, w64, to_le_bytes};
+ghost use Rattle.batch_repr.specs.Limits.{IsWithinLimits};
+ghost use Rattle.batch_repr.specs.Written.{varint, byte_string, written_entry};
+
+use crate::limits::HEADER;
+use std::alloc::AllocError;
+use wal_base::Entry;
+
+/// Adds the shortest spelling of a number. After an `Err` more bytes may stand behind the old ones.
+fn push_varint(out: &mut Vec<u8>, n: u32) -> Result<(), AllocError>
+    ensures ok { OnOk result (out.new.items ≡ out.old.items ++ varint n) }
+    ensures kept { take (length out.old.items) out.new.items ≡ out.old.items }
+{
+    let mut rest = n;
+    while rest >= 128 {
+        out.push((rest % 128 + 128) as u8)?;
+        rest /= 128;
+    }
+    out.push(rest as u8)?;
+    Ok(())
+}
+
+/// Adds a byte string behind its length.
+fn push_string(out: &mut Vec<u8>, text: &[u8]) -> Result<(), AllocError>
+    requires { length text.now < 2 ^ 32 }
+    ensures ok { OnOk result (out.new.items ≡ out.old.items ++ byte_string text.now) }
+    ensures kept { take (length out.old.items) out.new.items ≡ out.old.items }
+{
+    push_varint(out, text.len() as u32)?;
+    out.extend_from_slice(text)
+}
+
+/// Adds an entry. After an `Err` more bytes may stand behind the old ones.
+#[tactic(auto, unfolding(crate::specs::Written::written_entry))]
+pub(crate) fn push_entry(out: &mut Vec<u8>, entry: &Entry) -> Result<(), AllocError>
+    requires { IsWithinLimits entry.now }
+    ensures ok { OnOk result (out.new.items ≡ out.old.items ++ written_entry entry.now) }
+    ensures kept { take (length out.old.items) out.new.items ≡ out.old.items }
+{
+    match entry {
+        Entry::Set { key, value } => {
+            out.push(1)?;
+            push_string(out, key.as_slice())?;
+            push_string(out, value.as_slice())
+        }
+        Entry::Delete { key } => {
+            out.push(0)?;
+            push_string(out, key.as_slice())
+        }
+        Entry::Note { bytes } => {
+            out.push(3)?;
+            push_string(out, bytes.as_slice())
+        }
+    }
+}
+
+/// Writes a header over the first bytes.
+pub(crate) fn put_header(bytes: &mut [u8], first: u64, count: u32)
+    requires { 12 ≤ length bytes.old }
+    ensures { bytes.new ≡ to_le_bytes w64 first ++ to_le_bytes w32 count ++ drop 12 bytes.old }
+{
+    bytes[..8].copy_from_slice(&first.to_le_bytes());
+    bytes[8..HEADER].copy_from_slice(&count.to_le_bytes());
+}

@@ -1,0 +1,4 @@
+pub mod Moments
+pub mod Places
+pub mod Listings
+pub mod Images

@@ -1,0 +1,63 @@
+-- What a crash may leave of the files, and when no torn chunk passes for a whole one (docs/FORMATS.md, "Images").
+use Rattle.std.specs.Prelude.{◌≡◌, ℕ, ◌≤◌, ◌%◌, ◌^◌, true, false, List, ◌++◌, take, drop, length, Option, Some, None, if◌then◌else◌}
+use Rattle.disk_face.specs.View.{Place, segment, table, File, Files, Dirs}
+
+-- the bytes begin with that front
+abbrev pub Begins : List ℕ → List ℕ → Type 0
+Begins front bytes = (rest : List ℕ) × (bytes ≡ front ++ rest)
+
+-- What a crash may leave of one file. It may be gone if it was not created, or is leaving.
+-- The bytes of a segment past the stable ones are free. A table is there whole.
+abbrev pub IsImageOf : Place → Option File → Option (List ℕ) → Type 0
+IsImageOf p None None = Unit {0}
+IsImageOf p None (Some bytes) = ⊥
+IsImageOf p (Some f) None = (f.created ≡ true → f.leaving ≡ true)
+IsImageOf (segment s n) (Some f) (Some bytes) = (f.created ≡ true → Begins (take f.stable f.sent) bytes)
+IsImageOf (table n) (Some f) (Some bytes) = (f.created ≡ true → bytes ≡ f.sent)
+
+-- what a crash may leave of all files: no other file is there
+abbrev pub IsImage : Files → Dirs → Type 0
+IsImage files dirs = (p : Place) → IsImageOf p (files p) (dirs p)
+
+-- the log number of a file's chunks: the low 32 bits of its number
+abbrev pub log_of : Place → ℕ
+log_of (segment s n) = n.wal % 2 ^ 32
+log_of (table upto) = upto % 2 ^ 32
+
+-- `Chunk bytes at log size` says that a whole chunk of that log number and of that many bytes stands there.
+-- Wherever one stands in a file of the image, the same bytes were sent to that place.
+abbrev pub IsChanceFree : (List ℕ → ℕ → ℕ → ℕ → Type 0) → Files → Dirs → Type 0
+IsChanceFree Chunk files dirs =
+    (p : Place) (f : File) (bytes : List ℕ) (at size : ℕ) → files p ≡ Some f → dirs p ≡ Some bytes → Chunk bytes at (log_of p) size
+    → take size (drop at bytes) ≡ take size (drop at f.sent)
+
+-- what is true of every file: what is stable is done, what is done was sent, and a read begins with what is done
+pub record IsSoundFile (f : File) : Type 0 where
+  pub stable : f.stable ≤ f.done
+  pub done : f.done ≤ length f.sent
+  pub reads : Begins (take f.done f.sent) f.reads
+
+-- what is true of the file at a place: it is sound, and a table that is there reads as it was sent
+abbrev pub IsSound : Place → File → Type 0
+IsSound (segment s n) f = IsSoundFile f
+IsSound (table n) f = IsSoundFile f × (f.created ≡ true → f.reads ≡ f.sent)
+
+-- a file is whole: created, read as it was sent, and sent in full
+pub record IsRestedFile (f : File) : Type 0 where
+  pub created : f.created ≡ true
+  pub stays : f.leaving ≡ false
+  pub done : f.done ≡ length f.sent
+  pub reads : f.reads ≡ f.sent
+
+-- every file is whole
+abbrev pub IsRested : Files → Type 0
+IsRested files = (p : Place) (f : File) → files p ≡ Some f → IsRestedFile f
+
+-- what a read finds of a file: its creation must be completed
+abbrev pub as_read : Option File → Option (List ℕ)
+as_read None = None
+as_read (Some f) = if f.created then Some f.reads else None
+
+-- the directories as they read now
+abbrev pub dirs_as_read : Files → Dirs
+dirs_as_read files p = as_read (files p)

@@ -1,0 +1,6 @@
+pub mod View
+pub mod Image
+pub mod Listing
+pub mod Calls
+pub mod Tables
+pub mod NoFiles

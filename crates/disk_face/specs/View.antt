@@ -1,0 +1,83 @@
+-- What a disk means: its counts, its operations in flight, and its files at each moment so far (docs/FORMATS.md, "The disk").
+use Rattle.std.specs.Prelude.{◌≡◌, ◌≢◌, ℕ, ◌≤◌, Bool, List, Option, Some, None, IsSome, Contains}
+use Rattle.disk_face.specs.declared.Side.{Side}
+use Rattle.disk_face.specs.declared.Side.TheVariants.{Primary, Secondary}
+use Rattle.disk_face.specs.declared.SegName.{SegName}
+use Rattle.disk_face.specs.declared.OpId.{OpId}
+
+-- where a file stands: a segment in one of the two directories, or a table in the primary one
+pub data Place : Type 0 where
+  segment : Side → SegName → Place
+  table : ℕ → Place
+
+-- what an operation in flight does to its file
+pub data Act : Type 0 where
+  creating : Act
+  writing : Act
+  syncing : Act
+
+-- an operation in flight: which file it is on, and what it does to it
+pub record Flight : Type 0 where
+  pub place : Place
+  pub act : Act
+
+-- a file of which a creation was started, or that was put
+pub record File : Type 0 where
+  -- the bytes of all writes started, in order
+  pub sent : List ℕ
+  -- how many of them the completed writes cover
+  pub done : ℕ
+  -- how many of them a completed sync covers
+  pub stable : ℕ
+  -- whether its creation was completed
+  pub created : Bool
+  -- whether its removal was begun and not completed
+  pub leaving : Bool
+  -- what a read gives: the first `done` bytes, and after a failed write any bytes behind them
+  pub reads : List ℕ
+
+-- the file at each place that has one
+abbrev pub Files : Type 0
+Files = Place → Option File
+
+-- the contents of the two directories as a crash may leave them
+abbrev pub Dirs : Type 0
+Dirs = Place → Option (List ℕ)
+
+-- all that a disk means to contracts
+pub record DiskView : Type 0 where
+  -- how often an operation or a call failed, by side
+  pub faults : Side → ℕ
+  -- how many polls may still be answered Pending, by side
+  pub polls_left : Side → ℕ
+  -- the operations that were started and have not ended
+  pub in_flight : OpId → Option Flight
+  -- the moment: a number that never falls
+  pub clock : ℕ
+  -- the files at each moment up to now
+  pub history : ℕ → Files
+
+-- the files as they stand now
+abbrev pub files : DiskView → Files
+files v = v.history v.clock
+
+-- no more than the places of some list have a file
+abbrev pub IsFiniteFiles : Files → Type 0
+IsFiniteFiles files = (places : List Place) × ((p : Place) → IsSome (files p) → Contains places p)
+
+-- no operation on this file is in flight
+abbrev pub IsFree : DiskView → Place → Type 0
+IsFree v p = (id : OpId) (f : Flight) → v.in_flight id ≡ Some f → f.place ≢ p
+
+-- no operation at all is in flight
+abbrev pub NothingInFlight : DiskView → Type 0
+NothingInFlight v = (id : OpId) → v.in_flight id ≡ None
+
+-- P holds of the files at each moment from that one on
+abbrev pub AtEachMoment : ℕ → DiskView → (Files → Type 0) → Type 0
+AtEachMoment since v P = (k : ℕ) → since ≤ k → k ≤ v.clock → P (v.history k)
+
+-- the number of that side, out of one for each
+abbrev pub by_side : ℕ → ℕ → Side → ℕ
+by_side primary secondary Primary = primary
+by_side primary secondary Secondary = secondary

@@ -1,0 +1,136 @@
+//! The disk as the log sees it: two directories of segments, the tables in the primary one, and operations
+//! that are started and polled.
+//!
+//! Stands on `wal_base`: its lists, its want of memory, and its rule that a fault is answered only where a
+//! count of faults rose. The layers above use the traits [`Disk`], [`TableDisk`] and [`StallDisk`], and
+//! [`NoDisk`] where nothing is to be kept.
+//!
+//! What holds of each disk here: only so many places have a file, what is stable was done, what was done was
+//! sent, a read begins with what was done, no moment is forgotten, and no count falls but the polls left.
+#![tactic(auto)]
+
+mod disk;
+mod no_disk;
+mod table_disk;
+
+pub use disk::{Disk, StallDisk};
+pub use no_disk::NoDisk;
+pub use table_disk::TableDisk;
+use thiserror::Error;
+use wal_base::{ListOf, NoMemory};
+
+/// Which of the two directories. Tables stand in the primary one.
+#[derive(Clone, Copy, Debug, PartialEq, Eq, PartialOrd, Ord)]
+pub enum Side {
+    /// The directory that is written while all is well.
+    Primary,
+    /// The directory that is written while the primary one is slow or fails.
+    Secondary,
+}
+
+/// The name of a segment: the number of its WAL, at most 999,999,999,999, and its index in that WAL, at most
+/// 999. Names are ordered by the WAL, and in one WAL by the index.
+#[derive(Clone, Copy, Debug, PartialEq, Eq, PartialOrd, Ord)]
+pub struct SegName {
+    /// The number of the WAL.
+    pub wal: u64,
+    /// The index of the segment in its WAL.
+    pub index: u32,
+}
+
+/// A segment of a listing.
+#[derive(Clone, Copy, Debug, PartialEq, Eq)]
+pub struct Listed {
+    /// Its name.
+    pub name: SegName,
+    /// How many bytes a read gives.
+    pub len: u64,
+}
+
+/// A table of a listing.
+#[derive(Clone, Copy, Debug, PartialEq, Eq)]
+pub struct TableListed {
+    /// The number of the last WAL whose batches it holds, at most 999,999,999,999.
+    pub upto: u64,
+    /// How many bytes a read gives.
+    pub len: u64,
+}
+
+/// Segments with their lengths.
+pub type Names = ListOf<Listed>;
+
+/// Tables with their lengths.
+pub type TableNames = ListOf<TableListed>;
+
+/// An operation on one segment.
+#[derive(Clone, Copy, Debug)]
+pub enum DiskOp<'b> {
+    /// Makes the file, without bytes.
+    Create {
+        /// In which directory.
+        side: Side,
+        /// Which segment.
+        name: SegName,
+    },
+    /// Puts bytes at the end of the file.
+    Write {
+        /// In which directory.
+        side: Side,
+        /// Which segment.
+        name: SegName,
+        /// The bytes.
+        bytes: &'b [u8],
+    },
+    /// Makes what the completed writes cover last through a crash.
+    Sync {
+        /// In which directory.
+        side: Side,
+        /// Which segment.
+        name: SegName,
+    },
+}
+
+/// An operation that was started. The disk gives no two of the operations in flight the same one.
+#[derive(Clone, Copy, Debug, PartialEq, Eq)]
+pub struct OpId {
+    /// The directory that it works in.
+    pub side: Side,
+    /// Its number, which the disk chose.
+    pub number: u64,
+}
+
+/// How an operation stands.
+#[derive(Clone, Copy, Debug, PartialEq, Eq)]
+pub enum Progress {
+    /// It is still in flight.
+    Pending,
+    /// It ended as it was to.
+    Done,
+    /// It ended without success, and its side counted a fault.
+    Failed,
+}
+
+/// Why a call answered nothing.
+#[derive(Clone, Copy, Debug, PartialEq, Eq, Error)]
+pub enum DiskErr {
+    /// The disk failed, and counted it.
+    #[error("the disk failed")]
+    Failed,
+    /// There was no memory for the answer.
+    #[error("out of memory")]
+    NoMemory,
+}
+
+impl From<NoMemory> for DiskErr {
+    ghost use Rattle.std.specs.Prelude.{◌≡◌};
+    ghost use Rattle.disk_face.specs.declared.DiskErr.TheVariants.{NoMemory};
+
+    ghost from_gives = { λ _ err. err ≡ NoMemory };
+
+    fn from(_: NoMemory) -> Self {
+        DiskErr::NoMemory
+    }
+}
+
+#[cfg(test)]
+mod tests;

@@ -1,0 +1,137 @@
+//! A disk that keeps nothing, for a log without files.
+
+ghost use Rattle.std.specs.Prelude.{◌≡◌, false, [], IsErr, IsErrOf};
+ghost use Rattle.disk_face.specs.declared.Side.{Side};
+ghost use Rattle.disk_face.specs.View.{NothingInFlight};
+
+use crate::{
+    Disk, DiskErr, DiskOp, Names, OpId, Progress, SegName, Side, StallDisk, TableDisk, TableNames,
+};
+use std::alloc::Global;
+use wal_base::NoMemory;
+
+/// A disk without files. It starts nothing for want of memory, so nothing that it stalls is ever polled.
+#[derive(Debug, Drop)]
+pub struct NoDisk {
+    alloc: Global,
+    primary_polls: u64,
+    secondary_polls: u64,
+}
+
+impl NoDisk {
+    /// Tells nothing. It has counted no fault, has nothing in flight, and leaves no polls to stall.
+    pub fn new(alloc: Global) -> NoDisk
+        ensures silent { ⟦<NoDisk as Disk>⟧.tells ≡ false }
+        ensures no_faults { (s : Side) → (⟦<NoDisk as Disk>⟧.view result).faults s ≡ 0 }
+        ensures no_polls { (s : Side) → (⟦<NoDisk as Disk>⟧.view result).polls_left s ≡ 0 }
+        ensures idle { NothingInFlight (⟦<NoDisk as Disk>⟧.view result) }
+    {
+        NoDisk {
+            alloc,
+            primary_polls: 0,
+            secondary_polls: 0,
+        }
+    }
+}
+
+impl Disk for NoDisk {
+    ghost use Rattle.std.specs.Prelude.{None};
+    ghost use Rattle.disk_face.specs.View.{by_side};
+    ghost use Rattle.disk_face.specs.NoFiles.{no_files, no_sound};
+
+    ghost tells = { false };
+
+    ghost view = { λ d. record { faults = λ s. 0; polls_left = by_side d.primary_polls d.secondary_polls; in_flight = λ id. None; clock = 0; history = λ k p. None } };
+
+    fn list(&mut self, _side: Side) -> Result<Names, DiskErr>
+        ensures nothing { result ≡ Ok [] }
+        ensures unchanged { self.new ≡ self.old }
+    {
+        Ok(Names::new(self.alloc))
+    }
+
+    fn read(
+        &mut self,
+        _side: Side,
+        _name: SegName,
+        _at: u64,
+        buf: &mut [u8],
+    ) -> Result<usize, DiskErr>
+        ensures nothing { result ≡ Ok 0 }
+        ensures buffer { buf.new ≡ buf.old }
+        ensures unchanged { self.new ≡ self.old }
+    {
+        // There is no file to read.
+        Ok(0)
+    }
+
+    fn start(&mut self, _op: DiskOp<'_>) -> Result<OpId, NoMemory>
+        ensures no_memory { IsErr result }
+        ensures unchanged { self.new ≡ self.old }
+    {
+        Err(NoMemory)
+    }
+
+    /// Asks of an operation that was never started. It may be asked of any.
+    fn poll(&mut self, _id: OpId) -> Progress
+        ensures not_done { result ≡ Progress.Failed }
+        ensures unchanged { self.new ≡ self.old }
+    {
+        Progress::Failed
+    }
+
+    ghost finite = { λ d k told le. no_files };
+
+    ghost sound = { λ d p f told is. no_sound p f is };
+}
+
+impl StallDisk for NoDisk {
+    fn stall(&mut self, side: Side, polls: u32) {
+        let polls = u64::from(polls);
+        match side {
+            Side::Primary => self.primary_polls = self.primary_polls.saturating_add(polls),
+            Side::Secondary => self.secondary_polls = self.secondary_polls.saturating_add(polls),
+        }
+    }
+}
+
+impl TableDisk for NoDisk {
+    fn tables(&mut self) -> Result<TableNames, DiskErr>
+        ensures nothing { result ≡ Ok [] }
+        ensures unchanged { self.new ≡ self.old }
+    {
+        Ok(TableNames::new(self.alloc))
+    }
+
+    fn read_table(&mut self, _upto: u64, _at: u64, buf: &mut [u8]) -> Result<usize, DiskErr>
+        ensures nothing { result ≡ Ok 0 }
+        ensures buffer { buf.new ≡ buf.old }
+        ensures unchanged { self.new ≡ self.old }
+    {
+        Ok(0)
+    }
+
+    fn put_table(&mut self, _upto: u64, _bytes: &[u8]) -> Result<(), DiskErr>
+        ensures no_memory { IsErrOf result DiskErr.NoMemory }
+        ensures unchanged { self.new ≡ self.old }
+    {
+        // There is room for no table.
+        Err(DiskErr::NoMemory)
+    }
+
+    fn drop_segment(&mut self, _side: Side, _name: SegName) -> Result<(), DiskErr>
+        ensures no_memory { IsErrOf result DiskErr.NoMemory }
+        ensures unchanged { self.new ≡ self.old }
+    {
+        // There is no segment to remove.
+        Err(DiskErr::NoMemory)
+    }
+
+    fn drop_table(&mut self, _upto: u64) -> Result<(), DiskErr>
+        ensures no_memory { IsErrOf result DiskErr.NoMemory }
+        ensures unchanged { self.new ≡ self.old }
+    {
+        // There is no table to remove.
+        Err(DiskErr::NoMemory)
+    }
+}

@@ -1,0 +1,88 @@
+ghost use Rattle.std.specs.Prelude.{◌≡◌, None, IsSome, IsTrue};
+ghost use Rattle.disk_face.specs.View.{segment, table, files, NothingInFlight, IsFree};
+ghost use Rattle.disk_face.specs.Listing.{IsTableNumber};
+
+use crate::{Disk, DiskErr, DiskOp, NoDisk, OpId, Progress, SegName, Side, StallDisk, TableDisk};
+
+fn listed_on<D: Disk>(disk: &mut D, side: Side) -> Result<usize, DiskErr> {
+    Ok(disk.list(side)?.len())
+}
+
+fn read_two<D: Disk>(disk: &mut D, side: Side, name: SegName) -> (Result<usize, DiskErr>, [u8; 2]) {
+    let mut buf = *b"..";
+    (disk.read(side, name, 0, &mut buf), buf)
+}
+
+/// Starts the creation of a segment on a stalled side, and polls it once.
+fn create_stalled<D: StallDisk>(
+    disk: &mut D,
+    side: Side,
+    name: SegName,
+) -> Result<Progress, DiskErr>
+    requires idle { NothingInFlight (D.view disk.old) }
+    requires absent { IsTrue D.tells → files (D.view disk.old) (segment side name) ≡ None }
+{
+    disk.stall(side, 3);
+    let id = disk.start(DiskOp::Create { side, name })?;
+    Ok(disk.poll(id))
+}
+
+fn tables_on<D: TableDisk>(disk: &mut D) -> Result<usize, DiskErr> {
+    Ok(disk.tables()?.len())
+}
+
+fn read_table_two<D: TableDisk>(disk: &mut D, upto: u64) -> (Result<usize, DiskErr>, [u8; 2])
+    requires { IsTableNumber upto }
+{
+    let mut buf = *b"..";
+    (disk.read_table(upto, 0, &mut buf), buf)
+}
+
+fn put_table<D: TableDisk>(disk: &mut D, upto: u64) -> Result<(), DiskErr>
+    requires { IsTableNumber upto }
+{
+    disk.put_table(upto, b"ab")
+}
+
+fn drop_segment<D: TableDisk>(disk: &mut D, side: Side, name: SegName) -> Result<(), DiskErr>
+    requires free { IsFree (D.view disk.old) (segment side name) }
+    requires there { IsTrue D.tells → IsSome (files (D.view disk.old) (segment side name)) }
+{
+    disk.drop_segment(side, name)
+}
+
+fn drop_table<D: TableDisk>(disk: &mut D, upto: u64) -> Result<(), DiskErr>
+    requires number { IsTableNumber upto }
+    requires there { IsTrue D.tells → IsSome (files (D.view disk.old) (table upto)) }
+{
+    disk.drop_table(upto)
+}
+
+#[test]
+fn a_disk_without_files_keeps_nothing(rt: HostRuntime) {
+    let name = SegName { wal: 1, index: 0 };
+    let mut disk = NoDisk::new(rt.alloc());
+    for side in [Side::Primary, Side::Secondary] {
+        assert_eq!(rt; listed_on(&mut disk, side), Ok(0));
+        assert_eq!(rt; read_two(&mut disk, side, name), (Ok(0), *b".."));
+        assert_eq!(rt;
+            create_stalled(&mut disk, side, name),
+            Err(DiskErr::NoMemory)
+        );
+        assert_eq!(rt; drop_segment(&mut disk, side, name), Err(DiskErr::NoMemory));
+        assert_eq!(rt; disk.poll(OpId { side, number: 0 }), Progress::Failed);
+    }
+    assert_eq!(rt; tables_on(&mut disk), Ok(0));
+    assert_eq!(rt; read_table_two(&mut disk, 999_999_999_999), (Ok(0), *b".."));
+    assert_eq!(rt; put_table(&mut disk, 0), Err(DiskErr::NoMemory));
+    assert_eq!(rt; drop_table(&mut disk, 0), Err(DiskErr::NoMemory));
+}
+
+#[test]
+fn errors_say_what_failed(rt: HostRuntime) -> Result<(), DiskErr> {
+    let Ok(text) = format!(in rt.alloc(); "{}, {}", DiskErr::Failed, DiskErr::NoMemory) else {
+        return Err(DiskErr::NoMemory);
+    };
+    assert_eq!(rt; text.as_str(), "the disk failed, out of memory");
+    Ok(())
+}

@@ -1,0 +1,19 @@
+use std::alloc::{AllocError, AllocFailed};
+use thiserror::Error;
+
+/// Memory ran out. Nothing was changed by the call that answers it.
+#[derive(Clone, Copy, Debug, PartialEq, Eq, Error)]
+#[error("out of memory")]
+pub struct NoMemory;
+
+impl From<AllocError> for NoMemory {
+    fn from(_: AllocError) -> Self {
+        NoMemory
+    }
+}
+
+impl<T: Drop> From<AllocFailed<T>> for NoMemory {
+    fn from(_: AllocFailed<T>) -> Self {
+        NoMemory
+    }
+}

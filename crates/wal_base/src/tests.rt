@@ -1,0 +1,87 @@
+use crate::{
+    Blob, Buf, Entries, Entry, ListOf, MemSink, MemSource, NoMemory, PutErr, ReadFault, Sink,
+    Source, StdSink, StdSource,
+};
+use std::process::Abort;
+
+/// What a source hands out to a buffer of two bytes.
+fn next_two<S: Source>(source: &mut S) -> (Result<usize, ReadFault>, [u8; 2]) {
+    let mut buf = [0u8; 2];
+    (source.take(&mut buf), buf)
+}
+
+fn put_in<K: Sink>(sink: &mut K, bytes: &[u8]) -> Result<usize, PutErr> {
+    sink.put(bytes)
+}
+
+#[test]
+fn bytes_are_kept_and_shown(rt: HostRuntime) -> Result<(), NoMemory> {
+    let blob = Blob::copy_of(rt.alloc(), b"abc")?;
+    assert_eq!(rt; blob.as_slice(), b"abc".as_slice());
+    let moved = Blob::from(Vec::from_slice(rt.alloc(), b"xy")?);
+    assert_eq!(rt; moved.as_slice(), b"xy".as_slice());
+    let mut buf = Buf::new(rt.alloc())?;
+    buf.append(b"ab")?;
+    buf.append(b"c")?;
+    assert_eq!(rt; buf.as_slice(), b"abc".as_slice());
+    buf.clear();
+    assert!(rt; buf.as_slice().is_empty());
+    Ok(())
+}
+
+#[test]
+fn a_list_keeps_its_items_in_order(rt: HostRuntime) -> Result<(), NoMemory> {
+    let mut entries = Entries::with_capacity(rt.alloc(), 1)?;
+    assert!(rt; entries.is_empty());
+    let key = Blob::copy_of(rt.alloc(), b"k")?;
+    assert!(rt; entries.push(Entry::Delete { key }).is_ok());
+    assert_eq!(rt; entries.len(), 1);
+    let mut numbers: ListOf<u64> = ListOf::new(rt.alloc());
+    for n in [3, 4] {
+        assert!(rt; numbers.push(n).is_ok());
+    }
+    assert_eq!(rt; numbers.get(1).copied(), Some(4));
+    assert_eq!(rt; numbers.get(2).copied(), None);
+    assert_eq!(rt; numbers.as_slice(), [3, 4].as_slice());
+    assert_eq!(rt;
+        (numbers.pop(), numbers.pop(), numbers.pop()),
+        (Some(4), Some(3), None)
+    );
+    assert!(rt; numbers.push(5).is_ok());
+    assert_eq!(rt; numbers.into_vec().as_slice(), [5].as_slice());
+    Ok(())
+}
+
+#[test]
+fn streams_in_memory_fail_once_where_they_were_told(rt: HostRuntime) -> Result<(), NoMemory> {
+    let mut source = MemSource::new(Blob::copy_of(rt.alloc(), b"abc")?);
+    source.fail_at(7);
+    source.fail_at(1);
+    assert_eq!(rt; next_two(&mut source), (Ok(2), *b"ab"));
+    assert_eq!(rt; next_two(&mut source).0, Err(ReadFault));
+    assert_eq!(rt; next_two(&mut source), (Ok(1), *b"c\0"));
+    assert_eq!(rt; next_two(&mut source).0, Ok(0));
+    let mut sink = MemSink::new(rt.alloc())?;
+    sink.fail_at(1);
+    assert_eq!(rt; put_in(&mut sink, b"ab"), Ok(2));
+    assert_eq!(rt; put_in(&mut sink, b"cd"), Err(PutErr::Failed));
+    assert_eq!(rt; put_in(&mut sink, b"ef"), Ok(2));
+    assert_eq!(rt; sink.written(), b"abef".as_slice());
+    Ok(())
+}
+
+/// The standard streams' types, over a reader and a writer in memory.
+fn copies_over(rt: &impl Abort, input: &[u8], output: &mut [u8]) {
+    let mut source = StdSource::new(input);
+    assert_eq!(rt; next_two(&mut source), (Ok(2), *b"ab"));
+    let mut sink = StdSink::new(output);
+    assert_eq!(rt; put_in(&mut sink, b"wxyz"), Ok(3));
+    assert_eq!(rt; put_in(&mut sink, b"z"), Err(PutErr::Failed));
+}
+
+#[test]
+fn standard_streams_pass_on_what_they_are_over(rt: HostRuntime) {
+    let mut output = [0u8; 3];
+    copies_over(&rt, b"abc", &mut output);
+    assert_eq!(rt; output, *b"wxy");
+}

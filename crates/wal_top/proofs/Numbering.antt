@@ -1,0 +1,45 @@
+-- A batch more behind batches that are numbered one after another.
+use Rattle.std.proofs.Common.{◌≡◌, ℕ, ◌+◌, ◌<◌, ◌≤◌, List, [], ◌∷◌, ◌++◌, refl, sym, ap, ◌∙◌, subst, arith}
+use Rattle.wal_base.specs.declared.entry.Entry.{Entry}
+use Rattle.batch_repr.specs.declared.batch.Batch.{Batch}
+use Rattle.batch_repr.specs.declared.limits.TheConstants.{NUMBER_MAX}
+use Rattle.batch_repr.specs.Batches.{count_of, end_of, IsContiguous, end_after}
+use Rattle.wal_top.specs.Replay.{FIRST}
+use Rattle.wal_top.specs.Kept.{IsKept}
+
+pub end_after-append : (from : ℕ) (xs ys : List Batch) → end_after from (xs ++ ys) ≡ end_after (end_after from xs) ys
+unfolding end_after
+end_after-append from [] ys = refl
+end_after-append from (x ∷ xs) ys = end_after-append (end_of x) xs ys
+
+pub end_after-push : (from : ℕ) (xs : List Batch) (x : Batch) → end_after from (xs ++ x ∷ []) ≡ end_of x
+unfolding end_after
+end_after-push from xs x = end_after-append from xs (x ∷ [])
+
+IsContiguous-push : (from : ℕ) (xs : List Batch) (x : Batch) → IsContiguous from xs → x.first ≡ end_after from xs → 0 < count_of x.entries → IsContiguous from (xs ++ x ∷ [])
+unfolding IsContiguous end_after
+IsContiguous-push from [] x h e some = (e, some, tt)
+IsContiguous-push from (y ∷ xs) x h e some = (h.0, h.1, IsContiguous-push (end_of y) xs x h.2 e some)
+
+pub kept_none : IsKept [] FIRST
+unfolding IsContiguous end_after
+kept_none = record { numbered = tt; next_is = refl; small = omega arith }
+
+kept_more : (batches batches' : List Batch) (next next' : ℕ) (batch : Batch) → IsKept batches next → batches' ≡ batches ++ batch ∷ [] → batch.first ≡ next → 0 < count_of batch.entries
+    → next' ≡ end_of batch → next' ≤ NUMBER_MAX → IsKept batches' next'
+kept_more batches batches' next next' batch kept e first some end small =
+    subst (λ (bs : List Batch). IsKept bs next') (sym e) (record {
+      numbered = IsContiguous-push FIRST batches batch kept.numbered (first ∙ kept.next_is) some;
+      next_is = end ∙ sym (end_after-push FIRST batches batch);
+      small = small;
+    })
+
+-- the same for a batch that is given back in parts
+pub kept_committed : (batches batches' : List Batch) (next next' first count : ℕ) (entries given : List Entry) (numbered : Batch) → IsKept batches next → batches' ≡ batches ++ record { first = first; entries = given } ∷ []
+    → numbered ≡ record { first = next; entries = entries } → first ≡ numbered.first → given ≡ entries → count ≡ count_of numbered.entries → 0 < count
+    → next' ≡ end_of numbered → next' ≤ NUMBER_MAX → IsKept batches' next'
+kept_committed batches batches' next next' first count entries given numbered kept e is first_is given_is count_is some end small =
+    let same_first : first ≡ next = first_is ∙ ap (λ (b : Batch). b.first) is in
+    let count_given : count_of numbered.entries ≡ count_of given = ap (λ (b : Batch). count_of b.entries) is ∙ ap count_of (sym given_is) in
+    let end_given : next' ≡ first + count_of given = end ∙ ap (λ (n : ℕ). n + count_of numbered.entries) (sym first_is) ∙ ap (λ (n : ℕ). first + n) count_given in
+    kept_more batches batches' next next' (record { first = first; entries = given }) kept e same_first (omega arith) end_given small

@@ -1,0 +1,10 @@
+pub mod Words
+pub mod Statuses
+pub mod Cutting
+pub mod Script
+pub mod Printing
+pub mod Replay
+pub mod Kept
+pub mod Doing
+pub mod Reading
+pub mod Outcomes

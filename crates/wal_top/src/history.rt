@@ -1,0 +1,146 @@
+//! The batches of a run, and what a store answers after them.
+
+ghost use Rattle.std.specs.Prelude.{◌≡◌, ◌+◌, ◌≤◌, ◌∷◌, ◌++◌, [], None, length, filter, option_map, IfOk, OnErr};
+ghost use Rattle.std.specs.List.{last_or};
+ghost use Rattle.std.specs.Option.{option_copied};
+ghost use Rattle.batch_repr.specs.declared.limits.TheConstants.{NUMBER_MAX};
+ghost use Rattle.batch_repr.specs.Batches.{count_of, is_about, value_left, entries_in, end_after, IsContiguous, answer};
+ghost use Rattle.wal_top.specs.Replay.{FIRST};
+
+use batch_repr::{Batch, Batches, Unnumbered};
+use std::alloc::Global;
+use std::marker::Model;
+use wal_base::{Entry, NoMemory};
+
+/// The first number ever given.
+const FIRST_NUMBER: u64 = 10;
+
+/// The batches of a run, in their order, and the number after them. Contracts see the list of the batches.
+#[derive(Debug, Drop)]
+pub(crate) struct History {
+    batches: Batches,
+    next: u64,
+}
+
+impl Model for History {
+    ghost use Rattle.std.specs.Prelude.{List};
+    ghost use Rattle.batch_repr.specs.declared.batch.Batch.{Batch};
+    ghost use Rattle.wal_top.specs.Kept.{IsKept};
+
+    ghost Value = { List Batch };
+
+    ghost view = { λ a. a.batches };
+
+    ghost invariant = { λ a. IsKept a.batches a.next };
+}
+
+/// Whether the entry decides what a store answers for the key.
+fn decides(entry: &Entry, key: &[u8]) -> bool
+    ensures { result ≡ is_about key.now entry.now }
+{
+    match entry {
+        Entry::Set { key: own, .. } | Entry::Delete { key: own } => own.as_slice() == key,
+        Entry::Note { .. } => false,
+    }
+}
+
+/// The last of the entries that decides what a store answers for the key.
+fn last_about<'a>(entries: &'a [Entry], key: &[u8]) -> Option<&'a Entry>
+    ensures { option_copied result ≡ last_or None (filter (is_about key.now) entries.now) }
+{
+    let mut end = entries.len();
+    while end > 0 {
+        end -= 1;
+        let entry = &entries[end];
+        if decides(entry, key) {
+            return Some(entry);
+        }
+    }
+    None
+}
+
+/// The last of all entries of the batches that decides what a store answers for the key.
+fn last_in<'a>(batches: &'a [Batch], key: &[u8]) -> Option<&'a Entry>
+    ensures { option_copied result ≡ last_or None (filter (is_about key.now) (entries_in batches.now)) }
+{
+    let mut end = batches.len();
+    while end > 0 {
+        end -= 1;
+        if let Some(entry) = last_about(batches[end].entries.as_slice(), key) {
+            return Some(entry);
+        }
+    }
+    None
+}
+
+/// The value that an entry leaves its key with.
+fn value_of(entry: &Entry) -> Option<&[u8]>
+    ensures { option_map (λ v. v.now) result ≡ value_left entry.now }
+{
+    match entry {
+        Entry::Set { value, .. } => Some(value.as_slice()),
+        Entry::Delete { .. } | Entry::Note { .. } => None,
+    }
+}
+
+/// The numbers that a committed batch got.
+#[derive(Clone, Copy, Debug, PartialEq, Eq)]
+pub(crate) struct Committed {
+    pub(crate) first: u64,
+    pub(crate) count: u32,
+}
+
+impl History {
+    /// No batch. The first number is still to be given.
+    pub(crate) fn new(alloc: Global) -> History
+        ensures { result ≡ [] }
+    {
+        History {
+            batches: Batches::new(alloc),
+            next: FIRST_NUMBER,
+        }
+    }
+
+    /// Numbers the batch behind the others, and keeps it.
+    pub(crate) fn commit(&mut self, batch: Unnumbered) -> Result<Committed, NoMemory>
+        requires { end_after FIRST self.old + count_of batch ≤ NUMBER_MAX }
+        ensures first { IfOk result (λ got. got.first ≡ end_after FIRST self.old) }
+        ensures count { IfOk result (λ got. got.count ≡ count_of batch) }
+        ensures added { IfOk result (λ got. self.new ≡ self.old ++ record { first = got.first; entries = batch } ∷ []) }
+        ensures err { OnErr result (self.new ≡ self.old) }
+    {
+        let (numbered, entries) = batch.number_keeping_entries(self.next);
+        let first = numbered.first();
+        match self.batches.push(Batch { first, entries }) {
+            Ok(()) => {
+                self.next = numbered.end();
+                let count = numbered.count();
+                Ok(Committed { first, count })
+            }
+            Err(_) => Err(NoMemory),
+        }
+    }
+
+    /// The number after the last batch.
+    pub(crate) fn visible(&self) -> u64
+        ensures visible { result ≡ end_after FIRST self.now }
+        ensures numbered { IsContiguous FIRST self.now }
+    {
+        self.next
+    }
+
+    /// How many batches there are.
+    pub(crate) fn len(&self) -> usize
+        ensures { result ≡ length self.now }
+    {
+        self.batches.len()
+    }
+
+    /// The value of a key after all batches.
+    pub(crate) fn value(&self, key: &[u8]) -> Option<&[u8]>
+        ensures { option_map (λ v. v.now) result ≡ answer self.now (length self.now) key.now }
+    {
+        let entry = last_in(self.batches.as_slice(), key)?;
+        value_of(entry)
+    }
+}
