@@ -1,0 +1,7 @@
+mod Vectors
+pub mod Steps
+pub mod Entries
+pub mod Words
+pub mod Turns
+pub mod Places
+pub mod Chunks

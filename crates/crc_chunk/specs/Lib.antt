@@ -1,0 +1,4 @@
+pub mod Bytes
+pub mod Crc
+pub mod Zeros
+pub mod Chunk

@@ -1,0 +1,66 @@
+use crate::{ChunkKind, ChunkSpan, HEADER, chunk_at, crc32c, header_of, masked, put_chunk};
+
+/// The bytes that another program, which goes bit by bit, took the checksums of.
+const BYTES: [u8; 40] = [
+    11, 48, 85, 122, 159, 196, 233, 14, 51, 88, 125, 162, 199, 236, 17, 54, 91, 128, 165, 202, 239,
+    20, 57, 94, 131, 168, 205, 242, 23, 60, 97, 134, 171, 208, 245, 26, 63, 100, 137, 174,
+];
+
+/// What it gave for the first 0, 1, 2, .. of them.
+const BY_LENGTH: [u32; 41] = [
+    0x00000000, 0xcbf4f86a, 0x68715542, 0x96818180, 0xca67959d, 0xb38c4433, 0x756ad48b, 0xd2f5da10,
+    0xee89dec3, 0xa1fdb5fa, 0x11ac6bb5, 0x1b388131, 0xd39e6433, 0x665a355f, 0xf35e8859, 0x992c48aa,
+    0x8d0f4cde, 0xe5f77379, 0xd944109b, 0xce3fe1d7, 0xfdc5e70c, 0xa2e0cd58, 0x5ee761f0, 0xe91c4938,
+    0x15f33b92, 0xb05de406, 0x5cfe0434, 0xd9fd19ec, 0xee82d600, 0x96077203, 0x3c1b21b6, 0x5558cd30,
+    0xc69c9ebd, 0x6444ef48, 0x4a68b366, 0xd3cf3401, 0xdb79f031, 0xfede9586, 0x50885529, 0xf0666ea2,
+    0x1fcefaef,
+];
+
+const PAYLOAD: [u8; 17] = [0x0a, 0, 0, 0, 0, 0, 0, 0, 1, 0, 0, 0, 1, 1, 0x61, 1, 0x31];
+
+#[test]
+fn checksums_of_the_examples(rt: HostRuntime) {
+    let rising: [u8; 32] = [
+        0, 1, 2, 3, 4, 5, 6, 7, 8, 9, 10, 11, 12, 13, 14, 15, 16, 17, 18, 19, 20, 21, 22, 23, 24,
+        25, 26, 27, 28, 29, 30, 31,
+    ];
+    let falling: [u8; 32] = [
+        31, 30, 29, 28, 27, 26, 25, 24, 23, 22, 21, 20, 19, 18, 17, 16, 15, 14, 13, 12, 11, 10, 9,
+        8, 7, 6, 5, 4, 3, 2, 1, 0,
+    ];
+    assert_eq!(rt; crc32c(b""), 0);
+    assert_eq!(rt; crc32c(b"123456789"), 0xe306_9283);
+    assert_eq!(rt; crc32c(&[0; 32]), 0x8a91_36aa);
+    assert_eq!(rt; crc32c(&[0xff; 32]), 0x62a8_ab43);
+    assert_eq!(rt; crc32c(&rising), 0x46dd_794e);
+    assert_eq!(rt; crc32c(&falling), 0x113f_db5c);
+    assert_eq!(rt; crc32c(&[5, 1, 0, 0, 0]), 0x4063_0d91);
+    assert_eq!(rt; masked(0), 0xa282_ead8);
+    assert_eq!(rt; masked(0xe306_9283).to_le_bytes(), [0xe5, 0xb0, 0x8a, 0xc7]);
+}
+
+// Each number of bytes that can be left behind the turns of sixteen and eight.
+#[test]
+fn checksums_at_each_length(rt: HostRuntime) {
+    for len in 0..=BYTES.len() {
+        assert_eq!(rt; crc32c(&BYTES[..len]), BY_LENGTH[len], "at {len}");
+    }
+}
+
+#[test]
+fn chunks_of_the_examples(rt: HostRuntime) {
+    let empty = [0x9e, 0x6b, 0xa5, 0xbd, 0, 0, 5, 1, 0, 0, 0];
+    let header = [0x5e, 0x28, 0x29, 0x10, 0x11, 0, 5, 1, 0, 0, 0];
+    assert_eq!(rt; header_of(ChunkKind::Full, 1, b""), empty);
+    let mut block = [0; 32];
+    assert_eq!(rt; put_chunk(&mut block, ChunkKind::Full, 1, &PAYLOAD), 28);
+    assert_eq!(rt; &block[..HEADER], header.as_slice());
+    assert_eq!(rt; &block[HEADER..28], PAYLOAD.as_slice());
+    let span = ChunkSpan {
+        kind: ChunkKind::Full,
+        from: 11,
+        to: 28,
+    };
+    assert_eq!(rt; chunk_at(&block, 0, 1), Some(span));
+    assert_eq!(rt; chunk_at(&block, 0, 2), None);
+}
