@@ -2,3 +2,4 @@ pub mod Moments
 pub mod Places
 pub mod Listings
 pub mod Images
+pub mod Spelling

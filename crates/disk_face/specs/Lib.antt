@@ -4,3 +4,4 @@ pub mod Listing
 pub mod Calls
 pub mod Tables
 pub mod NoFiles
+pub mod Names

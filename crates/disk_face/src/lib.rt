@@ -10,6 +10,7 @@
 #![tactic(auto)]
 
 mod disk;
+mod names;
 mod no_disk;
 mod table_disk;
 

@@ -3,6 +3,7 @@ ghost use Rattle.disk_face.specs.View.{segment, table, files, NothingInFlight, I
 ghost use Rattle.disk_face.specs.Listing.{IsTableNumber};
 
 use crate::{Disk, DiskErr, DiskOp, NoDisk, OpId, Progress, SegName, Side, StallDisk, TableDisk};
+use wal_base::{Buf, NoMemory};
 
 fn listed_on<D: Disk>(disk: &mut D, side: Side) -> Result<usize, DiskErr> {
     Ok(disk.list(side)?.len())
@@ -84,5 +85,60 @@ fn errors_say_what_failed(rt: HostRuntime) -> Result<(), DiskErr> {
         return Err(DiskErr::NoMemory);
     };
     assert_eq!(rt; text.as_str(), "the disk failed, out of memory");
+    Ok(())
+}
+
+#[test]
+fn a_name_has_one_spelling(rt: HostRuntime) {
+    let spellings = [
+        ("000000.log", 0, 0),
+        ("000001.log", 1, 0),
+        ("000001-001.log", 1, 1),
+        ("000012-010.log", 12, 10),
+        ("1234567.log", 1_234_567, 0),
+        ("1234567-999.log", 1_234_567, 999),
+        ("999999999999-999.log", 999_999_999_999, 999),
+    ];
+    for (text, wal, index) in spellings {
+        let name = SegName { wal, index };
+        assert_eq!(rt; SegName::parse(text.as_bytes()), Some(name), "at {text}");
+    }
+    let others = [
+        "",
+        ".log",
+        "000001",
+        "1.log",
+        "0000001.log",
+        "1000000000000.log",
+        "000001.LOG",
+        "000001.log.log",
+        "000001.log ",
+        "00000a.log",
+        "-00001.log",
+        "+00001.log",
+        "000001-.log",
+        "000001-1.log",
+        "000001-000.log",
+        "000001-0001.log",
+        "000001-1000.log",
+        "000001-+01.log",
+        "000001-001-001.log",
+        "notes.txt",
+    ];
+    for text in others {
+        assert_eq!(rt; SegName::parse(text.as_bytes()), None, "at {text}");
+    }
+}
+
+#[test]
+fn names_are_put_behind_each_other(rt: HostRuntime) -> Result<(), NoMemory> {
+    let mut text = Buf::new(rt.alloc())?;
+    for (wal, index) in [(1, 0), (1, 1), (1_234_567, 12), (999_999_999_999, 999)] {
+        SegName { wal, index }.put(&mut text)?;
+    }
+    assert_eq!(rt;
+        text.as_slice(),
+        b"000001.log000001-001.log1234567-012.log999999999999-999.log".as_slice()
+    );
     Ok(())
 }

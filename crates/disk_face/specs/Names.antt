@@ -1,0 +1,24 @@
+-- How a segment is named (docs/FORMATS.md, "Segment names").
+use Rattle.std.specs.Prelude.{◌≡◌, ℕ, zero, suc, ◌-◌, List, [], ◌∷◌, ◌++◌, length, replicate, decimal, codes}
+use Rattle.disk_face.specs.declared.SegName.{SegName}
+
+-- the decimal digits of a number, with zeros in front up to that width
+abbrev pub filled : ℕ → ℕ → List ℕ
+filled width n = replicate (width - length (decimal n)) 48 ++ decimal n
+
+-- a dash and the index, or nothing for index 0
+abbrev pub index_text : ℕ → List ℕ
+index_text zero = []
+index_text (suc n) = 45 ∷ filled 3 (suc n)
+
+-- a name without its end: its WAL in at least six digits, and its index in at least three unless it is 0
+abbrev pub stem_text : SegName → List ℕ
+stem_text name = filled 6 name.wal ++ index_text name.index
+
+-- the one spelling of a name
+abbrev pub seg_text : SegName → List ℕ
+seg_text name = stem_text name ++ codes ".log"
+
+-- the bytes are the digits of that number, maybe with zeros in front
+abbrev pub IsFilled : List ℕ → ℕ → Type 0
+IsFilled bytes n = (width : ℕ) × (bytes ≡ filled width n)

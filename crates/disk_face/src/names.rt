@@ -1,0 +1,115 @@
+//! The names of segments: one spelling each, read and written.
+
+ghost use Rattle.std.specs.Prelude.{◌≡◌, ◌≢◌, ◌+◌, ◌≤◌, ◌<◌, ◌^◌, ℕ, List, ◌++◌, length, codes, IfSome, IfNone, OnOk, OnErr, Some};
+ghost use Rattle.std.specs.Option.{MatchOption};
+ghost use Rattle.std.specs.Str.{IsAscii};
+ghost use Rattle.arrayvec.specs.ArrayVec.{array_vec_len};
+ghost use Rattle.disk_face.specs.declared.SegName.{SegName};
+ghost use Rattle.disk_face.specs.Listing.{IsSegmentName};
+ghost use Rattle.disk_face.specs.Names.{filled, stem_text, seg_text, IsFilled};
+
+use crate::SegName;
+use arrayvec::ArrayVec;
+use wal_base::{Buf, NoMemory};
+
+/// The greatest number of a WAL.
+const LAST_WAL: u64 = 999_999_999_999;
+
+/// The greatest index of a segment.
+const LAST_INDEX: u32 = 999;
+
+/// Room for two numbers of 20 digits, a dash and `.log`.
+const TEXT_ROOM: usize = 45;
+
+impl SegName {
+    /// Reads the one spelling of a name. `None` exactly where the text is the spelling of no name.
+    pub fn parse(text: &[u8]) -> Option<SegName>
+        ensures some { IfSome result (λ name. (seg_text name ≡ text.now) × IsSegmentName name) }
+        ensures none { IfNone result ((name : SegName) → IsSegmentName name → seg_text name ≢ text.now) }
+    {
+        let name = candidate(text)?;
+        if name.wal > LAST_WAL || name.index > LAST_INDEX {
+            return None;
+        }
+        let spelling = spell(name);
+        if spelling.as_slice() == text {
+            Some(name)
+        } else {
+            None
+        }
+    }
+
+    /// Adds the spelling of the name. After an error nothing was added.
+    pub fn put(&self, out: &mut Buf) -> Result<(), NoMemory>
+        ensures ok { OnOk result (out.new ≡ out.old ++ seg_text self.now) }
+        ensures err { OnErr result (out.new ≡ out.old) }
+    {
+        let spelling = spell(*self);
+        out.append(spelling.as_slice())
+    }
+}
+
+/// The only name of which the text may be the spelling.
+fn candidate(text: &[u8]) -> Option<SegName>
+    ensures { (name : SegName) → IsSegmentName name → seg_text name ≡ text.now → result ≡ Some name }
+{
+    let (wal, index) = split(stem(text)?);
+    let wal = wal.parse::<u64>().ok()?;
+    let index = index.parse::<u32>().ok()?;
+    Some(SegName { wal, index })
+}
+
+/// What stands before `.log`, if it is text.
+fn stem(text: &[u8]) -> Option<&str>
+    ensures { (bytes : List ℕ) → IsAscii bytes → text.now ≡ bytes ++ codes ".log" → MatchOption result ⊥ (λ stem. stem.now ≡ bytes) }
+{
+    let stem = text.strip_suffix(b".log")?;
+    std::str::from_utf8(stem).ok()
+}
+
+/// The number of the WAL and the index, which is 0 where no dash is.
+fn split(stem: &str) -> (&str, &str)
+    ensures { (name : SegName) → IsSegmentName name → stem.now ≡ stem_text name → IsFilled result.0.now name.wal × IsFilled result.1.now name.index }
+{
+    match stem.split_once('-') {
+        Some(parts) => parts,
+        None => (stem, "0"),
+    }
+}
+
+fn spell(name: SegName) -> ArrayVec<u8, TEXT_ROOM>
+    ensures { result.items ≡ seg_text name }
+{
+    let mut text = ArrayVec::new();
+    push_filled(&mut text, 6, name.wal);
+    if name.index != 0 {
+        text.push(b'-');
+        push_filled(&mut text, 3, u64::from(name.index));
+    }
+    push_all(&mut text, b".log");
+    text
+}
+
+/// Adds the digits of a number, with zeros in front up to a width.
+fn push_filled(text: &mut ArrayVec<u8, TEXT_ROOM>, width: usize, number: u64)
+    requires width { width ≤ 20 }
+    requires room { array_vec_len text.old + 20 ≤ 45 }
+    ensures items { text.new.items ≡ text.old.items ++ filled width number }
+    ensures len { array_vec_len text.new ≤ array_vec_len text.old + 20 }
+{
+    let mut buffer = itoa::Buffer::new();
+    let digits = buffer.format(number).as_bytes();
+    for _zero in 0..width.saturating_sub(digits.len()) {
+        text.push(b'0');
+    }
+    push_all(text, digits);
+}
+
+fn push_all(text: &mut ArrayVec<u8, TEXT_ROOM>, bytes: &[u8])
+    requires { array_vec_len text.old + length bytes.now ≤ 45 }
+    ensures items { text.new.items ≡ text.old.items ++ bytes.now }
+    ensures len { array_vec_len text.new ≡ array_vec_len text.old + length bytes.now }
+{
+    let fits = text.try_extend_from_slice(bytes).is_ok();
+    prove!(fits);
+}

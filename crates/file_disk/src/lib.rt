@@ -1,0 +1,20 @@
+//! A disk over the files of the system: the directories `./wal` and `./wal_secondary`.
+//!
+//! Stands on `wal_base`, for bytes and want of memory, and on `disk_face`, whose trait `Disk` it meets. The
+//! programs above run their log on [`FileDisk`]. It is part of the trusted edge: what the system does with a file
+//! is not proved, and it tells no content.
+//!
+//! What holds of each such disk: an operation ends at its first poll, a failure is answered only where the count
+//! of its side rose, and a listing is in ascending order and holds names in range alone.
+#![tactic(auto)]
+
+mod directory;
+mod file_disk;
+mod order;
+mod paths;
+mod system;
+
+pub use file_disk::FileDisk;
+
+#[cfg(test)]
+mod tests;

@@ -1,0 +1,138 @@
+//! The calls of the system. No clause can say what they do to a file.
+
+ghost use Rattle.std.specs.Prelude.{◌≡◌, ◌≤◌, length, drop, IfOk};
+ghost use Rattle.disk_face.specs.Listing.{IsAscending, AreSegmentNames};
+
+use crate::directory::{Started, Task};
+use crate::order::{insert_listed, names_of};
+use crate::paths::{directory_of, path_of};
+use disk_face::{DiskErr, Listed, Names, SegName, Side};
+use std::alloc::Global;
+use std::fs::{DirEntry, File, OpenFile, OpenOptions};
+use std::io::{ErrorKind, Read, Seek, SeekFrom, Write};
+use std::rt::Files;
+use std::{fs, io};
+use wal_base::Buf;
+
+/// The last place that a file of the system can have.
+const LAST_PLACE: u64 = (1 << 63) - 1;
+
+/// Runs an operation.
+pub fn run<R: Files>(rt: &R, side: Side, op: &Started) -> io::Result<()> {
+    let path = text_of(&op.path)?;
+    match &op.task {
+        Task::Create => create(rt, directory_of(side), path),
+        Task::Append(bytes) => append(rt, path, bytes.as_slice()),
+        Task::Sync => File::open(rt, path)?.sync_all(),
+    }
+}
+
+/// A path as the system takes it. It is ASCII, so there is no error.
+fn text_of(path: &Buf) -> io::Result<&str> {
+    std::str::from_utf8(path.as_slice()).map_err(|_| ErrorKind::InvalidFilename.into())
+}
+
+/// Makes a file that is not there, and its directory. Each is synced, so that the new names last.
+fn create<R: Files>(rt: &R, directory: &str, path: &str) -> io::Result<()> {
+    if !fs::exists(rt, directory)? {
+        fs::create_dir_all(rt, directory)?;
+        File::open(rt, ".")?.sync_all()?;
+    }
+    File::create_new(rt, path)?;
+    File::open(rt, directory)?.sync_all()
+}
+
+fn append<R: Files>(rt: &R, path: &str, bytes: &[u8]) -> io::Result<()> {
+    let mut file = OpenOptions::new().append(true).open(rt, path)?;
+    file.write_all(bytes)
+}
+
+/// What a refusal of the system is to the caller of `list` or `read`.
+fn refusal(error: io::Error) -> DiskErr {
+    match error.kind() {
+        ErrorKind::OutOfMemory => DiskErr::NoMemory,
+        _ => DiskErr::Failed,
+    }
+}
+
+/// The segments of a side. A directory that is not there has none.
+pub fn list<R: Files + AllocGlobal + Clone + Drop>(rt: &R, side: Side) -> Result<Names, DiskErr>
+    ensures ascending { IfOk result IsAscending }
+    ensures numbers { IfOk result AreSegmentNames }
+{
+    let entries = match fs::read_dir(rt, directory_of(side)) {
+        Ok(entries) => entries,
+        Err(error) if error.kind() == ErrorKind::NotFound => return Ok(Names::new(rt.alloc())),
+        Err(error) => return Err(refusal(error)),
+    };
+    let mut found = Vec::new(rt.alloc());
+    for entry in entries {
+        match entry {
+            Ok(entry) => insert_entry(rt, &mut found, &entry)?,
+            // A name that is not text is no segment's.
+            Err(error) if error.kind() == ErrorKind::InvalidFilename => {}
+            Err(error) => return Err(refusal(error)),
+        }
+    }
+    Ok(names_of(rt.alloc(), found.as_slice())?)
+}
+
+/// Puts an entry of a directory into the list, where it is a segment.
+fn insert_entry<R: Files + AllocGlobal + Clone + Drop>(
+    rt: &R,
+    list: &mut Vec<Listed>,
+    entry: &DirEntry<R, Global>,
+) -> Result<(), DiskErr>
+    requires ascending { IsAscending list.old.items }
+    requires numbers { AreSegmentNames list.old.items }
+    ensures ascending { IsAscending list.new.items }
+    ensures numbers { AreSegmentNames list.new.items }
+{
+    let Some(name) = SegName::parse(entry.file_name().as_bytes()) else {
+        return Ok(());
+    };
+    let metadata = fs::metadata(rt, entry.path()).map_err(refusal)?;
+    if metadata.is_file() {
+        let len = metadata.len();
+        insert_listed(list, Listed { name, len })?;
+    }
+    Ok(())
+}
+
+/// Reads from a place of a segment, as far as the buffer or the file goes.
+pub fn read<R: Files + AllocGlobal>(
+    rt: &R,
+    side: Side,
+    name: SegName,
+    at: u64,
+    buf: &mut [u8],
+) -> Result<usize, DiskErr>
+    ensures within { IfOk result (λ n. n ≤ length buf.new) }
+    ensures behind { IfOk result (λ n. drop n buf.new ≡ drop n buf.old) }
+{
+    let path = path_of(rt.alloc(), side, name)?;
+    if at > LAST_PLACE {
+        return Ok(0);
+    }
+    let mut file = match File::open(rt, text_of(&path).map_err(refusal)?) {
+        Ok(file) => file,
+        Err(error) if error.kind() == ErrorKind::NotFound => return Ok(0),
+        Err(error) => return Err(refusal(error)),
+    };
+    let mut bytes = Vec::new(rt.alloc());
+    file.seek(SeekFrom::Start(at)).map_err(refusal)?;
+    file.take(buf.len() as u64)
+        .read_to_end(&mut bytes)
+        .map_err(refusal)?;
+    Ok(copy_front(bytes.as_slice(), buf))
+}
+
+/// Copies as much as both hold to the front of the buffer, and answers how much.
+fn copy_front(bytes: &[u8], buf: &mut [u8]) -> usize
+    ensures within { result ≤ length buf.new }
+    ensures behind { drop result buf.new ≡ drop result buf.old }
+{
+    let count = bytes.len().min(buf.len());
+    buf[..count].copy_from_slice(&bytes[..count]);
+    count
+}

@@ -1,0 +1,3 @@
+pub mod Mem
+pub mod Plan
+pub mod Finite

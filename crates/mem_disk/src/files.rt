@@ -1,0 +1,226 @@
+//! The files of a disk in memory, and what one operation does to them.
+
+ghost use Rattle.std.specs.Prelude.{◌≡◌, ◌+◌, ◌≤◌, ◌<◌, length, drop, OnOk, OnErr, IfOk, IfNone, IfSome, Some, None};
+ghost use Rattle.disk_face.specs.View.{segment, File};
+ghost use Rattle.disk_face.specs.Image.{as_read};
+ghost use Rattle.disk_face.specs.Calls.{AfterDone, MayStart, flight_of, place_of, bytes_of, after_start, fresh, FillsFrom};
+ghost use Rattle.disk_face.specs.Tables.{whole};
+ghost use Rattle.mem_disk.specs.Mem.{held, is_at, index_at, undo_at, act_of, ChangesAt, FoundAt, IsUncreated, IsCreated, IsExtended, IsOrdered};
+
+use crate::order::{insert_file, is_side};
+use crate::parts::{MemAct, MemFile, Undo};
+use disk_face::{DiskOp, SegName, Side};
+use std::alloc::Global;
+use wal_base::NoMemory;
+
+fn is_segment(file: &MemFile, side: Side, name: SegName) -> bool
+    ensures { result ≡ is_at file.now.side file.now.name (segment side name) }
+{
+    is_side(file.side, side) && file.name.wal == name.wal && file.name.index == name.index
+}
+
+fn first_at(files: &[MemFile], side: Side, name: SegName) -> Option<usize>
+    ensures { result ≡ index_at (segment side name) files.now }
+{
+    for (i, file) in files.iter().enumerate() {
+        if is_segment(file, side, name) {
+            return Some(i);
+        }
+    }
+    None
+}
+
+/// Where the file of that segment stands.
+pub fn find(files: &[MemFile], side: Side, name: SegName) -> Option<usize>
+    ensures none { IfNone result (held files.now (segment side name) ≡ None) }
+    ensures some { IfSome result (FoundAt side name files.now) }
+{
+    first_at(files, side, name)
+}
+
+/// What takes the next change of this file back.
+pub fn undo_of(files: &Vec<MemFile>, side: Side, name: SegName) -> Undo
+    ensures { result ≡ undo_at side name (held files.now.items (segment side name)) }
+{
+    let mut undo = Undo {
+        side,
+        name,
+        there: false,
+        sent: 0,
+        done: 0,
+        stable: 0,
+        created: false,
+    };
+    let Some(at) = find(files, side, name) else {
+        return undo;
+    };
+    undo.there = true;
+    let file = &files[at];
+    if file.created {
+        undo.sent = file.sent.len();
+        undo.done = file.done;
+        undo.stable = file.stable;
+        undo.created = true;
+    }
+    undo
+}
+
+/// The operation on this file is done.
+pub fn settle(files: &mut Vec<MemFile>, side: Side, name: SegName, act: MemAct)
+    ensures changes { ChangesAt (segment side name) (AfterDone (act_of act)) (held files.old.items) (held files.new.items) }
+    ensures ordered { IsOrdered files.old.items → IsOrdered files.new.items }
+{
+    let Some(at) = find(files, side, name) else {
+        return;
+    };
+    let file = &mut files[at];
+    match act {
+        MemAct::Create => {
+            if !file.created {
+                file.created = true;
+                file.done = 0;
+                file.sent.clear();
+                file.stable = 0;
+            }
+        }
+        MemAct::Write => {
+            file.done = file.sent.len();
+        }
+        MemAct::Sync => {
+            file.stable = file.done;
+        }
+    }
+}
+
+/// Starts an operation: what it does to the files at once.
+pub fn begin(alloc: Global, files: &mut Vec<MemFile>, op: DiskOp<'_>) -> Result<(), NoMemory>
+    requires { MayStart (flight_of op).act (held files.old.items (place_of op)) }
+    ensures ok { OnOk result (ChangesAt (place_of op.entry) (λ f g. g ≡ after_start (flight_of op.entry).act (bytes_of op.entry) f) (held files.old.items) (held files.new.items)) }
+    ensures err { OnErr result (held files.new.items ≡ held files.old.items) }
+    ensures ordered { IsOrdered files.old.items → IsOrdered files.new.items }
+{
+    match op {
+        DiskOp::Create { side, name } => create(alloc, files, side, name),
+        DiskOp::Write { side, name, bytes } => extend(files, side, name, bytes),
+        DiskOp::Sync { .. } => Ok(()),
+    }
+}
+
+fn create(
+    alloc: Global,
+    files: &mut Vec<MemFile>,
+    side: Side,
+    name: SegName,
+) -> Result<(), NoMemory>
+    requires { IsUncreated (held files.old.items (segment side name)) }
+    ensures ok { OnOk result (ChangesAt (segment side name) (λ f g. g ≡ Some fresh) (held files.old.items) (held files.new.items)) }
+    ensures err { OnErr result (files.new.items ≡ files.old.items) }
+    ensures ordered { IsOrdered files.old.items → IsOrdered files.new.items }
+{
+    match find(files, side, name) {
+        Some(_) => Ok(()),
+        None => add(alloc, files, side, name),
+    }
+}
+
+fn add(alloc: Global, files: &mut Vec<MemFile>, side: Side, name: SegName) -> Result<(), NoMemory>
+    requires { held files.old.items (segment side name) ≡ None }
+    ensures ok { OnOk result (ChangesAt (segment side name) (λ f g. g ≡ Some fresh) (held files.old.items) (held files.new.items)) }
+    ensures err { OnErr result (files.new.items ≡ files.old.items) }
+    ensures ordered { IsOrdered files.old.items → IsOrdered files.new.items }
+{
+    let file = MemFile {
+        side,
+        name,
+        sent: Vec::new(alloc),
+        done: 0,
+        stable: 0,
+        created: false,
+    };
+    insert_file(files, file)
+}
+
+/// Places a whole file.
+pub fn place(
+    alloc: Global,
+    files: &mut Vec<MemFile>,
+    side: Side,
+    name: SegName,
+    bytes: &[u8],
+) -> Result<(), NoMemory>
+    requires { held files.old.items (segment side name) ≡ None }
+    ensures ok { OnOk result (ChangesAt (segment side name) (λ f g. g ≡ Some (whole bytes.now)) (held files.old.items) (held files.new.items)) }
+    ensures err { OnErr result (files.new.items ≡ files.old.items) }
+    ensures ordered { IsOrdered files.old.items → IsOrdered files.new.items }
+{
+    let sent = Vec::from_slice(alloc, bytes)?;
+    let file = MemFile {
+        side,
+        name,
+        sent,
+        done: bytes.len(),
+        stable: bytes.len(),
+        created: true,
+    };
+    insert_file(files, file)
+}
+
+fn extend(files: &mut [MemFile], side: Side, name: SegName, bytes: &[u8]) -> Result<(), NoMemory>
+    requires { IsCreated (held files.old (segment side name)) }
+    ensures ok { OnOk result (ChangesAt (segment side name) (IsExtended bytes.now) (held files.old) (held files.new)) }
+    ensures err { OnErr result (held files.new ≡ held files.old) }
+    ensures ordered { IsOrdered files.old → IsOrdered files.new }
+{
+    let Some(at) = find(files, side, name) else {
+        return Err(NoMemory);
+    };
+    let file = &mut files[at];
+    file.sent.extend_from_slice(bytes)?;
+    Ok(())
+}
+
+/// What a read gives. `None` exactly where no file of that segment is created.
+pub fn content_of(files: &Vec<MemFile>, side: Side, name: SegName) -> Option<&[u8]>
+    ensures some { IfSome result (λ bytes. as_read (held files.now.items (segment side name)) ≡ Some bytes.now) }
+    ensures none { IfNone result (as_read (held files.now.items (segment side name)) ≡ None) }
+{
+    let at = find(files, side, name)?;
+    let found = &files[at];
+    if found.created {
+        Some(&found.sent[..found.done])
+    } else {
+        None
+    }
+}
+
+fn copy_out(content: &[u8], at: u64, buf: &mut [u8]) -> usize
+    ensures fills { FillsFrom content.now at buf.new result }
+    ensures within { result ≤ length buf.new }
+    ensures behind { drop result buf.new ≡ drop result buf.old }
+{
+    let at = at as usize;
+    if at >= content.len() {
+        return 0;
+    }
+    let rest = &content[at..];
+    let count = rest.len().min(buf.len());
+    buf[..count].copy_from_slice(&rest[..count]);
+    count
+}
+
+/// Reads from a place of a file into the front of the buffer.
+pub fn read_file(files: &Vec<MemFile>, side: Side, name: SegName, at: u64, buf: &mut [u8]) -> usize
+    ensures fills { (f : File) → held files.now.items (segment side name) ≡ Some f → FillsFrom f.reads at buf.new result }
+    ensures no_file { held files.now.items (segment side name) ≡ None → result ≡ 0 }
+    ensures within { result ≤ length buf.new }
+    ensures behind { drop result buf.new ≡ drop result buf.old }
+{
+    let Some(i) = find(files, side, name) else {
+        return 0;
+    };
+    let file = &files[i];
+    if !file.created {
+        return 0;
+    }
+    copy_out(&file.sent[..file.done], at, buf)
+}

@@ -1,0 +1,253 @@
+//! The disk in memory.
+#![tactic(auto, unfolding(crate::specs::Mem::mem_view))]
+
+ghost use Rattle.std.specs.Prelude.{◌≡◌, ◌↔◌, ◌+◌, ◌≤◌, true, [], ◌∷◌, ◌++◌, length, drop, vec_capacity, IfOk, IfNone, IfSome, OnOk, OnErr, IsErrOf, IsSome, IsTrue, None, Some};
+ghost use Rattle.disk_face.specs.declared.Side.{Side};
+ghost use Rattle.disk_face.specs.View.{Place, File, segment, files, by_side, IsFree, NothingInFlight};
+ghost use Rattle.disk_face.specs.Image.{as_read};
+ghost use Rattle.disk_face.specs.Listing.{IsAscending, AreSegmentNames, IsListing};
+ghost use Rattle.disk_face.specs.Calls.{side_of, flight_of, place_of, bytes_of, MayStart, after_start, GoesOn, SameDisk, Starts, ChangesFile, Polled, FillsFrom, Stalls};
+ghost use Rattle.disk_face.specs.Tables.{whole};
+ghost use Rattle.wal_base.specs.Faults.{Rose};
+ghost use Rattle.mem_disk.specs.Plan.{Plan, FailsNext, after_call, after_op, AnswersAsPlanned};
+ghost use Rattle.mem_disk.specs.Finite.{finite_mem, sound_mem};
+ghost use Rattle.mem_disk.specs.Mem.{live_in, mem_view, IsOrdered};
+
+use crate::counts::{BySide, CallFaults};
+use crate::files::{begin, content_of, place, read_file, settle, undo_of};
+use crate::listing::list_files;
+use crate::ops::{begin_op, end_op, op_of};
+use crate::parts::{MemFile, MemOp, Undo};
+use disk_face::{Disk, DiskErr, DiskOp, Names, OpId, Progress, SegName, Side, StallDisk};
+use std::alloc::Global;
+use wal_base::NoMemory;
+
+/// A disk whose failures are asked for by numbers. Contracts see what was asked for.
+pub trait Planned {
+    /// The failures that were asked for, and how far the counts are.
+    ghost plan: { Self → Plan };
+}
+
+impl Planned for MemDisk {
+    ghost use Rattle.std.specs.Prelude.{length};
+
+    ghost plan = { λ d. record { failing_ops = d.fail_ops.items; starts = length d.ops.items; failing_calls = d.calls.numbers.items; calls = d.calls.calls } };
+}
+
+/// A disk in memory. It tells its files. An operation ends at its first poll that is not stalled, and then takes
+/// no memory.
+#[derive(Drop)]
+pub struct MemDisk {
+    alloc: Global,
+    files: Vec<MemFile>,
+    ops: Vec<MemOp>,
+    // One for each moment that has passed, in order.
+    undos: Vec<Undo>,
+    faults: BySide,
+    polls: BySide,
+    fail_ops: Vec<u64>,
+    calls: CallFaults,
+    ghost ordered: { IsOrdered files.items },
+    ghost room: { length undos.items + live_in ops.items ≤ vec_capacity undos },
+}
+
+/// How many files a new disk has room for.
+const FIRST_FILES: usize = 8;
+
+impl MemDisk {
+    /// Two empty directories, no fault, no poll to stall, and nothing in flight. `Err` is want of memory.
+    pub fn new(alloc: Global) -> Result<MemDisk, NoMemory>
+        ensures tells { IsTrue ⟦<MemDisk as Disk>⟧.tells }
+        ensures empty { IfOk result (λ disk. (p : Place) → files (⟦<MemDisk as Disk>⟧.view disk) p ≡ None) }
+        ensures no_faults { IfOk result (λ disk. (s : Side) → (⟦<MemDisk as Disk>⟧.view disk).faults s ≡ 0) }
+        ensures no_polls { IfOk result (λ disk. (s : Side) → (⟦<MemDisk as Disk>⟧.view disk).polls_left s ≡ 0) }
+        ensures no_plan { IfOk result (λ disk. ⟦<MemDisk as Planned>⟧.plan disk ≡ record { failing_ops = []; starts = 0; failing_calls = []; calls = 0 }) }
+        ensures idle { IfOk result (λ disk. NothingInFlight (⟦<MemDisk as Disk>⟧.view disk)) }
+    {
+        let files = Vec::with_capacity(alloc, FIRST_FILES)?;
+        Ok(MemDisk {
+            alloc,
+            files,
+            ops: Vec::new(alloc),
+            undos: Vec::new(alloc),
+            faults: BySide {
+                primary: 0,
+                secondary: 0,
+            },
+            polls: BySide {
+                primary: 0,
+                secondary: 0,
+            },
+            fail_ops: Vec::new(alloc),
+            calls: CallFaults {
+                numbers: Vec::new(alloc),
+                calls: 0,
+            },
+        })
+    }
+
+    /// Puts a whole file, all of it stable. No operation may be in flight on it. `Err` is want of memory, and
+    /// changes nothing.
+    pub fn put_file(&mut self, side: Side, name: SegName, bytes: &[u8]) -> Result<(), NoMemory>
+        requires absent { files (⟦<MemDisk as Disk>⟧.view self.old) (segment side name) ≡ None }
+        requires free { IsFree (⟦<MemDisk as Disk>⟧.view self.old) (segment side name) }
+        ensures goes_on { GoesOn (⟦<MemDisk as Disk>⟧.view self.old) (⟦<MemDisk as Disk>⟧.view self.new) }
+        ensures flights { (⟦<MemDisk as Disk>⟧.view self.new).in_flight ≡ (⟦<MemDisk as Disk>⟧.view self.old).in_flight }
+        ensures put { OnOk result (ChangesFile (segment side name) (λ f g. g ≡ Some (whole bytes.now)) (⟦<MemDisk as Disk>⟧.view self.old) (⟦<MemDisk as Disk>⟧.view self.new)) }
+        ensures err { OnErr result (⟦<MemDisk as Disk>⟧.view self.new ≡ ⟦<MemDisk as Disk>⟧.view self.old) }
+        ensures plan { ⟦<MemDisk as Planned>⟧.plan self.new ≡ ⟦<MemDisk as Planned>⟧.plan self.old }
+    {
+        let Some(room) = self.ops.len().checked_add(1) else {
+            return Err(NoMemory);
+        };
+        self.undos.reserve(room)?;
+        let undo = undo_of(&self.files, side, name);
+        place(self.alloc, &mut self.files, side, name, bytes)?;
+        self.undos.push_reserved(undo);
+        Ok(())
+    }
+
+    /// The operation of that number is to fail, at its first poll that is not stalled. The operations are counted
+    /// from 0, over all starts that were answered `Ok`. `Err` is want of memory.
+    pub fn fail_op(&mut self, number: u64) -> Result<(), NoMemory>
+        ensures same { ⟦<MemDisk as Disk>⟧.view self.new ≡ ⟦<MemDisk as Disk>⟧.view self.old }
+        ensures planned { OnOk result (⟦<MemDisk as Planned>⟧.plan self.new ≡ record (⟦<MemDisk as Planned>⟧.plan self.old) { failing_ops = (⟦<MemDisk as Planned>⟧.plan self.old).failing_ops ++ number ∷ [] }) }
+        ensures err { OnErr result (⟦<MemDisk as Planned>⟧.plan self.new ≡ ⟦<MemDisk as Planned>⟧.plan self.old) }
+    {
+        self.fail_ops.push(number)?;
+        Ok(())
+    }
+
+    /// The call of `list` or `read` of that number is to fail. The calls are counted from 0, over both. `Err` is
+    /// want of memory.
+    pub fn fail_call(&mut self, number: u64) -> Result<(), NoMemory>
+        ensures same { ⟦<MemDisk as Disk>⟧.view self.new ≡ ⟦<MemDisk as Disk>⟧.view self.old }
+        ensures planned { OnOk result (⟦<MemDisk as Planned>⟧.plan self.new ≡ record (⟦<MemDisk as Planned>⟧.plan self.old) { failing_calls = (⟦<MemDisk as Planned>⟧.plan self.old).failing_calls ++ number ∷ [] }) }
+        ensures err { OnErr result (⟦<MemDisk as Planned>⟧.plan self.new ≡ ⟦<MemDisk as Planned>⟧.plan self.old) }
+    {
+        self.calls.numbers.push(number)?;
+        Ok(())
+    }
+
+    /// What a read gives. `None` exactly where no file of that segment is created.
+    pub fn content(&self, side: Side, name: SegName) -> Option<&[u8]>
+        ensures some { IfSome result (λ bytes. as_read (files (⟦<MemDisk as Disk>⟧.view self.now) (segment side name)) ≡ Some bytes.now) }
+        ensures none { IfNone result (as_read (files (⟦<MemDisk as Disk>⟧.view self.now) (segment side name)) ≡ None) }
+    {
+        content_of(&self.files, side, name)
+    }
+}
+
+impl Disk for MemDisk {
+    ghost tells = { true };
+
+    ghost view = { λ d. mem_view d.files.items d.ops.items d.undos.items (by_side d.faults.primary d.faults.secondary) (by_side d.polls.primary d.polls.secondary) };
+
+    fn list(&mut self, side: Side) -> Result<Names, DiskErr>
+        ensures goes_on { GoesOn (⟦<MemDisk as Disk>⟧.view self.old) (⟦<MemDisk as Disk>⟧.view self.new) }
+        ensures same { SameDisk (⟦<MemDisk as Disk>⟧.view self.old) (⟦<MemDisk as Disk>⟧.view self.new) }
+        ensures failed { IsErrOf result DiskErr.Failed → Rose ((⟦<MemDisk as Disk>⟧.view self.old).faults side) ((⟦<MemDisk as Disk>⟧.view self.new).faults side) }
+        ensures ascending { IfOk result IsAscending }
+        ensures numbers { IfOk result AreSegmentNames }
+        ensures names { IfOk result (IsListing (files (⟦<MemDisk as Disk>⟧.view self.old)) side) }
+
+        // It fails exactly at the calls that were to fail.
+        ensures fails { IsErrOf result DiskErr.Failed ↔ FailsNext (⟦<MemDisk as Planned>⟧.plan self.old) }
+        ensures counts { ⟦<MemDisk as Planned>⟧.plan self.new ≡ after_call (⟦<MemDisk as Planned>⟧.plan self.old) }
+    {
+        if self.calls.next() {
+            self.faults.raise(side);
+            return Err(DiskErr::Failed);
+        }
+        let names = list_files(self.alloc, &self.files, side)?;
+        Ok(names)
+    }
+
+    fn read(&mut self, side: Side, name: SegName, at: u64, buf: &mut [u8]) -> Result<usize, DiskErr>
+        ensures goes_on { GoesOn (⟦<MemDisk as Disk>⟧.view self.old) (⟦<MemDisk as Disk>⟧.view self.new) }
+        ensures same { SameDisk (⟦<MemDisk as Disk>⟧.view self.old) (⟦<MemDisk as Disk>⟧.view self.new) }
+        ensures failed { IsErrOf result DiskErr.Failed → Rose ((⟦<MemDisk as Disk>⟧.view self.old).faults side) ((⟦<MemDisk as Disk>⟧.view self.new).faults side) }
+        ensures within { IfOk result (λ n. n ≤ length buf.new) }
+        ensures behind { IfOk result (λ n. drop n buf.new ≡ drop n buf.old) }
+        ensures bytes { IfOk result (λ n. (f : File) → files (⟦<MemDisk as Disk>⟧.view self.old) (segment side name) ≡ Some f → FillsFrom f.reads at buf.new n) }
+        ensures no_file { IfOk result (λ n. files (⟦<MemDisk as Disk>⟧.view self.old) (segment side name) ≡ None → n ≡ 0) }
+
+        // It fails exactly at the calls that were to fail.
+        ensures fails { IsErrOf result DiskErr.Failed ↔ FailsNext (⟦<MemDisk as Planned>⟧.plan self.old) }
+        ensures counts { ⟦<MemDisk as Planned>⟧.plan self.new ≡ after_call (⟦<MemDisk as Planned>⟧.plan self.old) }
+    {
+        if self.calls.next() {
+            self.faults.raise(side);
+            return Err(DiskErr::Failed);
+        }
+        Ok(read_file(&self.files, side, name, at, buf))
+    }
+
+    fn start(&mut self, op: DiskOp<'_>) -> Result<OpId, NoMemory>
+        requires free { IsFree (⟦<MemDisk as Disk>⟧.view self.old) (place_of op) }
+        requires may { MayStart (flight_of op).act (files (⟦<MemDisk as Disk>⟧.view self.old) (place_of op)) }
+        ensures goes_on { GoesOn (⟦<MemDisk as Disk>⟧.view self.old) (⟦<MemDisk as Disk>⟧.view self.new) }
+        ensures starts { IfOk result (λ id. Starts (flight_of op.entry) (side_of op.entry) id (⟦<MemDisk as Disk>⟧.view self.old) (⟦<MemDisk as Disk>⟧.view self.new)) }
+        ensures file { OnOk result (ChangesFile (place_of op.entry) (λ f g. g ≡ after_start (flight_of op.entry).act (bytes_of op.entry) f) (⟦<MemDisk as Disk>⟧.view self.old) (⟦<MemDisk as Disk>⟧.view self.new)) }
+        ensures err { OnErr result ((⟦<MemDisk as Disk>⟧.view self.new) ≡ (⟦<MemDisk as Disk>⟧.view self.old)) }
+
+        // The operations are numbered as they are started.
+        ensures number { IfOk result (λ id. id.number ≡ (⟦<MemDisk as Planned>⟧.plan self.old).starts) }
+        ensures counts { OnOk result (⟦<MemDisk as Planned>⟧.plan self.new ≡ after_op (⟦<MemDisk as Planned>⟧.plan self.old)) }
+        ensures not_counted { OnErr result (⟦<MemDisk as Planned>⟧.plan self.new ≡ ⟦<MemDisk as Planned>⟧.plan self.old) }
+    {
+        let made = op_of(op);
+        let Some(room) = self.ops.len().checked_add(2) else {
+            return Err(NoMemory);
+        };
+        self.ops.reserve(1)?;
+        self.undos.reserve(room)?;
+        let undo = undo_of(&self.files, made.side, made.name);
+        begin(self.alloc, &mut self.files, op)?;
+        let number = begin_op(&mut self.ops, made);
+        self.undos.push_reserved(undo);
+        Ok(OpId {
+            side: made.side,
+            number,
+        })
+    }
+
+    fn poll(&mut self, id: OpId) -> Progress
+        requires in_flight { IsSome ((⟦<MemDisk as Disk>⟧.view self.old).in_flight id) }
+        ensures goes_on { GoesOn (⟦<MemDisk as Disk>⟧.view self.old) (⟦<MemDisk as Disk>⟧.view self.new) }
+        ensures polled { Polled true id (⟦<MemDisk as Disk>⟧.view self.old) (⟦<MemDisk as Disk>⟧.view self.new) result }
+
+        // It fails exactly where the operation was to fail, once it is not stalled.
+        ensures answers { AnswersAsPlanned (⟦<MemDisk as Planned>⟧.plan self.old) id.number ((⟦<MemDisk as Disk>⟧.view self.old).polls_left id.side) result }
+        ensures plan { ⟦<MemDisk as Planned>⟧.plan self.new ≡ ⟦<MemDisk as Planned>⟧.plan self.old }
+
+        // A failed operation leaves each file as it stands.
+        ensures kept { result ≡ Progress.Failed → files (⟦<MemDisk as Disk>⟧.view self.new) ≡ files (⟦<MemDisk as Disk>⟧.view self.old) }
+    {
+        if self.polls.take_one(id.side) {
+            return Progress::Pending;
+        }
+        let op = end_op(&mut self.ops, id);
+        let undo = undo_of(&self.files, op.side, op.name);
+        self.undos.push_reserved(undo);
+        if self.fail_ops.contains(&id.number) {
+            self.faults.raise(id.side);
+            return Progress::Failed;
+        }
+        settle(&mut self.files, op.side, op.name, op.act);
+        Progress::Done
+    }
+
+    ghost finite = { λ d k told le. finite_mem k d.files.items d.ops.items d.undos.items (by_side d.faults.primary d.faults.secondary) (by_side d.polls.primary d.polls.secondary) };
+
+    ghost sound = { λ d p f told is. sound_mem d.files.items d.ops.items d.undos.items (by_side d.faults.primary d.faults.secondary) (by_side d.polls.primary d.polls.secondary) p f is };
+}
+
+impl StallDisk for MemDisk {
+    fn stall(&mut self, side: Side, polls: u32)
+        ensures stalls { Stalls side polls (⟦<MemDisk as Disk>⟧.view self.old) (⟦<MemDisk as Disk>⟧.view self.new) }
+        ensures plan { ⟦<MemDisk as Planned>⟧.plan self.new ≡ ⟦<MemDisk as Planned>⟧.plan self.old }
+    {
+        self.polls.add(side, polls);
+    }
+}
