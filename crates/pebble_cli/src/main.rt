@@ -1,10 +1,10 @@
 //! The program: it makes the real streams, disk and gate, calls `run` and ends with its status.
 //!
 //! Stands on `wal_top` for all that it does. What it makes itself is the trusted edge: the standard streams of
-//! `wal_base`, over which no contract says what is read or written.
+//! `wal_base` and the disk of `file_disk`, over which no contract says what is read or written.
 #![tactic(auto)]
 
-use disk_face::NoDisk;
+use file_disk::FileDisk;
 use std::alloc::{AllocError, Global};
 use std::env::Args;
 use std::process::ExitCode;
@@ -31,6 +31,9 @@ fn main(rt: HostRuntime) -> ExitCode {
     let Ok(words) = words else {
         return ExitCode::from(Status::NoMemory.code());
     };
+    let Ok(disk) = FileDisk::new(&rt) else {
+        return ExitCode::from(Status::NoMemory.code());
+    };
     let mut source = StdSource::new(rt.reader());
     let mut sink = StdSink::new(io::writer(&rt));
     let ran = run(
@@ -39,7 +42,7 @@ fn main(rt: HostRuntime) -> ExitCode {
         words.as_slice(),
         &mut source,
         &mut sink,
-        NoDisk::new(rt.alloc()),
+        disk,
         &NoGate,
     );
     ExitCode::from(ran.status.code())

@@ -18,13 +18,13 @@ set_and_read = Commit (Set (codes "a") (codes "1") ∷ []) ∷ Get (codes "a") �
 abbrev its_batches : List Batch
 its_batches = record { first = 10; entries = Set (codes "a") (codes "1") ∷ [] } ∷ []
 
-its_text : IsReplayText set_and_read (codes "s0 commit 10 1\ns0 get a = 1 @11\nend visible 11 batches 1\n")
+its_text : IsReplayText set_and_read its_batches (codes "s0 commit 10 1\ns0 get a = 1 @11\nend visible 11 batches 1\n")
 unfolding reply_lines commit_line get_line end_line answer end_after IsContiguous digits
-its_text = record { batches = its_batches; history = record { numbered = (refl, omega arith, tt); committed_are = refl }; text_is = refl }
+its_text = record { history = record { numbered = (refl, omega arith, tt); committed_are = refl }; text_is = refl }
 
-nothing_to_do : IsReplayText [] (codes "end visible 10 batches 0\n")
+nothing_to_do : IsReplayText [] [] (codes "end visible 10 batches 0\n")
 unfolding reply_lines end_line end_after IsContiguous digits
-nothing_to_do = record { batches = []; history = record { numbered = tt; committed_are = refl }; text_is = refl }
+nothing_to_do = record { history = record { numbered = tt; committed_are = refl }; text_is = refl }
 
 two_lines : lines_of (codes "commit 0 nosync set a 1\nget 0 a") ≡ codes "commit 0 nosync set a 1" ∷ codes "get 0 a" ∷ []
 unfolding pieces

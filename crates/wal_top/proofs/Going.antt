@@ -1,17 +1,23 @@
--- A replay that goes on act by act: the batches so far are the front of the whole history, and the text so far of the whole text.
+-- A replay that goes on act by act: the batches so far are the front of the whole history, the text so far of the whole text, and the log so far has their chunks.
 use Rattle.std.proofs.Common.{◌≡◌, ℕ, ◌+◌, ◌≤◌, List, [], ◌∷◌, ◌++◌, length, take, map, refl, sym, ap, ◌∙◌, arith, append_assoc, subst}
 use Rattle.std.specs.Prelude.{sum_by}
 use Rattle.std.specs.List.{filter_map}
 use Rattle.std.proofs.lemmas.List.{append-nil, length-append, take_at, take_all}
 use Rattle.std.proofs.lemmas.List.Sums.{sum_by-cons}
+use Rattle.std.proofs.lemmas.Grind.{flat_map-append}
+use Rattle.crc_chunk.specs.declared.chunk.ChunkKind.TheVariants.{Full}
+use Rattle.crc_chunk.specs.Chunk.{chunk}
+use Rattle.batch_repr.specs.Written.{written}
 use Rattle.batch_repr.specs.declared.batch.Batch.{Batch}
 use Rattle.batch_repr.specs.declared.limits.TheConstants.{NUMBER_MAX}
 use Rattle.batch_repr.specs.Batches.{count_of, IsContiguous, end_after, answer}
 use Rattle.wal_top.specs.declared.script.Act.{Act}
 use Rattle.wal_top.specs.declared.script.Act.TheVariants.{Commit, Get}
 use Rattle.wal_top.specs.Printing.{end_line}
-use Rattle.wal_top.specs.Replay.{FIRST, committed, numbers_taken, batches_added, reply_line, reply_lines, IsReplayText}
-use Rattle.wal_top.specs.Doing.{batch_made, DoesAct}
+use Rattle.wal_top.specs.Replay.{FIRST, committed, numbers_taken, batches_added, reply_line, reply_lines}
+use Rattle.wal_top.specs.declared.log.TheConstants.{LOG_MAX}
+use Rattle.wal_top.specs.Log.{log_bytes, log_growth}
+use Rattle.wal_top.specs.Doing.{batch_made, DoesAct, IsReplay}
 use Rattle.wal_top.proofs.Numbering.{end_after-push}
 
 -- the batches that acts make, numbered from here
@@ -19,16 +25,20 @@ unfoldable pub made : ℕ → List Act → List Batch
 made from [] = []
 made from (act ∷ acts) = batch_made from act ++ made (from + numbers_taken act) acts
 
--- The history and the text are what the batches and the text so far become over the rest of the acts.
-pub record GoesOn (acts : List Act) (batches : List Batch) (rest : List Act) (text : List ℕ) : Type 0 where
+-- The history and the text are what the batches and the text so far become over the rest of the acts, and the log is that of the batches so far.
+pub record GoesOn (acts : List Act) (batches : List Batch) (rest : List Act) (text log : List ℕ) : Type 0 where
   pub history : made FIRST acts ≡ batches ++ made (end_after FIRST batches) rest
   pub text_is : text ++ reply_lines (made FIRST acts) (length batches) rest ≡ reply_lines (made FIRST acts) 0 acts
   pub room : end_after FIRST batches + sum_by numbers_taken rest ≤ NUMBER_MAX
+  pub log_is : log ≡ log_bytes batches
+  pub fits : sum_by log_growth rest ≤ LOG_MAX
 
-pub goes_from : (acts : List Act) (batches : List Batch) (text : List ℕ) → batches ≡ [] → text ≡ [] → FIRST + sum_by numbers_taken acts ≤ NUMBER_MAX → GoesOn acts batches acts text
-unfolding end_after
-goes_from acts batches text none empty room =
-    subst (λ (bs : List Batch). GoesOn acts bs acts text) (sym none) (subst (λ (t : List ℕ). GoesOn acts [] acts t) (sym empty) (record { history = refl; text_is = refl; room = room }))
+pub goes_from : (acts : List Act) (batches : List Batch) (text log : List ℕ) → batches ≡ [] → text ≡ [] → log ≡ [] → FIRST + sum_by numbers_taken acts ≤ NUMBER_MAX → sum_by log_growth acts ≤ LOG_MAX
+    → GoesOn acts batches acts text log
+unfolding end_after log_bytes
+goes_from acts batches text log none empty no_log room fits =
+    subst (λ (bs : List Batch). GoesOn acts bs acts text log) (sym none)
+    (subst (λ (t : List ℕ). GoesOn acts [] acts t log) (sym empty) (record { history = refl; text_is = refl; room = room; log_is = no_log; fits = fits }))
 
 end_after-made : (batches : List Batch) (act : Act) → end_after FIRST (batches ++ batch_made (end_after FIRST batches) act) ≡ end_after FIRST batches + numbers_taken act
 end_after-made batches (Commit entries) = end_after-push FIRST batches (record { first = end_after FIRST batches; entries = entries })
@@ -49,10 +59,15 @@ reply_behind batches more act =
     cases (Commit entries) front = rw front refl
     cases (Get key) front = rw front refl
 
+log_behind : (old more : List Batch) → log_bytes (old ++ more) ≡ log_bytes old ++ log_bytes more
+unfolding log_bytes
+log_behind old more = flat_map-append (λ (batch : Batch). chunk Full 1 (written batch)) old more
+
 -- one act more
-pub goes_on : (acts : List Act) (old new : List Batch) (act : Act) (before rest : List Act) (text text' : List ℕ) → GoesOn acts old before text → before ≡ act ∷ rest → DoesAct act old new text text' → GoesOn acts new rest text'
+pub goes_on : (acts : List Act) (old new : List Batch) (act : Act) (before rest : List Act) (text text' log log' : List ℕ) → GoesOn acts old before text log → before ≡ act ∷ rest → DoesAct act old new log log' text text'
+    → GoesOn acts new rest text' log'
 unfolding made reply_lines
-goes_on acts old new act before rest text text' g e d =
+goes_on acts old new act before rest text text' log log' g e d =
     let whole : List Batch = made FIRST acts in
     let from : ℕ = end_after FIRST old in
     let one : List Batch = batch_made from act in
@@ -69,6 +84,8 @@ goes_on acts old new act before rest text text' g e d =
           ∙ ap (λ (t : List ℕ). text ++ (t ++ reply_lines whole (length new) rest)) (sym reply) ∙ ap (λ (n : ℕ). text ++ (reply_line whole (length old) act ++ reply_lines whole n rest)) longer
           ∙ ap (λ (t : List Act). text ++ reply_lines whole (length old) t) (sym e) ∙ g.text_is;
       room = omega (arith, g.room, next, sums);
+      log_is = d.chunks ∙ ap (λ (t : List ℕ). t ++ log_bytes one) g.log_is ∙ sym (log_behind old one) ∙ ap log_bytes (sym d.batches);
+      fits = omega (arith, g.fits, ap (sum_by log_growth) e, sum_by-cons log_growth act rest);
     }
 
 made_committed : (from : ℕ) (acts : List Act) → map (λ (batch : Batch). batch.entries) (made from acts) ≡ filter_map committed acts
@@ -78,15 +95,18 @@ made_committed from (Commit entries ∷ acts) = ap (λ t. entries ∷ t) (made_c
 made_committed from (Get key ∷ acts) = made_committed (from + 0) acts
 
 -- the end: the history is whole, and the last line ends the text
-pub has_gone : (acts : List Act) (batches : List Batch) (rest : List Act) (text text' : List ℕ) → GoesOn acts batches rest text → rest ≡ [] → IsContiguous FIRST batches
-    → text' ≡ text ++ end_line (end_after FIRST batches) (length batches) → IsReplayText acts text'
+pub has_gone : (acts : List Act) (batches : List Batch) (rest : List Act) (text text' log : List ℕ) → GoesOn acts batches rest text log → rest ≡ [] → IsContiguous FIRST batches
+    → text' ≡ text ++ end_line (end_after FIRST batches) (length batches) → IsReplay acts text' log
 unfolding made reply_lines
-has_gone acts batches rest text text' g e numbered last =
+has_gone acts batches rest text text' log g e numbered last =
     let whole : made FIRST acts ≡ batches = g.history ∙ ap (λ (t : List Act). batches ++ made (end_after FIRST batches) t) e ∙ append-nil batches in
     let said : text ≡ reply_lines batches 0 acts =
     sym (append-nil text) ∙ ap (λ (t : List Act). text ++ reply_lines (made FIRST acts) (length batches) t) (sym e) ∙ g.text_is ∙ ap (λ (bs : List Batch). reply_lines bs 0 acts) whole in
     record {
       batches = batches;
-      history = record { numbered = numbered; committed_are = ap (map (λ (batch : Batch). batch.entries)) (sym whole) ∙ made_committed FIRST acts };
-      text_is = last ∙ ap (λ (t : List ℕ). t ++ end_line (end_after FIRST batches) (length batches)) said;
+      answers = record {
+        history = record { numbered = numbered; committed_are = ap (map (λ (batch : Batch). batch.entries)) (sym whole) ∙ made_committed FIRST acts };
+        text_is = last ∙ ap (λ (t : List ℕ). t ++ end_line (end_after FIRST batches) (length batches)) said;
+      };
+      log_is = g.log_is;
     }

@@ -1,4 +1,9 @@
 mod Examples
+pub mod Waiting
+pub mod Listed
+pub mod OneAct
+pub mod Coming
+pub mod LogBytes
 pub mod Saying
 pub mod Endings
 pub mod Taking

@@ -4,7 +4,9 @@ pub mod Cutting
 pub mod Script
 pub mod Printing
 pub mod Replay
+pub mod Log
 pub mod Kept
+pub mod Storing
 pub mod Doing
 pub mod Reading
 pub mod Outcomes

@@ -2,6 +2,8 @@
 use Rattle.std.specs.Prelude.{ℕ, ◌+◌, ◌/◌, ◌%◌, ◌&&◌, not, ◌==◌, List, [], ◌∷◌, ◌++◌, Option, Some, None, codes, nat_le, nat_lt, if◌then◌else◌}
 use Rattle.std.specs.List.{flat_map}
 use Rattle.std.specs.Fmt.{decimal}
+use Rattle.disk_face.specs.declared.Side.{Side}
+use Rattle.disk_face.specs.declared.Side.TheVariants.{Primary, Secondary}
 
 -- a digit from 0 to f
 abbrev pub hex_digit : ℕ → ℕ
@@ -44,6 +46,15 @@ read_fault_text = codes "read fault\n"
 -- the whole text where a script has more bytes than may be
 abbrev pub too_long_text : List ℕ
 too_long_text = codes "script too long\n"
+
+-- the whole text where a segment stands in the directories
+abbrev pub refused_text : List ℕ
+refused_text = codes "refused directories\n"
+
+-- the whole text where one of the directories could not be listed
+abbrev pub disk_fault_text : Side → List ℕ
+disk_fault_text Primary = codes "disk fault primary\n"
+disk_fault_text Secondary = codes "disk fault secondary\n"
 
 -- the whole text where the line of this number is the first bad one
 unfoldable pub bad_line_text : ℕ → List ℕ

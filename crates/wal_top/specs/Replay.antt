@@ -47,7 +47,6 @@ reply_lines batches n [] = []
 reply_lines batches n (act ∷ acts) = reply_line batches n act ++ reply_lines batches (n + batches_added act) acts
 
 -- The text answers each act after the batches that the acts before it committed, and then says how the run ended.
-pub record IsReplayText (acts : List Act) (text : List ℕ) : Type 0 where
-  pub batches : List Batch
+pub record IsReplayText (acts : List Act) (batches : List Batch) (text : List ℕ) : Type 0 where
   pub history : IsHistory acts batches
   pub text_is : text ≡ reply_lines batches 0 acts ++ end_line (end_after FIRST batches) (length batches)

@@ -1,13 +1,13 @@
 //! The batches of a run, and what a store answers after them.
 
-ghost use Rattle.std.specs.Prelude.{◌≡◌, ◌+◌, ◌≤◌, ◌∷◌, ◌++◌, [], None, length, filter, option_map, IfOk, OnErr};
+ghost use Rattle.std.specs.Prelude.{◌≡◌, ◌+◌, ◌≤◌, ◌∷◌, ◌++◌, [], None, length, filter, option_map, IfOk, OnOk, OnErr};
 ghost use Rattle.std.specs.List.{last_or};
 ghost use Rattle.std.specs.Option.{option_copied};
 ghost use Rattle.batch_repr.specs.declared.limits.TheConstants.{NUMBER_MAX};
 ghost use Rattle.batch_repr.specs.Batches.{count_of, is_about, value_left, entries_in, end_after, IsContiguous, answer};
 ghost use Rattle.wal_top.specs.Replay.{FIRST};
 
-use batch_repr::{Batch, Batches, Unnumbered};
+use batch_repr::{Batch, Batches, Numbered, Unnumbered};
 use std::alloc::Global;
 use std::marker::Model;
 use wal_base::{Entry, NoMemory};
@@ -83,13 +83,6 @@ fn value_of(entry: &Entry) -> Option<&[u8]>
     }
 }
 
-/// The numbers that a committed batch got.
-#[derive(Clone, Copy, Debug, PartialEq, Eq)]
-pub(crate) struct Committed {
-    pub(crate) first: u64,
-    pub(crate) count: u32,
-}
-
 impl History {
     /// No batch. The first number is still to be given.
     pub(crate) fn new(alloc: Global) -> History
@@ -101,12 +94,11 @@ impl History {
         }
     }
 
-    /// Numbers the batch behind the others, and keeps it.
-    pub(crate) fn commit(&mut self, batch: Unnumbered) -> Result<Committed, NoMemory>
+    /// Numbers the batch behind the others, keeps it, and answers it as it is written.
+    pub(crate) fn commit(&mut self, batch: Unnumbered) -> Result<Numbered, NoMemory>
         requires { end_after FIRST self.old + count_of batch ≤ NUMBER_MAX }
-        ensures first { IfOk result (λ got. got.first ≡ end_after FIRST self.old) }
-        ensures count { IfOk result (λ got. got.count ≡ count_of batch) }
-        ensures added { IfOk result (λ got. self.new ≡ self.old ++ record { first = got.first; entries = batch } ∷ []) }
+        ensures numbered { IfOk result (λ numbered. numbered ≡ record { first = end_after FIRST self.old; entries = batch }) }
+        ensures added { OnOk result (self.new ≡ self.old ++ record { first = end_after FIRST self.old; entries = batch } ∷ []) }
         ensures err { OnErr result (self.new ≡ self.old) }
     {
         let (numbered, entries) = batch.number_keeping_entries(self.next);
@@ -114,8 +106,7 @@ impl History {
         match self.batches.push(Batch { first, entries }) {
             Ok(()) => {
                 self.next = numbered.end();
-                let count = numbered.count();
-                Ok(Committed { first, count })
+                Ok(numbered)
             }
             Err(_) => Err(NoMemory),
         }

@@ -1,27 +1,33 @@
 //! The top call: `run` does all that the program does, over streams, a disk and a gate that are handed in.
 //!
-//! Stands on `batch_repr` for the batches, on `disk_face` for what a disk is, and on `wal_base` for bytes and
-//! streams. The program above uses one contract, that of `run`: which text is written and with which status,
-//! by the words and by what the source tells.
+//! Stands on `batch_repr` for the batches, on `crc_chunk` for the chunks of a log, on `disk_face` for what a disk
+//! is, and on `wal_base` for bytes and streams. The program above uses one contract, that of `run`: which text is
+//! written, with which status, and which log is left, by the words, the source and the disk.
 //!
-//! A run goes through the rooms in this order, and writes nothing before the last: `words` (which command),
-//! `reading` (the script's bytes), `script` with `words_taken` and `pieces` (its lines), `replay` with
-//! `history` and `replies` (the acts, one after another), `writing` (the text, built whole by then).
+//! A run goes through the rooms in this order, and writes no text before the last: `words` (which command),
+//! `reading` (the script's bytes), `script` with `words_taken` and `pieces` (its lines), `directories` (whether
+//! they are free), `replay` with `history`, `replies` and `log` (the acts, one after another), `storing` (the
+//! log), `said` (which text and status), `writing` (the text, built whole by then).
 #![tactic(auto)]
 
+mod directories;
 mod gate;
 mod history;
+mod log;
 mod pieces;
 mod reading;
 mod replay;
 mod replies;
+mod said;
 mod script;
 mod status;
+mod storing;
 mod top;
 mod words;
 mod writing;
 
 pub use gate::{Gate, GatePoint, NoGate};
+pub use log::LOG_MAX;
 pub use reading::SCRIPT_MAX;
 pub use script::Act;
 pub use status::{Ran, Status};

@@ -1,5 +1,8 @@
-use crate::{Gate, GatePoint, NoGate, Ran, Status, run};
-use disk_face::NoDisk;
+ghost use Rattle.disk_face.specs.View.{NothingInFlight};
+
+use crate::{Gate, GatePoint, LOG_MAX, NoGate, Ran, Status, run};
+use disk_face::{Disk, SegName, Side};
+use mem_disk::MemDisk;
 use std::alloc::{AllocError, Global};
 use std::process::Abort;
 use std::sync::Wait;
@@ -17,7 +20,22 @@ fn words_of(alloc: Global, words: &[&str]) -> Result<Vec<String>, AllocError> {
     Ok(owned)
 }
 
-/// The end of a run over these streams.
+/// The end of a run over these streams and this disk.
+fn ran_over<S: Source, K: Sink, R: Threads + Wait + Sync>(
+    rt: &R,
+    alloc: Global,
+    words: &[&str],
+    source: &mut S,
+    sink: &mut K,
+    disk: MemDisk,
+) -> Result<Ran<MemDisk>, AllocError>
+    requires { NothingInFlight (⟦<MemDisk as Disk>⟧.view disk) }
+{
+    let words = words_of(alloc, words)?;
+    Ok(run(rt, alloc, &words, source, sink, disk, &NoGate))
+}
+
+/// The status of a run over these streams and a new disk.
 fn status_of<S: Source, K: Sink, R: Threads + Wait + Sync>(
     rt: &R,
     alloc: Global,
@@ -25,12 +43,13 @@ fn status_of<S: Source, K: Sink, R: Threads + Wait + Sync>(
     source: &mut S,
     sink: &mut K,
 ) -> Status {
-    let Ok(words) = words_of(alloc, words) else {
+    let Ok(disk) = MemDisk::new(alloc) else {
         return Status::NoMemory;
     };
-    let disk = NoDisk::new(alloc);
-    let Ran { status, disk: _ } = run(rt, alloc, &words, source, sink, disk, &NoGate);
-    status
+    match ran_over(rt, alloc, words, source, sink, disk) {
+        Ok(ran) => ran.status,
+        Err(_) => Status::NoMemory,
+    }
 }
 
 /// Asserts what a replay of a script writes, and its status.
@@ -165,6 +184,130 @@ fn a_failing_stream_ends_the_run(rt: HostRuntime) -> Result<(), Fail> {
         let ended = status_of(&rt, rt.alloc(), &["replay"], &mut source, &mut sink);
         assert_eq!(rt; ended, status, "at {take} and {put}");
         assert_eq!(rt; sink.0.written(), written, "at {take} and {put}");
+    }
+    Ok(())
+}
+
+/// The name of the log of a run.
+const LOG: SegName = SegName { wal: 1, index: 0 };
+
+/// Asserts what a replay over a disk writes, its status, and what the log then has.
+fn check_log<R: Threads + Wait + Sync + Abort>(
+    rt: &R,
+    alloc: Global,
+    disk: MemDisk,
+    script: &[u8],
+    status: Status,
+    text: &[u8],
+    log: Option<&[u8]>,
+) -> Result<(), Fail>
+    requires { NothingInFlight (⟦<MemDisk as Disk>⟧.view disk) }
+{
+    let mut source = MemSource::new(Blob::copy_of(alloc, script)?);
+    let mut sink = MemSink::new(alloc)?;
+    let ran = ran_over(rt, alloc, &["replay"], &mut source, &mut sink, disk)?;
+    assert_eq!(rt; ran.status, status);
+    assert_eq!(rt; sink.written(), text);
+    assert!(rt; ran.disk.content(Side::Primary, LOG) == log);
+    assert!(rt; ran.disk.content(Side::Secondary, LOG).is_none());
+    Ok(())
+}
+
+/// The log of one batch that sets `a` to `1`.
+const FIRST_LOG: &[u8] = &[
+    0x5e, 0x28, 0x29, 0x10, 0x11, 0x00, 0x05, 0x01, 0x00, 0x00, 0x00, 0x0a, 0x00, 0x00, 0x00, 0x00,
+    0x00, 0x00, 0x00, 0x01, 0x00, 0x00, 0x00, 0x01, 0x01, 0x61, 0x01, 0x31,
+];
+
+#[test]
+fn a_run_leaves_its_log(rt: HostRuntime) -> Result<(), Fail> {
+    let script = b"commit 0 nosync set a 1\nget 0 a\n";
+    let text = b"s0 commit 10 1\ns0 get a = 1 @11\nend visible 11 batches 1\n";
+    let (alloc, disk) = (rt.alloc(), MemDisk::new(rt.alloc())?);
+    check_log(
+        &rt,
+        alloc,
+        disk,
+        script,
+        Status::Done,
+        text,
+        Some(FIRST_LOG),
+    )?;
+    let disk = MemDisk::new(rt.alloc())?;
+    let end = b"end visible 10 batches 0\n";
+    check_log(&rt, alloc, disk, b"", Status::Done, end, None)
+}
+
+#[test]
+fn a_failing_disk_ends_the_run(rt: HostRuntime) -> Result<(), Fail> {
+    let script = b"commit 0 nosync set a 1\n";
+    let text = b"s0 commit 10 1\nend visible 11 batches 1\n";
+    let alloc = rt.alloc();
+    // Which operation fails: the creation, the write or the sync.
+    for (number, log) in [(0, None), (1, Some(b"".as_slice())), (2, Some(FIRST_LOG))] {
+        let mut disk = MemDisk::new(alloc)?;
+        disk.fail_op(number)?;
+        check_log(&rt, alloc, disk, script, Status::Disk, text, log)?;
+    }
+    for (number, text) in [
+        (0, b"disk fault primary\n".as_slice()),
+        (1, b"disk fault secondary\n".as_slice()),
+    ] {
+        let mut disk = MemDisk::new(alloc)?;
+        disk.fail_call(number)?;
+        check_log(&rt, alloc, disk, script, Status::Disk, text, None)?;
+    }
+    Ok(())
+}
+
+#[test]
+fn directories_with_a_segment_are_refused(rt: HostRuntime) -> Result<(), Fail> {
+    let script = b"commit 0 nosync set a 1\n";
+    let other = SegName { wal: 7, index: 2 };
+    for side in [Side::Primary, Side::Secondary] {
+        let mut disk = MemDisk::new(rt.alloc())?;
+        disk.put_file(side, other, b"")?;
+        let text = b"refused directories\n";
+        check_log(&rt, rt.alloc(), disk, script, Status::Refused, text, None)?;
+    }
+    Ok(())
+}
+
+/// A script of one batch whose value has so many bytes.
+fn script_of(alloc: Global, len: usize) -> Result<Vec<u8>, AllocError> {
+    let mut script = Vec::new(alloc);
+    script.extend_from_slice(b"commit 0 nosync set k ")?;
+    for _ in 0..len {
+        script.push(b'v')?;
+    }
+    Ok(script)
+}
+
+#[test]
+fn a_log_ends_at_its_greatest_length(rt: HostRuntime) -> Result<(), Fail> {
+    // Over the value the log has a header of 11, a batch header of 12, and the kind, the key and two lengths.
+    let most = LOG_MAX - (11 + 12 + 1 + 2 + 3);
+    for (len, status, text, log) in [
+        (
+            most,
+            Status::Done,
+            "s0 commit 10 1\nend visible 11 batches 1\n",
+            Some(LOG_MAX),
+        ),
+        (most + 1, Status::Script, "script too long\n", None),
+    ] {
+        let script = script_of(rt.alloc(), len)?;
+        let mut source = MemSource::new(Blob::copy_of(rt.alloc(), &script)?);
+        let mut sink = MemSink::new(rt.alloc())?;
+        let disk = MemDisk::new(rt.alloc())?;
+        let ran = ran_over(&rt, rt.alloc(), &["replay"], &mut source, &mut sink, disk)?;
+        assert_eq!(rt; ran.status, status);
+        assert_eq!(rt; sink.written(), text.as_bytes());
+        let left = ran
+            .disk
+            .content(Side::Primary, LOG)
+            .map(|bytes| bytes.len());
+        assert!(rt; left == log);
     }
     Ok(())
 }

@@ -1,58 +1,86 @@
 use Rattle.std.proofs.Common.{◌≡◌, ◌∙◌, sym, subst, inr}
 use Rattle.wal_top.specs.declared.status.Status.{Status}
-use Rattle.wal_top.specs.declared.status.Status.TheVariants.{Done, Usage, Script}
-use Rattle.wal_top.specs.Outcomes.{Wrote, YieldsTo}
+use Rattle.wal_top.specs.declared.status.Status.TheVariants.{Done, Usage, Script, Refused}
+use Rattle.wal_top.specs.Outcomes.{Wrote, YieldsTo, IsBeforeDisk}
 use Rattle.wal_top.proofs.Endings as ends
 use Rattle.wal_top.proofs.top.run.Goals as goal
 
 pub returns-in-Ok-clause-done : goal.returns-in-Ok-clause-done
 returns-in-Ok-clause-done g c = λ e.
     let w = ends.was_whole _ _ _ _ _ c.ended-status.ensures.ended (ends.other e (λ h. cc)) (ends.other e (λ h. cc)) in
-    (c.in-Ok.said.text, ends.says_done _ _ _ _ _ c.in-Ok.ensures.says (sym w.0 ∙ e), w.1)
+    let d = ends.says_done _ _ _ _ _ _ _ _ c.in-Ok.ensures.says (sym w.0 ∙ e) in
+    (d.0, c.in-Ok.said.text, d.1, d.2, w.1)
 
 pub returns-in-Ok-clause-usage : goal.returns-in-Ok-clause-usage
 returns-in-Ok-clause-usage g c = λ e.
     let w = ends.was_whole _ _ _ _ _ c.ended-status.ensures.ended (ends.other e (λ h. cc)) (ends.other e (λ h. cc)) in
-    let u = ends.says_usage _ _ _ _ _ c.in-Ok.ensures.says (sym w.0 ∙ e) in
+    let u = ends.says_usage _ _ _ _ _ _ _ _ c.in-Ok.ensures.says (sym w.0 ∙ e) in
     (u.0, subst (Wrote (g.K.Sink.written c.args.out.now) (g.K.Sink.written c.ended-status.new.out)) u.1 w.1)
 
 pub returns-in-Ok-clause-unread : goal.returns-in-Ok-clause-unread
 returns-in-Ok-clause-unread g c = λ e.
     let w = ends.was_whole _ _ _ _ _ c.ended-status.ensures.ended (ends.other e (λ h. cc)) (ends.other e (λ h. cc)) in
-    (ends.says_usage _ _ _ _ _ c.in-Ok.ensures.says (sym w.0 ∙ e)).2
+    (ends.says_usage _ _ _ _ _ _ _ _ c.in-Ok.ensures.says (sym w.0 ∙ e)).2
 
 pub returns-in-Ok-clause-no_command : goal.returns-in-Ok-clause-no_command
 returns-in-Ok-clause-no_command g c = λ none.
-    let usage : c.in-Ok.said.status ≡ Usage = ends.no_command_says_usage _ _ _ _ _ c.in-Ok.ensures.says none in
+    let usage : c.in-Ok.said.status ≡ Usage = ends.no_command_says_usage _ _ _ _ _ _ _ _ c.in-Ok.ensures.says none in
     subst (λ (s : Status). YieldsTo s c.ended-status.result) usage (ends.yields _ _ _ _ _ c.ended-status.ensures.ended)
 
 pub returns-in-Ok-clause-script : goal.returns-in-Ok-clause-script
 returns-in-Ok-clause-script g c = λ e.
     let w = ends.was_whole _ _ _ _ _ c.ended-status.ensures.ended (ends.other e (λ h. cc)) (ends.other e (λ h. cc)) in
-    (c.in-Ok.said.text, ends.says_script _ _ _ _ _ c.in-Ok.ensures.says (sym w.0 ∙ e), w.1)
+    (c.in-Ok.said.text, ends.says_script _ _ _ _ _ _ _ _ c.in-Ok.ensures.says (sym w.0 ∙ e), w.1)
 
 pub returns-in-Ok-clause-no_script : goal.returns-in-Ok-clause-no_script
 returns-in-Ok-clause-no_script g c = λ replay told calm.
-    let refused : c.in-Ok.said.status ≡ Script = ends.no_script_is_refused _ _ _ _ _ c.in-Ok.ensures.says replay told (λ r. calm (c.in-Ok.ensures.read r)) in
+    let refused : c.in-Ok.said.status ≡ Script = ends.no_script_says_script _ _ _ _ _ _ _ _ c.in-Ok.ensures.says replay told (λ r. calm (c.in-Ok.ensures.read r)) in
     subst (λ (s : Status). YieldsTo s c.ended-status.result) refused (ends.yields _ _ _ _ _ c.ended-status.ensures.ended)
+
+pub returns-in-Ok-clause-read : goal.returns-in-Ok-clause-read
+returns-in-Ok-clause-read g c = λ e.
+    let w = ends.was_whole _ _ _ _ _ c.ended-status.ensures.ended (ends.other e (λ h. cc)) (ends.other e (λ h. cc)) in
+    c.in-Ok.ensures.read (sym w.0 ∙ e)
 
 pub returns-in-Ok-clause-read_text : goal.returns-in-Ok-clause-read_text
 returns-in-Ok-clause-read_text g c = λ e.
     let w = ends.was_whole _ _ _ _ _ c.ended-status.ensures.ended (ends.other e (λ h. cc)) (ends.other e (λ h. cc)) in
-    subst (Wrote (g.K.Sink.written c.args.out.now) (g.K.Sink.written c.ended-status.new.out)) (ends.says_read _ _ _ _ _ c.in-Ok.ensures.says (sym w.0 ∙ e)) w.1
+    subst (Wrote (g.K.Sink.written c.args.out.now) (g.K.Sink.written c.ended-status.new.out)) (ends.says_read _ _ _ _ _ _ _ _ c.in-Ok.ensures.says (sym w.0 ∙ e)) w.1
 
 pub returns-in-Ok-clause-part : goal.returns-in-Ok-clause-part
-returns-in-Ok-clause-part g c = λ e. ends.part_of _ _ _ _ _ _ _ c.in-Ok.ensures.says (ends.is_part _ _ _ _ _ c.ended-status.ensures.ended)
+returns-in-Ok-clause-part g c = λ e. ends.part_of _ _ _ _ _ _ _ _ _ _ c.in-Ok.ensures.says (ends.is_part _ _ _ _ _ c.ended-status.ensures.ended)
+
+pub returns-in-Ok-clause-disk : goal.returns-in-Ok-clause-disk
+returns-in-Ok-clause-disk g c = λ e.
+    let w = ends.was_whole _ _ _ _ _ c.ended-status.ensures.ended (ends.other e (λ h. cc)) (ends.other e (λ h. cc)) in
+    (c.in-Ok.said.text, ends.says_disk _ _ _ _ _ _ _ _ c.in-Ok.ensures.says (sym w.0 ∙ e), w.1)
+
+pub returns-in-Ok-clause-refused : goal.returns-in-Ok-clause-refused
+returns-in-Ok-clause-refused g c = λ e.
+    let w = ends.was_whole _ _ _ _ _ c.ended-status.ensures.ended (ends.other e (λ h. cc)) (ends.other e (λ h. cc)) in
+    let r = ends.says_refused _ _ _ _ _ _ _ _ c.in-Ok.ensures.says (sym w.0 ∙ e) in
+    (r.0, r.1, subst (Wrote (g.K.Sink.written c.args.out.now) (g.K.Sink.written c.ended-status.new.out)) r.2 w.1)
+
+pub returns-in-Ok-clause-occupied : goal.returns-in-Ok-clause-occupied
+returns-in-Ok-clause-occupied g c = λ replay good told there calm_source calm_disk.
+    let refused : c.in-Ok.said.status ≡ Refused = ends.held_says_refused _ _ _ _ _ _ _ _ c.in-Ok.ensures.says replay good told there (λ r. calm_source (c.in-Ok.ensures.read r)) calm_disk in
+    subst (λ (s : Status). YieldsTo s c.ended-status.result) refused (ends.yields _ _ _ _ _ c.ended-status.ensures.ended)
 
 pub returns-in-Ok-clause-built_whole : goal.returns-in-Ok-clause-built_whole
 returns-in-Ok-clause-built_whole g c = λ e.
-    inr (c.ended-status.ensures.memory e (ends.never_says_memory _ _ _ _ _ c.in-Ok.ensures.says), ends.part_of _ _ _ _ _ _ _ c.in-Ok.ensures.says (ends.is_part _ _ _ _ _ c.ended-status.ensures.ended))
+    inr (c.ended-status.ensures.memory e (ends.never_says_memory _ _ _ _ _ _ _ _ c.in-Ok.ensures.says), ends.part_of _ _ _ _ _ _ _ _ _ _ c.in-Ok.ensures.says (ends.is_part _ _ _ _ _ c.ended-status.ensures.ended))
 
 pub returns-in-Ok-clause-complete : goal.returns-in-Ok-clause-complete
-returns-in-Ok-clause-complete g c = λ replay told calm_source calm_sink.
-    let done : c.in-Ok.said.status ≡ Done = ends.good_script_is_done _ _ _ _ _ c.in-Ok.ensures.says replay told (λ r. calm_source (c.in-Ok.ensures.read r)) in
+returns-in-Ok-clause-complete g c = λ replay good told free calm_source calm_sink calm_disk.
+    let done : c.in-Ok.said.status ≡ Done = ends.good_says_done _ _ _ _ _ _ _ _ c.in-Ok.ensures.says replay good told free (λ r. calm_source (c.in-Ok.ensures.read r)) calm_disk in
     ends.done_or_memory c.in-Ok.said.status c.ended-status.result (ends.yields _ _ _ _ _ c.ended-status.ensures.ended) done
-    (λ w. calm_sink (c.ended-status.ensures.write w (ends.never_says_write _ _ _ _ _ c.in-Ok.ensures.says)))
+    (λ w. calm_sink (c.ended-status.ensures.write w (ends.never_says_write _ _ _ _ _ _ _ _ c.in-Ok.ensures.says)))
 
 pub returns-in-Ok-clause-statuses : goal.returns-in-Ok-clause-statuses
-returns-in-Ok-clause-statuses g c = ends.of_this_stage _ _ _ _ _ _ _ _ c.in-Ok.ensures.says c.ended-status.ensures.ended
+returns-in-Ok-clause-statuses g c = ends.never_limit _ _ _ _ _ c.ended-status.ensures.ended (ends.never_says_limit _ _ _ _ _ _ _ _ c.in-Ok.ensures.says)
+
+pub returns-in-Ok-clause-untouched : goal.returns-in-Ok-clause-untouched
+returns-in-Ok-clause-untouched g c = λ early.
+    let apart = ends.early_is_whole c.ended-status.result early in
+    let w = ends.was_whole _ _ _ _ _ c.ended-status.ensures.ended apart.0 apart.1 in
+    ends.untouched_before _ _ _ _ _ _ _ _ c.in-Ok.ensures.says (subst IsBeforeDisk w.0 early)

@@ -1,8 +1,12 @@
+use Rattle.std.proofs.Common.{◌<◌, refl, ap, arith}
+use Rattle.batch_repr.specs.declared.batch.Batch.{Batch}
+use Rattle.batch_repr.specs.Batches.{count_of}
 use Rattle.wal_top.proofs.Numbering.{kept_committed}
 use Rattle.wal_top.proofs.history.History.commit.Goals as goal
 
 pub invariant_of-self : goal.invariant_of-self
 invariant_of-self c =
-    kept_committed c.self.inside.batches c.push.new.self c.self.inside.next c.end-self-inside.result c.first-first.result c.count-count.result c.args.batch c.number_keeping_entries-numbered.result.1
-    c.number_keeping_entries-numbered.result.0 c.self.invariant c.in-Ok.ensures.ok c.number_keeping_entries-numbered.ensures.numbered c.first-first.ensures c.number_keeping_entries-numbered.ensures.entries
-    c.count-count.ensures.count c.count-count.ensures.some c.end-self-inside.ensures.end c.end-self-inside.ensures.within
+    let numbered = c.number_keeping_entries-numbered in
+    let some : 0 < count_of numbered.result.0.entries = omega (arith, c.numbered.invariant.some, c.numbered.invariant.count_is, ap (λ (b : Batch). count_of b.entries) c.numbered.view_is) in
+    kept_committed c.self.inside.batches c.push.new.self c.self.inside.next c.end-self-inside.result c.first-first.result (count_of numbered.result.0.entries) c.args.batch numbered.result.1 numbered.result.0
+    c.self.invariant c.in-Ok.ensures.ok numbered.ensures.numbered c.first-first.ensures numbered.ensures.entries refl some c.end-self-inside.ensures.end c.end-self-inside.ensures.within

@@ -1,0 +1,66 @@
+-- What a replay comes to over a disk, told of the disk before its directories were listed, and the log that it leaves.
+use Rattle.std.proofs.Common.{◌≡◌, ◌≢◌, ℕ, ◌<◌, ◌≤◌, Bool, true, false, List, Option, Some, None, refl, sym, ap, ◌∙◌, arith, subst}
+use Rattle.std.specs.Prelude.{◌↔◌, IsTrue}
+use Rattle.batch_repr.specs.declared.batch.Batch.{Batch}
+use Rattle.disk_face.specs.declared.Side.TheVariants.{Primary}
+use Rattle.disk_face.specs.View.{DiskView, File, Files, files, creating}
+use Rattle.disk_face.specs.Calls.{MayStart, GoesOn, SameDisk}
+use Rattle.disk_face.specs.Tables.{whole}
+use Rattle.disk_face.proofs.Moments.{same_files, rose_later}
+use Rattle.wal_top.specs.declared.script.Act.{Act}
+use Rattle.wal_top.specs.declared.status.Status.{Status}
+use Rattle.wal_top.specs.declared.status.Status.TheVariants.{Read}
+use Rattle.wal_top.specs.Log.{log_place, log_bytes, HasNoSegment, KeepsLog, StoresLog}
+use Rattle.wal_top.specs.Doing.{ReplaysOver, unwritten, written, ComesTo, too_much, occupied, unlisted, replayed, ScriptComesTo, bad_line, asked}
+use Rattle.wal_top.proofs.LogBytes.{no_log}
+
+module _ (old mid new : DiskView) (goes : GoesOn old mid) (same : SameDisk old mid) where
+  pub replays_after : (acts : List Act) (tells : Bool) (status : Status) (text : List ℕ) → ReplaysOver acts tells mid new status text → ReplaysOver acts tells old new status text
+  replays_after acts tells _ _ (unwritten batches text is rose) = unwritten batches text is (rose_later (old.faults Primary) (mid.faults Primary) (new.faults Primary) (goes.faults Primary) rose)
+  replays_after acts tells _ _ (written batches text is stored) = written batches text is (λ told. subst (λ (fs : Files). StoresLog batches fs (files new)) (same_files old mid same) (stored told))
+
+-- a log that is kept is that of the batches
+pub stores_by : (batches : List Batch) (log : List ℕ) (old new : Files) → log ≡ log_bytes batches → KeepsLog log old new → StoresLog batches old new
+unfolding log_bytes
+stores_by batches log old new e k = record {
+  log = λ some. k.kept (λ none. some (no_log batches (sym e ∙ none))) ∙ ap (λ (t : List ℕ). Some (whole t)) e;
+  nothing = λ none. k.nothing (e ∙ ap log_bytes none);
+  others = k.others;
+}
+
+-- a log may be created where no segment stands
+pub may_create : (fs : Files) → HasNoSegment fs → MayStart creating (fs log_place)
+may_create fs none = at (fs log_place) refl
+  where
+    uncreated : (file : File) (created : Bool) → fs log_place ≡ Some file → file.created ≡ created → created ≡ false
+    uncreated file false here e = refl
+    uncreated file true here e = absurd (none Primary (record { wal = 1; index = 0 }) (record { named = (omega arith, omega arith); file = file; here = here; created = e }))
+
+    at : (f : Option File) → fs log_place ≡ f → MayStart creating f
+    at None here = tt
+    at (Some file) here = uncreated file file.created here refl
+
+never_true : false ≡ true → ⊥
+never_true e = cc
+
+-- a sum that is not found to be within the most is above it
+pub above : (sum most : ℕ) (fits : Bool) → IsTrue fits ↔ (sum ≤ most) → fits ≡ false → most < sum
+above sum most fits h e = not_at (λ le. never_true (sym e ∙ h.1 le))
+  where
+    not_at : (sum ≤ most → ⊥) → most < sum
+    not_at n = omega (arith, n)
+
+-- what a script comes to is no fault of the source
+pub never_reads : (script : List ℕ) (tells : Bool) (old new : DiskView) (status : Status) (text : List ℕ) → ScriptComesTo script tells old new status text → status ≢ Read
+never_reads script tells old new _ _ (bad_line number bad same) = λ h. cc
+never_reads script tells old new _ _ (asked acts status text asks comes) = of_acts status text comes
+  where
+    of_replay : (s : Status) (t : List ℕ) → ReplaysOver acts tells old new s t → s ≢ Read
+    of_replay _ _ (unwritten batches t is rose) = λ h. cc
+    of_replay _ _ (written batches t is stored) = λ h. cc
+
+    of_acts : (s : Status) (t : List ℕ) → ComesTo acts tells old new s t → s ≢ Read
+    of_acts _ _ (too_much much same) = λ h. cc
+    of_acts _ _ (occupied fits same held) = λ h. cc
+    of_acts _ _ (unlisted side fits same rose) = λ h. cc
+    of_acts _ _ (replayed s t fits free over) = of_replay s t over
