@@ -1,6 +1,7 @@
 mod Examples
 pub mod Waiting
 pub mod Listed
+pub mod OneScript
 pub mod OneAct
 pub mod Coming
 pub mod LogBytes

@@ -49,14 +49,15 @@ pub record ReadsBadLine (before : Option (List ℕ)) (number : ℕ) (after : Opt
 -- The script is accepted, and the log of what it asks for fits one block.
 pub record IsGoodScript (script : List ℕ) : Type 0 where
   pub within : length script ≤ SCRIPT_MAX
-  pub accepted : (acts : List Act) × IsScript script acts
-  pub fits : (acts : List Act) → IsScript script acts → sum_by log_growth acts ≤ LOG_MAX
+  pub acts : List Act
+  pub asks : IsScript script acts
+  pub fits : sum_by log_growth acts ≤ LOG_MAX
 
 -- The script is too long, has a bad line, or asks for more log than one block holds.
 pub data IsNoScript (script : List ℕ) : Type 0 where
   longer : SCRIPT_MAX < length script → IsNoScript script
   bad : (number : ℕ) → length script ≤ SCRIPT_MAX → IsFirstBad (lines_of script) number → IsNoScript script
-  more_log : length script ≤ SCRIPT_MAX → (acts : List Act) × IsScript script acts → ((acts : List Act) → IsScript script acts → LOG_MAX < sum_by log_growth acts) → IsNoScript script
+  more_log : (acts : List Act) → length script ≤ SCRIPT_MAX → IsScript script acts → LOG_MAX < sum_by log_growth acts → IsNoScript script
 
 -- The source tells a script that is accepted.
 pub record TellsScript (told : Option (List ℕ)) : Type 0 where

@@ -13,6 +13,7 @@
 mod directories;
 mod gate;
 mod history;
+mod laws;
 mod log;
 mod pieces;
 mod reading;
@@ -27,6 +28,7 @@ mod words;
 mod writing;
 
 pub use gate::{Gate, GatePoint, NoGate};
+pub use laws::a_script_asks_for_one_list_of_acts;
 pub use log::LOG_MAX;
 pub use reading::SCRIPT_MAX;
 pub use script::Act;

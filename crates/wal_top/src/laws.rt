@@ -1,0 +1,10 @@
+//! Laws of the definitions that no single call says.
+
+ghost use Rattle.std.specs.Prelude.{◌≡◌, ℕ, List};
+ghost use Rattle.wal_top.specs.declared.script.Act.{Act};
+ghost use Rattle.wal_top.specs.Script.{IsScript};
+
+/// A script asks for one list of acts.
+pub fn a_script_asks_for_one_list_of_acts()
+    ensures { (script : List ℕ) (acts others : List Act) → IsScript script acts → IsScript script others → acts ≡ others }
+{}
