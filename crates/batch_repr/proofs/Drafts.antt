@@ -1,7 +1,6 @@
 -- A draft with one entry more.
-use Rattle.std.proofs.Common.{◌≡◌, ℕ, ◌<◌, ◌≤◌, List, [], ◌∷◌, ◌++◌, length, refl, sym, ap, ◌∙◌, append_assoc, Result, Ok, Err, Some, None, false, subst}
-use Rattle.std.specs.Prelude.{OnOk, replicate}
-use Rattle.std.specs.Result.{is_err}
+use Rattle.std.proofs.Common.{◌≡◌, ℕ, ◌<◌, ◌≤◌, List, [], ◌∷◌, ◌++◌, length, refl, sym, ap, ◌∙◌, append_assoc, Some, None, subst}
+use Rattle.std.specs.Prelude.{replicate}
 use Rattle.std.specs.List.{flat_map}
 use Rattle.std.proofs.lemmas.Bool.{lt-ltb, le-ltb}
 use Rattle.std.proofs.lemmas.List.{length-append, append-nil}
@@ -14,10 +13,6 @@ use Rattle.batch_repr.specs.declared.limits.TheConstants.{BATCH_MAX}
 use Rattle.batch_repr.specs.Written.{written_entry, written_entries, written_len}
 use Rattle.batch_repr.specs.Building.{room_fault}
 use Rattle.batch_repr.specs.Draft.{IsDraft}
-
-pub ok_of : {T E : Type 0} (r : Result T E) (P : Type 0) → is_err r ≡ false → OnOk r P → P
-ok_of (Ok x) P e h = h
-ok_of (Err x) P e h = absurd cc
 
 written_entries-push : (entries : List Entry) (entry : Entry) → written_entries (entries ++ entry ∷ []) ≡ written_entries entries ++ written_entry entry
 unfolding written_entries

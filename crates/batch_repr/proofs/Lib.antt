@@ -4,3 +4,10 @@ pub mod Drafts
 pub mod Written
 pub mod Shortest
 pub mod Fitting
+pub mod Tools
+pub mod Numbers
+pub mod Entries
+pub mod Outcomes
+pub mod Varints
+pub mod Fields
+pub mod Agreement

@@ -11,11 +11,12 @@ use Rattle.std.proofs.lemmas.Nat.{from_le_bytes-to_le_bytes_8}
 use Rattle.wal_base.specs.declared.entry.Entry.{Entry}
 use Rattle.wal_base.specs.declared.entry.Entry.TheVariants.{Set, Delete, Note}
 use Rattle.batch_repr.specs.declared.batch.Batch.{Batch}
-use Rattle.batch_repr.specs.Batches.{count_of}
+use Rattle.batch_repr.specs.Batches.{count_of, end_of}
 use Rattle.batch_repr.specs.Spelling.{IsVarint, varint_value, SpellsNumber, SpellsString, SpellsEntry, SpellsEntries, SpellsBatch}
 use Rattle.batch_repr.specs.Limits.{IsWithinLimits}
 use Rattle.batch_repr.specs.declared.limits.TheConstants.{NUMBER_MAX}
 use Rattle.batch_repr.specs.Written.{varint_within, varint, byte_string, written_entry, written_entries, written}
+use Rattle.batch_repr.specs.Building.{FitsBatch}
 use Rattle.batch_repr.specs.Draft.{IsDraft, IsWritten}
 
 record Shape (bytes : List ℕ) (most n : ℕ) : Type 0 where
@@ -71,6 +72,17 @@ batch_spelled bytes batch count w = record {
   limits = w.limits;
   size = w.size;
   numbers = omega (arith, w.numbers, w.count_is);
+}
+
+pub written_spells : (batch : Batch) → FitsBatch batch.entries → end_of batch ≤ NUMBER_MAX → SpellsBatch (written batch) batch
+unfolding written
+written_spells batch fits within = record {
+  body = written_entries batch.entries;
+  is = refl;
+  entries = entries_spell batch.entries (recursion_from_All IsWithinLimits batch.entries fits.limits);
+  limits = fits.limits;
+  size = omega (arith, fits.size, length-append (to_le_bytes w64 batch.first ++ to_le_bytes w32 (count_of batch.entries)) (written_entries batch.entries));
+  numbers = within;
 }
 
 -- ---- the header of a written batch

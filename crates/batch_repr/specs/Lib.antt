@@ -4,3 +4,5 @@ pub mod Spelling
 pub mod Written
 pub mod Building
 pub mod Draft
+pub mod Reading
+pub mod Returned

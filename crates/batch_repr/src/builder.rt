@@ -1,14 +1,14 @@
 //! Entries that are to be one batch.
 
-ghost use Rattle.std.specs.Prelude.{◌≡◌, ◌+◌, ◌<◌, ◌≤◌, ◌^◌, [], ◌∷◌, ◌++◌, length, IfOk, OnOk, OnErr, MatchResult};
-ghost use Rattle.wal_base.specs.declared.entry.Entry.{Entry};
-ghost use Rattle.wal_base.specs.declared.entry.Entry.TheVariants.{Set};
+ghost use Rattle.std.specs.Prelude.{◌≡◌, ◌+◌, ◌<◌, ◌≤◌, [], ◌∷◌, ◌++◌, IfOk, OnOk, OnErr, MatchResult};
+ghost use Rattle.wal_base.specs.declared.entry.Entry.TheVariants.{Set, Delete, Note};
 ghost use Rattle.batch_repr.specs.Batches.{count_of};
 ghost use Rattle.batch_repr.specs.Limits.{IsWithinLimits};
 ghost use Rattle.batch_repr.specs.Written.{written_len};
 ghost use Rattle.batch_repr.specs.Draft.{IsDraft};
 ghost use Rattle.batch_repr.specs.Building.{room_fault, refusal, RefusedAs};
 
+use crate::batch::count;
 use crate::fault::BuildFault;
 use crate::limits::{BATCH_MAX, HEADER, KEY_MAX, VALUE_MAX};
 use crate::unnumbered::Unnumbered;
@@ -41,21 +41,6 @@ fn add(bytes: &mut Vec<u8>, entries: &mut Entries, entry: Entry) -> Result<(), B
         return Err(BuildFault::NoMemory);
     }
     Ok(())
-}
-
-/// How many of the entries take a number.
-fn count(entries: &[Entry]) -> u32
-    requires { length entries.now < 2 ^ 32 }
-    ensures { result ≡ count_of entries.now }
-{
-    let mut found = 0u32;
-    for entry in entries {
-        match entry {
-            Entry::Note { .. } => {}
-            Entry::Set { .. } | Entry::Delete { .. } => found += 1,
-        }
-    }
-    found
 }
 
 /// How many bytes a new builder has room for: a header and one short entry.
@@ -118,6 +103,36 @@ impl BatchBuilder {
             &mut self.entries,
             Entry::Set { key, value },
         )
+    }
+
+    /// Adds a Delete of the key. It is refused exactly where the key, else the written batch would be longer
+    /// than its limit, and then says how long that is.
+    pub fn delete(&mut self, key: &[u8]) -> Result<(), BuildFault>
+        ensures ok { OnOk result (self.new ≡ self.old ++ Delete key.now ∷ []) }
+        ensures err { OnErr result (self.new ≡ self.old) }
+        ensures fault { RefusedAs result (refusal self.old (Delete key.now)) }
+    {
+        let len = key.len();
+        if len > KEY_MAX {
+            return Err(BuildFault::KeyTooLong { len: len as u64 });
+        }
+        let key = Blob::copy_of(self.alloc, key)?;
+        add(&mut self.bytes, &mut self.entries, Entry::Delete { key })
+    }
+
+    /// Adds a Note of the bytes, which takes no number. It is refused exactly where the bytes, else the
+    /// written batch would be longer than their limit, that of a value, and then says how long that is.
+    pub fn note(&mut self, bytes: &[u8]) -> Result<(), BuildFault>
+        ensures ok { OnOk result (self.new ≡ self.old ++ Note bytes.now ∷ []) }
+        ensures err { OnErr result (self.new ≡ self.old) }
+        ensures fault { RefusedAs result (refusal self.old (Note bytes.now)) }
+    {
+        let len = bytes.len();
+        if len > VALUE_MAX {
+            return Err(BuildFault::ValueTooLong { len: len as u64 });
+        }
+        let bytes = Blob::copy_of(self.alloc, bytes)?;
+        add(&mut self.bytes, &mut self.entries, Entry::Note { bytes })
     }
 
     /// The batch of these entries. It hands the builder back exactly where no entry takes a number.

@@ -2,9 +2,12 @@
 
 ghost use Rattle.std.specs.Prelude.{◌≡◌, ◌<◌, ◌≤◌, ◌^◌, ◌↔◌, ◌∷◌, ◌++◌, [], ℕ, List, None, length};
 ghost use Rattle.wal_base.specs.declared.entry.Entry.{Entry};
-ghost use Rattle.batch_repr.specs.Spelling.{SpellsNumber};
+ghost use Rattle.batch_repr.specs.declared.batch.Batch.{Batch};
+ghost use Rattle.batch_repr.specs.declared.fault.BatchFault.{BatchFault};
+ghost use Rattle.batch_repr.specs.Spelling.{SpellsNumber, SpellsBatch};
 ghost use Rattle.batch_repr.specs.Written.{varint};
 ghost use Rattle.batch_repr.specs.Building.{FitsBatch, refusal};
+ghost use Rattle.batch_repr.specs.Reading.{IsFirstFault};
 
 /// A number is written in its shortest spelling.
 pub fn shortest_is_written()
@@ -15,4 +18,11 @@ pub fn shortest_is_written()
 /// Entries that fit one batch fit it with one more exactly where a builder does not refuse that one.
 pub fn fits_exactly_where_not_refused()
     ensures { (entries : List Entry) (entry : Entry) → FitsBatch entries → (refusal entries entry ≡ None) ↔ FitsBatch (entries ++ entry ∷ []) }
+{}
+
+/// Bytes have one reading: they spell at most one batch, have at most one first fault, and not both.
+pub fn bytes_have_one_reading()
+    ensures batch { (bytes : List ℕ) (one other : Batch) → SpellsBatch bytes one → SpellsBatch bytes other → one ≡ other }
+    ensures fault { (bytes : List ℕ) (one other : BatchFault) → IsFirstFault bytes one → IsFirstFault bytes other → one ≡ other }
+    ensures not_both { (bytes : List ℕ) (batch : Batch) (fault : BatchFault) → SpellsBatch bytes batch → IsFirstFault bytes fault → ⊥ }
 {}

@@ -1,7 +1,9 @@
-//! The text of a batch: entries are built, numbered, and stand as the bytes that go to the log.
+//! The text of a batch: entries are built, numbered, and stand as the bytes that go to the log; and bytes are
+//! read back as the batch that they spell.
 //!
-//! Stands on `wal_base` alone. The layers above use one contract: the bytes of a numbered batch are the one
-//! written spelling of what was built, and numbering takes no memory.
+//! Stands on `wal_base` alone. The layers above use two contracts: the bytes of a numbered batch are the one
+//! written spelling of what was built, and numbering takes no memory; and reading answers the batch exactly
+//! where the bytes spell one, and otherwise the first fault from left to right.
 //!
 //! What holds of each value here: a builder and an unnumbered batch hold entries within their limits, spelled
 //! behind a header that is not written yet; a numbered batch holds its written text, and an entry of it is
@@ -10,6 +12,7 @@
 
 mod batch;
 mod builder;
+mod decoding;
 mod fault;
 mod laws;
 mod limits;
@@ -19,8 +22,9 @@ mod writing;
 
 pub use batch::{Batch, Batches};
 pub use builder::BatchBuilder;
-pub use fault::BuildFault;
-pub use laws::{fits_exactly_where_not_refused, shortest_is_written};
+pub use decoding::decode;
+pub use fault::{BatchFault, BuildFault};
+pub use laws::{bytes_have_one_reading, fits_exactly_where_not_refused, shortest_is_written};
 pub use limits::{BATCH_MAX, KEY_MAX, NUMBER_MAX, VALUE_MAX};
 pub use numbered::Numbered;
 pub use unnumbered::Unnumbered;

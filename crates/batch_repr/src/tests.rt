@@ -1,5 +1,7 @@
-use crate::{BatchBuilder, BuildFault, Unnumbered};
+use crate::{Batch, BatchBuilder, BatchFault, BuildFault, Unnumbered, decode};
+use std::alloc::Global;
 use std::process::Abort;
+use wal_base::Entry;
 
 /// A batch of one Set, key `a` to `1`.
 fn one_set(rt: &impl Abort, mut builder: BatchBuilder) -> Unnumbered {
@@ -11,7 +13,7 @@ fn one_set(rt: &impl Abort, mut builder: BatchBuilder) -> Unnumbered {
 }
 
 #[test]
-fn one_set_has_these_bytes(rt: HostRuntime) {
+fn one_set_has_these_bytes_and_is_read_back(rt: HostRuntime) {
     let builder = BatchBuilder::new(rt.alloc()).expect(&rt, "memory");
     let batch = one_set(&rt, builder);
     assert_eq!(rt;
@@ -28,6 +30,10 @@ fn one_set_has_these_bytes(rt: HostRuntime) {
         0x0a, 0, 0, 0, 0, 0, 0, 0, 0x01, 0, 0, 0, 0x01, 0x01, 0x61, 0x01, 0x31,
     ];
     assert_eq!(rt; numbered.bytes(), bytes.as_slice());
+    let read = decode(rt.alloc(), numbered.bytes()).expect(&rt, "a batch");
+    assert!(rt; is_one_set(&read));
+    let short = decode(rt.alloc(), &bytes[..11]).err();
+    assert_eq!(rt; short, Some(BatchFault::ShortHeader));
 }
 
 #[test]
@@ -91,4 +97,222 @@ fn a_batch_is_full_at_its_limit(rt: HostRuntime) {
         panic!(rt; "a batch");
     };
     assert_eq!(rt; (batch.count(), batch.size()), (4, 4_194_304));
+}
+
+#[test]
+fn a_key_and_a_note_have_their_limits(rt: HostRuntime) {
+    let text = vec![in rt.alloc(); b'x'; 1_048_577].expect(&rt, "memory");
+    let mut builder = BatchBuilder::new(rt.alloc()).expect(&rt, "memory");
+    assert_eq!(rt;
+        (
+            builder.delete(front(&rt, &text, 65_535)),
+            builder.delete(front(&rt, &text, 65_536)),
+            builder.note(front(&rt, &text, 1_048_576)),
+            builder.note(&text),
+        ),
+        (
+            Ok(()),
+            Err(BuildFault::KeyTooLong { len: 65_536 }),
+            Ok(()),
+            Err(BuildFault::ValueTooLong { len: 1_048_577 }),
+        )
+    );
+}
+
+#[test]
+fn a_note_and_a_delete_are_written_and_read(rt: HostRuntime) {
+    let mut builder = BatchBuilder::new(rt.alloc()).expect(&rt, "memory");
+    builder.note(b"t7").expect(&rt, "an entry");
+    let Err(mut builder) = builder.finish() else {
+        panic!(rt; "a batch of a note alone");
+    };
+    builder.delete(b"a").expect(&rt, "an entry");
+    let Ok(batch) = builder.finish() else {
+        panic!(rt; "a batch");
+    };
+    let numbered = batch.number(11);
+    let bytes = b"\x0b\0\0\0\0\0\0\0\x01\0\0\0\x03\x02t7\0\x01a";
+    assert_eq!(rt; numbered.bytes(), bytes.as_slice());
+    let read = decode(rt.alloc(), bytes).expect(&rt, "a batch");
+    assert_eq!(rt; (read.first, read.entries.len()), (11, 2));
+}
+
+/// A header, and the entries behind it.
+fn text(rt: &impl Abort, alloc: Global, first: u64, count: u32, entries: &[u8]) -> Vec<u8> {
+    let mut bytes = Vec::new(alloc);
+    bytes
+        .extend_from_slice(&first.to_le_bytes())
+        .expect(rt, "memory");
+    bytes
+        .extend_from_slice(&count.to_le_bytes())
+        .expect(rt, "memory");
+    bytes.extend_from_slice(entries).expect(rt, "memory");
+    bytes
+}
+
+/// Whether it is the batch of number 10 and one Set, key `a` to `1`.
+fn is_one_set(batch: &Batch) -> bool {
+    match batch.entries.get(0) {
+        Some(Entry::Set { key, value }) => {
+            batch.first == 10
+                && batch.entries.len() == 1
+                && key.as_slice() == b"a".as_slice()
+                && value.as_slice() == b"1".as_slice()
+        }
+        _ => false,
+    }
+}
+
+#[test]
+fn each_spelling_of_a_length_is_read(rt: HostRuntime) {
+    for entries in [
+        b"\x01\x01a\x011".as_slice(),
+        b"\x01\x81\x00a\x011".as_slice(),
+        b"\x01\x81\x80\x00a\x011".as_slice(),
+        b"\x01\x81\x80\x80\x00a\x011".as_slice(),
+        b"\x01\x81\x80\x80\x80\x00a\x011".as_slice(),
+        b"\x01\x01a\x81\x80\x80\x80\x001".as_slice(),
+    ] {
+        let bytes = text(&rt, rt.alloc(), 10, 1, entries);
+        let batch = decode(rt.alloc(), &bytes).expect(&rt, "a batch");
+        assert!(rt; is_one_set(&batch));
+    }
+}
+
+/// The greatest number at which a batch may end.
+const LAST: u64 = 72_057_594_037_927_935;
+
+#[test]
+fn each_fault_stands_where_it_is(rt: HostRuntime) {
+    for (first, count, entries, fault) in [
+        (
+            10,
+            1,
+            b"\x02".as_slice(),
+            BatchFault::UnknownKind { at: 12, kind: 2 },
+        ),
+        (
+            10,
+            1,
+            b"\x0f\x00\x00".as_slice(),
+            BatchFault::UnknownKind { at: 12, kind: 15 },
+        ),
+        (
+            10,
+            2,
+            b"\x00\x01a\x02".as_slice(),
+            BatchFault::UnknownKind { at: 15, kind: 2 },
+        ),
+        (10, 1, b"\x00".as_slice(), BatchFault::ShortEntry { at: 12 }),
+        (
+            10,
+            1,
+            b"\x00\x81".as_slice(),
+            BatchFault::ShortEntry { at: 12 },
+        ),
+        (
+            10,
+            1,
+            b"\x01\x01a\x01".as_slice(),
+            BatchFault::ShortEntry { at: 12 },
+        ),
+        (
+            10,
+            1,
+            b"\x00\xff\xff\x03".as_slice(),
+            BatchFault::ShortEntry { at: 12 },
+        ),
+        (
+            10,
+            1,
+            b"\x01\x00\x80\x80\x40".as_slice(),
+            BatchFault::ShortEntry { at: 12 },
+        ),
+        (
+            10,
+            0,
+            b"\x03\x80\x80\x40".as_slice(),
+            BatchFault::ShortEntry { at: 12 },
+        ),
+        (
+            10,
+            1,
+            b"\x00\x80\x80\x80\x80\x80\x00".as_slice(),
+            BatchFault::BadVarint { at: 13 },
+        ),
+        (
+            10,
+            1,
+            b"\x00\x80\x80\x80\x80\x10".as_slice(),
+            BatchFault::BadVarint { at: 13 },
+        ),
+        (
+            10,
+            1,
+            b"\x00\xff\xff\xff\xff\x0f".as_slice(),
+            BatchFault::TooLong { at: 13 },
+        ),
+        (
+            10,
+            1,
+            b"\x00\x80\x80\x04".as_slice(),
+            BatchFault::TooLong { at: 13 },
+        ),
+        (
+            10,
+            1,
+            b"\x01\x00\x81\x80\x40".as_slice(),
+            BatchFault::TooLong { at: 14 },
+        ),
+        (
+            10,
+            0,
+            b"\x03\x81\x80\x40".as_slice(),
+            BatchFault::TooLong { at: 13 },
+        ),
+        (
+            10,
+            2,
+            b"\x01\x01a\x011".as_slice(),
+            BatchFault::Count { said: 2, found: 1 },
+        ),
+        (
+            LAST,
+            1,
+            b"\x03\x00".as_slice(),
+            BatchFault::Count { said: 1, found: 0 },
+        ),
+        (
+            LAST,
+            1,
+            b"\x00\x00".as_slice(),
+            BatchFault::SeqRange { first: LAST },
+        ),
+    ] {
+        let bytes = text(&rt, rt.alloc(), first, count, entries);
+        let Err(found) = decode(rt.alloc(), &bytes) else {
+            panic!(rt; "no fault");
+        };
+        assert_eq!(rt; found, fault);
+    }
+}
+
+#[test]
+fn what_is_no_batch_by_its_length(rt: HostRuntime) {
+    let bytes = vec![in rt.alloc(); 0u8; 4_194_305].expect(&rt, "memory");
+    for (len, answer) in [
+        (0, Some(BatchFault::ShortHeader)),
+        (11, Some(BatchFault::ShortHeader)),
+        (12, None),
+        (4_194_305, Some(BatchFault::TooLong { at: 0 })),
+    ] {
+        assert_eq!(rt; decode(rt.alloc(), front(&rt, &bytes, len)).err(), answer);
+    }
+}
+
+#[test]
+fn a_batch_may_end_at_the_last_number(rt: HostRuntime) {
+    let bytes = text(&rt, rt.alloc(), LAST - 1, 1, b"\x00\x00");
+    let batch = decode(rt.alloc(), &bytes).expect(&rt, "a batch");
+    assert_eq!(rt; (batch.first, batch.entries.len()), (LAST - 1, 1));
 }

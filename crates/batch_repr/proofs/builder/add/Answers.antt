@@ -1,7 +1,7 @@
 use Rattle.std.proofs.Common.{◌≡◌, ◌++◌, ◌∷◌, [], arith, ◌∙◌, sym, length}
-use Rattle.batch_repr.specs.Written.{written_entry}
-use Rattle.batch_repr.specs.Written.{written_len}
-use Rattle.batch_repr.proofs.Drafts.{ok_of, len_is, draft_more, no_room, has_room}
+use Rattle.batch_repr.specs.Written.{written_entry, written_len}
+use Rattle.batch_repr.proofs.Tools.{ok_of}
+use Rattle.batch_repr.proofs.Drafts.{len_is, draft_more, no_room, has_room}
 use Rattle.batch_repr.proofs.builder.add.Goals as goal
 
 pub returns-then-len-gt-BATCH_MAX-clause-fault : goal.returns-then-len-gt-BATCH_MAX-clause-fault

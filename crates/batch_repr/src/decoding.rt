@@ -1,0 +1,171 @@
+//! Reading a batch back from its bytes, from left to right.
+
+ghost use Rattle.std.specs.Prelude.{◌≡◌, ◌<◌, ◌≤◌, ◌^◌, [], length, IfOk, IfErr, MatchResult};
+ghost use Rattle.batch_repr.specs.declared.batch.Batch.{Batch};
+ghost use Rattle.batch_repr.specs.declared.fault.BatchFault.{BatchFault};
+ghost use Rattle.batch_repr.specs.declared.limits.TheConstants.{BATCH_MAX, NUMBER_MAX};
+ghost use Rattle.batch_repr.specs.Batches.{end_of};
+ghost use Rattle.batch_repr.specs.Spelling.{SpellsBatch};
+ghost use Rattle.batch_repr.specs.Written.{written};
+ghost use Rattle.batch_repr.specs.Building.{FitsBatch};
+ghost use Rattle.batch_repr.specs.Reading.{number_at, string_at, entry_at, Splits, HasEntryFault, IsFirstFault, ReadsAs};
+ghost use Rattle.batch_repr.specs.Returned.{Gives, GivesOrMemory, MemoryOr, OkOrMemory, ErrOrMemory};
+
+use crate::batch::{Batch, count};
+use crate::fault::{BatchFault, VarintFault};
+use crate::limits::{BATCH_MAX, HEADER, KEY_MAX, NUMBER_MAX, VALUE_MAX};
+use std::alloc::Global;
+use wal_base::{Blob, Entries, Entry};
+
+/// The number at the front, in any spelling, and the bytes after it.
+fn number_of(bytes: &[u8]) -> Result<(u32, &[u8]), VarintFault>
+    ensures exact { Gives (λ x. (x.0, x.1.now)) result (number_at bytes.now) }
+    ensures shorter { IfOk result (λ x. length x.1.now < length bytes.now) }
+{
+    let mut rest = bytes;
+    let mut value = 0u64;
+    let mut weight = 1u64;
+    for _ in 0..5u32 {
+        let Some((byte, after)) = rest.split_first() else {
+            return Err(VarintFault::Ended);
+        };
+        value += weight * u64::from(*byte % 128);
+        if *byte < 128 {
+            return match u32::try_from(value) {
+                Ok(value) => Ok((value, after)),
+                Err(_) => Err(VarintFault::Wrong),
+            };
+        }
+        weight *= 128;
+        rest = after;
+    }
+    Err(VarintFault::Wrong)
+}
+
+/// A byte string of the entry whose kind byte stands at a place, and the bytes after it. From the length of the
+/// whole the place of the string's own length is known.
+#[tactic(auto, unfolding(crate::specs::Reading::string_at))]
+fn string_of(
+    whole: usize,
+    entry: u64,
+    limit: usize,
+    bytes: &[u8],
+) -> Result<(&[u8], &[u8]), BatchFault>
+    requires { length bytes.now ≤ whole }
+    ensures exact { Gives (λ x. (x.0.now, x.1.now)) result (string_at whole entry limit bytes.now) }
+    ensures shorter { IfOk result (λ x. length x.1.now < length bytes.now) }
+{
+    let at = (whole - bytes.len()) as u64;
+    match number_of(bytes) {
+        Err(VarintFault::Ended) => Err(BatchFault::ShortEntry { at: entry }),
+        Err(VarintFault::Wrong) => Err(BatchFault::BadVarint { at }),
+        Ok((len, rest)) => {
+            let len = len as usize;
+            if limit < len {
+                Err(BatchFault::TooLong { at })
+            } else if rest.len() < len {
+                Err(BatchFault::ShortEntry { at: entry })
+            } else {
+                Ok(rest.split_at(len))
+            }
+        }
+    }
+}
+
+/// The entry at the front of what is left, and the bytes after it.
+#[tactic(auto, unfolding(crate::specs::Reading::entry_at, crate::specs::Reading::set_at, crate::specs::Reading::delete_at, crate::specs::Reading::note_at))]
+fn entry_of(alloc: Global, whole: usize, bytes: &[u8]) -> Result<(Entry, &[u8]), BatchFault>
+    requires { length bytes.now ≤ whole }
+    ensures exact { GivesOrMemory (λ x. (x.0, x.1.now)) result (entry_at whole bytes.now) }
+    ensures shorter { IfOk result (λ x. length x.1.now < length bytes.now) }
+{
+    let at = (whole - bytes.len()) as u64;
+    let Some((kind, rest)) = bytes.split_first() else {
+        return Err(BatchFault::ShortEntry { at: whole as u64 });
+    };
+    match *kind {
+        0 => {
+            let (key, rest) = string_of(whole, at, KEY_MAX, rest)?;
+            let key = Blob::copy_of(alloc, key)?;
+            Ok((Entry::Delete { key }, rest))
+        }
+        1 => {
+            let (key, rest) = string_of(whole, at, KEY_MAX, rest)?;
+            let (value, rest) = string_of(whole, at, VALUE_MAX, rest)?;
+            let key = Blob::copy_of(alloc, key)?;
+            let value = Blob::copy_of(alloc, value)?;
+            Ok((Entry::Set { key, value }, rest))
+        }
+        3 => {
+            let (bytes, rest) = string_of(whole, at, VALUE_MAX, rest)?;
+            let bytes = Blob::copy_of(alloc, bytes)?;
+            Ok((Entry::Note { bytes }, rest))
+        }
+        kind => Err(BatchFault::UnknownKind { at, kind }),
+    }
+}
+
+/// The entries behind the header, to the end.
+fn entries_of(alloc: Global, bytes: &[u8]) -> Result<Entries, BatchFault>
+    requires size { length bytes.now ≤ BATCH_MAX }
+    requires header { 12 ≤ length bytes.now }
+    ensures found { IfOk result (λ entries. Splits bytes.now entries []) }
+    ensures short { IfOk result (λ entries. length entries < 2 ^ 32) }
+    ensures fault { IfErr result (MemoryOr (HasEntryFault bytes.now)) }
+{
+    let mut entries = Entries::new(alloc);
+    let mut rest = &bytes[HEADER..];
+    while !rest.is_empty() {
+        let (entry, after) = entry_of(alloc, bytes.len(), rest)?;
+        if entries.push(entry).is_err() {
+            return Err(BatchFault::NoMemory);
+        }
+        rest = after;
+    }
+    Ok(entries)
+}
+
+/// What reading the bytes meets: a batch, or the first fault. All ways out of reading end in one contract here,
+/// from which those of [`decode`] follow.
+fn outcome(alloc: Global, bytes: &[u8]) -> Result<Batch, BatchFault>
+    ensures { MatchResult result (ReadsAs bytes.now) (MemoryOr (IsFirstFault bytes.now)) }
+{
+    if bytes.len() > BATCH_MAX {
+        return Err(BatchFault::TooLong { at: 0 });
+    }
+    let Some((head, rest)) = bytes.split_first_chunk::<8>() else {
+        return Err(BatchFault::ShortHeader);
+    };
+    let Some((said, _)) = rest.split_first_chunk::<4>() else {
+        return Err(BatchFault::ShortHeader);
+    };
+    let first = u64::from_le_bytes(*head);
+    let said = u32::from_le_bytes(*said);
+    let entries = entries_of(alloc, bytes)?;
+    let found = count(entries.as_slice());
+    if said != found {
+        return Err(BatchFault::Count { said, found });
+    }
+    if first > NUMBER_MAX - u64::from(found) {
+        return Err(BatchFault::SeqRange { first });
+    }
+    Ok(Batch { first, entries })
+}
+
+/// The batch that the bytes spell, in any spelling that is read. A batch of count 0 is one too.
+///
+/// A fault is the first one from left to right: too many bytes in all, else too few for a header, else the
+/// first fault of the first entry that has one, else the count, else the numbers. `NoMemory` may come at any
+/// time.
+pub fn decode(alloc: Global, bytes: &[u8]) -> Result<Batch, BatchFault>
+    // What is read is spelled so, and what is spelled so is read.
+    ensures found { IfOk result (SpellsBatch bytes.now) }
+    ensures only { (batch : Batch) → SpellsBatch bytes.now batch → OkOrMemory result batch }
+    // What was built and numbered is read back from the bytes that are written for it.
+    ensures written { (batch : Batch) → FitsBatch batch.entries → end_of batch ≤ NUMBER_MAX → bytes.now ≡ written batch → OkOrMemory result batch }
+    // A fault is the first one, and where there is a first fault it is answered.
+    ensures fault { IfErr result (MemoryOr (IsFirstFault bytes.now)) }
+    ensures first { (fault : BatchFault) → IsFirstFault bytes.now fault → ErrOrMemory result fault }
+{
+    outcome(alloc, bytes)
+}
