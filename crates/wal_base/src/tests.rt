@@ -24,6 +24,8 @@ fn bytes_are_kept_and_shown(rt: HostRuntime) -> Result<(), NoMemory> {
     buf.append(b"ab")?;
     buf.append(b"c")?;
     assert_eq!(rt; buf.as_slice(), b"abc".as_slice());
+    buf.truncate(2);
+    assert_eq!(rt; buf.as_slice(), b"ab".as_slice());
     buf.clear();
     assert!(rt; buf.as_slice().is_empty());
     Ok(())

@@ -1,0 +1,6 @@
+pub mod Fragments
+pub mod Chains
+mod Rows
+pub mod Laying
+pub mod Replay
+pub mod Beginnings

@@ -1,0 +1,68 @@
+-- How records are laid into the blocks of a segment (docs/FORMATS.md, "Framing").
+use Rattle.std.specs.Prelude.{ℕ, zero, suc, ◌+◌, ◌-◌, ◌%◌, List, [], ◌∷◌, ◌++◌, length, replicate, take, drop, nat_lt, if◌then◌else◌}
+use Rattle.std.specs.Int.{div_ceil}
+use Rattle.crc_chunk.specs.declared.chunk.ChunkKind.TheVariants.{Full, First, Middle, Last}
+use Rattle.crc_chunk.specs.Chunk.{chunk}
+
+-- Where a framer stands: the log number of its chunks, and the place of the next one in its block.
+pub record Standing : Type 0 where
+  pub log : ℕ
+  pub place : ℕ
+
+-- the bytes from a place to the end of its block
+abbrev pub left_in_block : ℕ → ℕ
+left_in_block at = 32768 - at % 32768
+
+-- the payload that the block of a place has room for, behind a header
+abbrev pub room_at : ℕ → ℕ
+room_at at = left_in_block at - 11
+
+-- bytes cut into this many fragments from a block's front on: each takes the room of its block, or what is left
+abbrev pub cut : ℕ → List ℕ → List (List ℕ)
+cut zero bytes = []
+cut (suc n) bytes = take (room_at 0) bytes ∷ cut n (drop (room_at 0) bytes)
+
+-- how many blocks so many bytes need, from a block's front on
+abbrev pub blocks_for : ℕ → ℕ
+blocks_for len = div_ceil len (room_at 0)
+
+-- the fragments behind the first
+abbrev pub later_fragments : List ℕ → List (List ℕ)
+later_fragments bytes = cut (blocks_for (length bytes)) bytes
+
+-- The fragments of a record that begins at a place: each takes the room of its block, or the rest of the record.
+abbrev pub fragments : ℕ → List ℕ → List (List ℕ)
+fragments at bytes = take (room_at at) bytes ∷ later_fragments (drop (room_at at) bytes)
+
+-- the chunks of the fragments behind the first
+abbrev pub later_chunks : ℕ → List (List ℕ) → List ℕ
+later_chunks log [] = []
+later_chunks log (part ∷ []) = chunk Last log part
+later_chunks log (part ∷ next ∷ parts) = chunk Middle log part ++ later_chunks log (next ∷ parts)
+
+-- the chunks of a record's fragments
+abbrev pub chunks : ℕ → List (List ℕ) → List ℕ
+chunks log [] = []
+chunks log (part ∷ []) = chunk Full log part
+chunks log (part ∷ next ∷ parts) = chunk First log part ++ later_chunks log (next ∷ parts)
+
+-- zeros where no header fits
+abbrev pub padding : ℕ → List ℕ
+padding at = if nat_lt (left_in_block at) 11 then replicate (left_in_block at) 0 else []
+
+-- bytes at a place, with the zeros behind them
+abbrev pub padded : ℕ → List ℕ → List ℕ
+padded at bytes = bytes ++ padding (at + length bytes)
+
+-- a record as it is framed at a place
+unfoldable pub framed : ℕ → ℕ → List ℕ → List ℕ
+framed log at bytes = padded at (chunks log (fragments at bytes))
+
+-- where the next record begins in its block
+abbrev pub standing_after : Standing → List ℕ → Standing
+standing_after before bytes = record before { place = (before.place + length bytes) % 32768 }
+
+-- records laid one after another from a place on
+abbrev pub laid : ℕ → ℕ → List (List ℕ) → List ℕ
+laid log at [] = []
+laid log at (bytes ∷ records) = framed log at bytes ++ laid log (at + length (framed log at bytes)) records
