@@ -1,6 +1,5 @@
 -- What a replay comes to over a disk, told of the disk before its directories were listed, and the log that it leaves.
-use Rattle.std.proofs.Common.{◌≡◌, ◌≢◌, ℕ, ◌<◌, ◌≤◌, Bool, true, false, List, Option, Some, None, refl, sym, ap, ◌∙◌, arith, subst}
-use Rattle.std.specs.Prelude.{◌↔◌, IsTrue}
+use Rattle.std.proofs.Common.{◌≡◌, ◌≢◌, ℕ, Bool, true, false, List, Option, Some, None, refl, sym, ap, ◌∙◌, arith, subst}
 use Rattle.batch_repr.specs.declared.batch.Batch.{Batch}
 use Rattle.disk_face.specs.declared.Side.TheVariants.{Primary}
 use Rattle.disk_face.specs.View.{DiskView, File, Files, files, creating}
@@ -11,7 +10,7 @@ use Rattle.wal_top.specs.declared.script.Act.{Act}
 use Rattle.wal_top.specs.declared.status.Status.{Status}
 use Rattle.wal_top.specs.declared.status.Status.TheVariants.{Read}
 use Rattle.wal_top.specs.Log.{log_place, log_bytes, HasNoSegment, KeepsLog, StoresLog}
-use Rattle.wal_top.specs.Doing.{ReplaysOver, unwritten, written, ComesTo, too_much, occupied, unlisted, replayed, ScriptComesTo, bad_line, asked}
+use Rattle.wal_top.specs.Doing.{ReplaysOver, unwritten, written, ComesTo, occupied, unlisted, replayed, ScriptComesTo, bad_line, asked}
 use Rattle.wal_top.proofs.LogBytes.{no_log}
 
 module _ (old mid new : DiskView) (goes : GoesOn old mid) (same : SameDisk old mid) where
@@ -40,16 +39,6 @@ may_create fs none = at (fs log_place) refl
     at None here = tt
     at (Some file) here = uncreated file file.created here refl
 
-never_true : false ≡ true → ⊥
-never_true e = cc
-
--- a sum that is not found to be within the most is above it
-pub above : (sum most : ℕ) (fits : Bool) → IsTrue fits ↔ (sum ≤ most) → fits ≡ false → most < sum
-above sum most fits h e = not_at (λ le. never_true (sym e ∙ h.1 le))
-  where
-    not_at : (sum ≤ most → ⊥) → most < sum
-    not_at n = omega (arith, n)
-
 -- what a script comes to is no fault of the source
 pub never_reads : (script : List ℕ) (tells : Bool) (old new : DiskView) (status : Status) (text : List ℕ) → ScriptComesTo script tells old new status text → status ≢ Read
 never_reads script tells old new _ _ (bad_line number bad same) = λ h. cc
@@ -60,7 +49,6 @@ never_reads script tells old new _ _ (asked acts status text asks comes) = of_ac
     of_replay _ _ (written batches t is stored) = λ h. cc
 
     of_acts : (s : Status) (t : List ℕ) → ComesTo acts tells old new s t → s ≢ Read
-    of_acts _ _ (too_much much same) = λ h. cc
-    of_acts _ _ (occupied fits same held) = λ h. cc
-    of_acts _ _ (unlisted side fits same rose) = λ h. cc
-    of_acts _ _ (replayed s t fits free over) = of_replay s t over
+    of_acts _ _ (occupied same held) = λ h. cc
+    of_acts _ _ (unlisted side same rose) = λ h. cc
+    of_acts _ _ (replayed s t free over) = of_replay s t over

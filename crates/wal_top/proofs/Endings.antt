@@ -1,6 +1,6 @@
 -- How a run ends, by what it had to say and by how writing it ended.
 use Rattle.std.proofs.Common.{◌≡◌, ◌≢◌, ◌⊎◌, inl, inr, ℕ, ◌≤◌, Bool, List, [], ◌∷◌, ◌++◌, length, Option, Some, None, refl, sym, ap, ◌∙◌, arith, subst}
-use Rattle.std.specs.Prelude.{IfSome, IsTrue, sum_by}
+use Rattle.std.specs.Prelude.{IfSome, IsTrue}
 use Rattle.std.proofs.lemmas.List.{append-nil, length-append}
 use Rattle.wal_base.specs.Faults.{Rose}
 use Rattle.wal_base.specs.Told.{told_front}
@@ -16,11 +16,10 @@ use Rattle.wal_top.specs.Words.{IsCommand, IsReplay}
 use Rattle.wal_top.specs.Cutting.{lines_of}
 use Rattle.wal_top.specs.Script.{LinesSay, IsAccepted, IsScript, IsFirstBad}
 use Rattle.wal_top.specs.Printing.{usage_text, read_fault_text, refused_text}
-use Rattle.wal_top.specs.Log.{log_growth, HasSegments, HasNoSegment}
-use Rattle.wal_top.specs.Reading.{ReadsWhole, TellsScript, TellsNoScript, IsNoScript, longer, bad, more_log}
-use Rattle.wal_top.proofs.OneScript.{one_script}
-use Rattle.wal_top.specs.Outcomes.{RefusesScript, AcceptsScript, AnswersScript, LogsBatches, FailsDisk, HasToSay, Wrote, WrotePart, WrotePartOf, YieldsTo, Ended, IsBeforeDisk}
-use Rattle.wal_top.specs.Outcomes.{usage, read_fault, refused, occupied, failed, replayed, too_long, bad_line, too_much_log, unlisted, unwritten, whole, fault, shortage}
+use Rattle.wal_top.specs.Log.{HasSegments, HasNoSegment}
+use Rattle.wal_top.specs.Reading.{ReadsWhole, ReadsScript, TellsScript, TellsNoScript, IsNoScript, longer, bad}
+use Rattle.wal_top.specs.Outcomes.{RefusesScript, AnswersScript, LogsBatches, FailsDisk, HasToSay, Wrote, WrotePart, WrotePartOf, YieldsTo, Ended, IsBeforeDisk}
+use Rattle.wal_top.specs.Outcomes.{usage, read_fault, refused, occupied, failed, replayed, too_long, bad_line, unlisted, unwritten, whole, fault, shortage}
 
 -- ---- how writing ended
 
@@ -74,23 +73,16 @@ not_refused before after _ told (too_long more) = omega (arith, more.past, told.
 not_refused before after _ told (bad_line number b) =
     let same_script : b.script ≡ told.script = read_is_told before after b.script told.script b.whole told.told_is in
     no_bad_line told.script told.good.acts number told.good.asks (subst (λ (t : List ℕ). IsFirstBad (lines_of t) number) same_script b.bad)
-not_refused before after _ told (too_much_log acts r much) =
-    let same_script : r.script ≡ told.script = read_is_told before after r.script told.script r.whole told.told_is in
-    let same_acts : acts ≡ told.good.acts = one_script told.script acts told.good.acts (subst (λ (t : List ℕ). IsScript t acts) same_script r.asks) told.good.asks in
-    omega (arith, much, told.good.fits, ap (sum_by log_growth) same_acts)
 
--- A script that is too long, has a bad line, or asks for too much log is not accepted.
-pub not_accepted : (before after : Option (List ℕ)) (acts : List Act) → TellsNoScript before → AcceptsScript before after acts → ⊥
+-- A script that is too long, or has a bad line, is not accepted.
+pub not_accepted : (before after : Option (List ℕ)) (acts : List Act) → TellsNoScript before → ReadsScript before acts after → ⊥
 not_accepted before after acts told a =
-    let same_script : a.script.script ≡ told.script = read_is_told before after a.script.script told.script a.script.whole told.told_is in
+    let same_script : a.script ≡ told.script = read_is_told before after a.script told.script a.whole told.told_is in
     wrong same_script told.wrong
   where
-    wrong : a.script.script ≡ told.script → IsNoScript told.script → ⊥
-    wrong e (longer past) = omega (arith, past, a.script.within, ap length e)
-    wrong e (bad number short b) = no_bad_line a.script.script acts number a.script.asks (subst (λ (t : List ℕ). IsFirstBad (lines_of t) number) (sym e) b)
-    wrong e (more_log others short asks much) =
-        let same_acts : acts ≡ others = one_script told.script acts others (subst (λ (t : List ℕ). IsScript t acts) e a.script.asks) asks in
-        omega (arith, a.fits, much, ap (sum_by log_growth) same_acts)
+    wrong : a.script ≡ told.script → IsNoScript told.script → ⊥
+    wrong e (longer past) = omega (arith, past, a.within, ap length e)
+    wrong e (bad number short b) = no_bad_line a.script acts number a.asks (subst (λ (t : List ℕ). IsFirstBad (lines_of t) number) (sym e) b)
 
 -- Then the disk was not reached.
 not_failed : (before after : Option (List ℕ)) (tells : Bool) (old new : DiskView) (text : List ℕ) → TellsNoScript before → FailsDisk before after tells old new text → ⊥

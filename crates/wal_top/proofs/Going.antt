@@ -4,10 +4,6 @@ use Rattle.std.specs.Prelude.{sum_by}
 use Rattle.std.specs.List.{filter_map}
 use Rattle.std.proofs.lemmas.List.{append-nil, length-append, take_at, take_all}
 use Rattle.std.proofs.lemmas.List.Sums.{sum_by-cons}
-use Rattle.std.proofs.lemmas.Grind.{flat_map-append}
-use Rattle.crc_chunk.specs.declared.chunk.ChunkKind.TheVariants.{Full}
-use Rattle.crc_chunk.specs.Chunk.{chunk}
-use Rattle.batch_repr.specs.Written.{written}
 use Rattle.batch_repr.specs.declared.batch.Batch.{Batch}
 use Rattle.batch_repr.specs.declared.limits.TheConstants.{NUMBER_MAX}
 use Rattle.batch_repr.specs.Batches.{count_of, IsContiguous, end_after, answer}
@@ -15,8 +11,7 @@ use Rattle.wal_top.specs.declared.script.Act.{Act}
 use Rattle.wal_top.specs.declared.script.Act.TheVariants.{Commit, Get}
 use Rattle.wal_top.specs.Printing.{end_line}
 use Rattle.wal_top.specs.Replay.{FIRST, committed, numbers_taken, batches_added, reply_line, reply_lines}
-use Rattle.wal_top.specs.declared.log.TheConstants.{LOG_MAX}
-use Rattle.wal_top.specs.Log.{log_bytes, log_growth}
+use Rattle.wal_top.specs.Log.{log_bytes}
 use Rattle.wal_top.specs.Doing.{batch_made, DoesAct, IsReplay}
 use Rattle.wal_top.proofs.Numbering.{end_after-push}
 
@@ -31,14 +26,13 @@ pub record GoesOn (acts : List Act) (batches : List Batch) (rest : List Act) (te
   pub text_is : text ++ reply_lines (made FIRST acts) (length batches) rest ≡ reply_lines (made FIRST acts) 0 acts
   pub room : end_after FIRST batches + sum_by numbers_taken rest ≤ NUMBER_MAX
   pub log_is : log ≡ log_bytes batches
-  pub fits : sum_by log_growth rest ≤ LOG_MAX
 
-pub goes_from : (acts : List Act) (batches : List Batch) (text log : List ℕ) → batches ≡ [] → text ≡ [] → log ≡ [] → FIRST + sum_by numbers_taken acts ≤ NUMBER_MAX → sum_by log_growth acts ≤ LOG_MAX
+pub goes_from : (acts : List Act) (batches : List Batch) (text log : List ℕ) → batches ≡ [] → text ≡ [] → log ≡ [] → FIRST + sum_by numbers_taken acts ≤ NUMBER_MAX
     → GoesOn acts batches acts text log
 unfolding end_after log_bytes
-goes_from acts batches text log none empty no_log room fits =
+goes_from acts batches text log none empty no_log room =
     subst (λ (bs : List Batch). GoesOn acts bs acts text log) (sym none)
-    (subst (λ (t : List ℕ). GoesOn acts [] acts t log) (sym empty) (record { history = refl; text_is = refl; room = room; log_is = no_log; fits = fits }))
+    (subst (λ (t : List ℕ). GoesOn acts [] acts t log) (sym empty) (record { history = refl; text_is = refl; room = room; log_is = no_log }))
 
 end_after-made : (batches : List Batch) (act : Act) → end_after FIRST (batches ++ batch_made (end_after FIRST batches) act) ≡ end_after FIRST batches + numbers_taken act
 end_after-made batches (Commit entries) = end_after-push FIRST batches (record { first = end_after FIRST batches; entries = entries })
@@ -58,10 +52,6 @@ reply_behind batches more act =
     cases : (a : Act) → take (length batches) (batches ++ more) ≡ take (length batches) batches → reply_line (batches ++ more) (length batches) a ≡ reply_line batches (length batches) a
     cases (Commit entries) front = rw front refl
     cases (Get key) front = rw front refl
-
-log_behind : (old more : List Batch) → log_bytes (old ++ more) ≡ log_bytes old ++ log_bytes more
-unfolding log_bytes
-log_behind old more = flat_map-append (λ (batch : Batch). chunk Full 1 (written batch)) old more
 
 -- one act more
 pub goes_on : (acts : List Act) (old new : List Batch) (act : Act) (before rest : List Act) (text text' log log' : List ℕ) → GoesOn acts old before text log → before ≡ act ∷ rest → DoesAct act old new log log' text text'
@@ -84,8 +74,7 @@ goes_on acts old new act before rest text text' log log' g e d =
           ∙ ap (λ (t : List ℕ). text ++ (t ++ reply_lines whole (length new) rest)) (sym reply) ∙ ap (λ (n : ℕ). text ++ (reply_line whole (length old) act ++ reply_lines whole n rest)) longer
           ∙ ap (λ (t : List Act). text ++ reply_lines whole (length old) t) (sym e) ∙ g.text_is;
       room = omega (arith, g.room, next, sums);
-      log_is = d.chunks ∙ ap (λ (t : List ℕ). t ++ log_bytes one) g.log_is ∙ sym (log_behind old one) ∙ ap log_bytes (sym d.batches);
-      fits = omega (arith, g.fits, ap (sum_by log_growth) e, sum_by-cons log_growth act rest);
+      log_is = d.logged g.log_is;
     }
 
 made_committed : (from : ℕ) (acts : List Act) → map (λ (batch : Batch). batch.entries) (made from acts) ≡ filter_map committed acts

@@ -1,9 +1,9 @@
 -- One act of a replay, as the history, the log and the replies tell it.
-use Rattle.std.proofs.Common.{◌≡◌, ℕ, List, [], ◌∷◌, ◌++◌, length, Option, sym, ap, ◌∙◌, arith, subst}
-use Rattle.std.proofs.lemmas.List.{append-nil, take_all}
+use Rattle.std.proofs.Common.{◌≡◌, ℕ, ◌%◌, List, [], ◌∷◌, ◌++◌, length, map, Option, sym, ap, ◌∙◌, arith, subst}
+use Rattle.std.proofs.lemmas.List.{append-nil, take_all, map-append}
 use Rattle.wal_base.specs.declared.entry.Entry.{Entry}
-use Rattle.crc_chunk.specs.declared.chunk.ChunkKind.TheVariants.{Full}
-use Rattle.crc_chunk.specs.Chunk.{chunk}
+use Rattle.block_record.specs.Framing.{framed, laid}
+use Rattle.block_record.proofs.Laying.{one_more}
 use Rattle.batch_repr.specs.declared.batch.Batch.{Batch}
 use Rattle.batch_repr.specs.Batches.{count_of, end_after, answer}
 use Rattle.batch_repr.specs.Written.{written}
@@ -18,21 +18,22 @@ use Rattle.wal_top.specs.Doing.{DoesAct}
 visible_now : (batches : List Batch) → visible_after batches (length batches) ≡ end_after FIRST batches
 visible_now batches = ap (end_after FIRST) (take_all (length batches) batches (omega arith))
 
-log_of_one : (batch : Batch) → log_bytes (batch ∷ []) ≡ chunk Full LOG (written batch)
+-- one batch more is one record more
+log_of_more : (old : List Batch) (batch : Batch) → log_bytes (old ++ batch ∷ []) ≡ log_bytes old ++ framed LOG (length (log_bytes old) % 32768) (written batch)
 unfolding log_bytes
-log_of_one batch = append-nil (chunk Full LOG (written batch))
+log_of_more old batch = ap (laid LOG 0) (map-append written old (batch ∷ [])) ∙ one_more LOG (map written old) (written batch)
 
-log_of_none : (log : List ℕ) → log ≡ log ++ log_bytes []
-unfolding log_bytes
-log_of_none log = sym (append-nil log)
+-- the log grows by the record of a batch
+grown : (old : List Batch) (batch : Batch) (log log' : List ℕ) → log' ≡ log ++ framed LOG (length log % 32768) (written batch) → log ≡ log_bytes old → log' ≡ log_bytes (old ++ batch ∷ [])
+grown old batch log log' grows is = grows ∙ ap (λ (t : List ℕ). t ++ framed LOG (length t % 32768) (written batch)) is ∙ sym (log_of_more old batch)
 
 pub does_commit : (act : Act) (entries : List Entry) (numbered : Batch) (old new : List Batch) (log log' text text' : List ℕ) (first count : ℕ) → act ≡ Commit entries → numbered ≡ record { first = end_after FIRST old; entries = entries }
-    → new ≡ old ++ record { first = end_after FIRST old; entries = entries } ∷ [] → log' ≡ log ++ chunk Full LOG (written numbered) → first ≡ numbered.first → count ≡ count_of numbered.entries
+    → new ≡ old ++ record { first = end_after FIRST old; entries = entries } ∷ [] → log' ≡ log ++ framed LOG (length log % 32768) (written numbered) → first ≡ numbered.first → count ≡ count_of numbered.entries
     → text' ≡ text ++ commit_line 0 first count → DoesAct act old new log log' text text'
 does_commit act entries numbered old new log log' text text' first count is numbered_is new_is log_is first_is count_is text_is =
     subst (λ (a : Act). DoesAct a old new log log' text text') (sym is) (record {
       batches = new_is;
-      chunks = log_is ∙ ap (λ (b : Batch). log ++ chunk Full LOG (written b)) numbered_is ∙ ap (λ (t : List ℕ). log ++ t) (sym (log_of_one (record { first = end_after FIRST old; entries = entries })));
+      logged = λ is. grown old numbered log log' log_is is ∙ ap (λ (b : Batch). log_bytes (old ++ b ∷ [])) numbered_is ∙ ap log_bytes (sym new_is);
       reply = text_is ∙ ap (λ (n : ℕ). text ++ commit_line 0 n count) (first_is ∙ ap (λ (b : Batch). b.first) numbered_is ∙ sym (visible_now old))
           ∙ ap (λ (n : ℕ). text ++ commit_line 0 (visible_after old (length old)) n) (count_is ∙ ap (λ (b : Batch). count_of b.entries) numbered_is);
     })
@@ -42,7 +43,7 @@ pub does_get : (act : Act) (key asked told : List ℕ) (old : List Batch) (log t
 does_get act key asked told old log text text' value visible is asked_is told_is value_is visible_is text_is =
     subst (λ (a : Act). DoesAct a old old log log text text') (sym is) (record {
       batches = sym (append-nil old);
-      chunks = log_of_none log;
+      logged = λ is. is;
       reply = text_is ∙ ap (λ (k : List ℕ). text ++ get_line 0 k value visible) told_is ∙ ap (λ (v : Option (List ℕ)). text ++ get_line 0 key v visible) (value_is ∙ ap (answer old (length old)) asked_is)
           ∙ ap (λ (n : ℕ). text ++ get_line 0 key (answer old (length old) key) n) (visible_is ∙ sym (visible_now old));
     })

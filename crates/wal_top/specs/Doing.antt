@@ -1,5 +1,5 @@
 -- How a replay goes on, act by act, and what it comes to. Nothing of it is seen from outside.
-use Rattle.std.specs.Prelude.{◌≡◌, ℕ, ◌<◌, ◌≤◌, sum_by, Bool, IsTrue, List, [], ◌∷◌, ◌++◌, length}
+use Rattle.std.specs.Prelude.{◌≡◌, ℕ, Bool, IsTrue, List, [], ◌∷◌, ◌++◌, length}
 use Rattle.wal_base.specs.Faults.{Rose}
 use Rattle.batch_repr.specs.declared.batch.Batch.{Batch}
 use Rattle.batch_repr.specs.Batches.{end_after}
@@ -13,20 +13,19 @@ use Rattle.wal_top.specs.declared.status.Status.{Status}
 use Rattle.wal_top.specs.declared.status.Status.TheVariants.{Done, Script, Disk, Refused}
 use Rattle.wal_top.specs.Cutting.{lines_of}
 use Rattle.wal_top.specs.Script.{IsScript, IsFirstBad}
-use Rattle.wal_top.specs.Printing.{bad_line_text, too_long_text, refused_text, disk_fault_text}
+use Rattle.wal_top.specs.Printing.{bad_line_text, refused_text, disk_fault_text}
 use Rattle.wal_top.specs.Replay.{FIRST, reply_line, IsReplayText}
-use Rattle.wal_top.specs.declared.log.TheConstants.{LOG_MAX}
-use Rattle.wal_top.specs.Log.{log_bytes, log_growth, HasSegments, HasNoSegment, StoresLog}
+use Rattle.wal_top.specs.Log.{log_bytes, HasSegments, HasNoSegment, StoresLog}
 
 -- the batch that an act makes, numbered from here, if it makes one
 abbrev pub batch_made : ℕ → Act → List Batch
 batch_made first (Commit entries) = record { first = first; entries = entries } ∷ []
 batch_made first (Get key) = []
 
--- The act adds its batch behind the old ones, its chunk behind the old log, and its reply behind the old text.
+-- The act adds its batch behind the old ones, its record to their log, and its reply behind the old text.
 pub record DoesAct (act : Act) (old new : List Batch) (log log' text text' : List ℕ) : Type 0 where
   pub batches : new ≡ old ++ batch_made (end_after FIRST old) act
-  pub chunks : log' ≡ log ++ log_bytes (batch_made (end_after FIRST old) act)
+  pub logged : log ≡ log_bytes old → log' ≡ log_bytes new
   pub reply : text' ≡ text ++ reply_line old (length old) act
 
 -- A replay of the acts: this text, and the log of the same batches.
@@ -42,10 +41,9 @@ pub data ReplaysOver (acts : List Act) (tells : Bool) (old new : DiskView) : Sta
 
 -- What the acts of a script come to over a disk.
 pub data ComesTo (acts : List Act) (tells : Bool) (old new : DiskView) : Status → List ℕ → Type 0 where
-  too_much : LOG_MAX < sum_by log_growth acts → new ≡ old → ComesTo acts tells old new Script too_long_text
-  occupied : sum_by log_growth acts ≤ LOG_MAX → SameDisk old new → (IsTrue tells → HasSegments (files old)) → ComesTo acts tells old new Refused refused_text
-  unlisted : (side : Side) → sum_by log_growth acts ≤ LOG_MAX → SameDisk old new → Rose (old.faults side) (new.faults side) → ComesTo acts tells old new Disk (disk_fault_text side)
-  replayed : (status : Status) (text : List ℕ) → sum_by log_growth acts ≤ LOG_MAX → (IsTrue tells → HasNoSegment (files old)) → ReplaysOver acts tells old new status text → ComesTo acts tells old new status text
+  occupied : SameDisk old new → (IsTrue tells → HasSegments (files old)) → ComesTo acts tells old new Refused refused_text
+  unlisted : (side : Side) → SameDisk old new → Rose (old.faults side) (new.faults side) → ComesTo acts tells old new Disk (disk_fault_text side)
+  replayed : (status : Status) (text : List ℕ) → (IsTrue tells → HasNoSegment (files old)) → ReplaysOver acts tells old new status text → ComesTo acts tells old new status text
 
 -- What the bytes of a script come to over a disk: they have a first bad line, or they ask for acts.
 pub data ScriptComesTo (script : List ℕ) (tells : Bool) (old new : DiskView) : Status → List ℕ → Type 0 where

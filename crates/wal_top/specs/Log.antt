@@ -1,18 +1,14 @@
--- The log of a run: the chunks of its batches, in one segment (docs/FORMATS.md, "The log of a run").
-use Rattle.std.specs.Prelude.{◌≡◌, ◌≢◌, ℕ, ◌+◌, true, List, [], Some}
-use Rattle.std.specs.List.{flat_map}
-use Rattle.crc_chunk.specs.declared.chunk.ChunkKind.TheVariants.{Full}
-use Rattle.crc_chunk.specs.Chunk.{chunk}
+-- The log of a run: the records of its batches, in one segment (docs/FORMATS.md, "The log of a run").
+use Rattle.std.specs.Prelude.{◌≡◌, ◌≢◌, ℕ, true, List, [], map, Some}
+use Rattle.block_record.specs.Framing.{laid}
 use Rattle.batch_repr.specs.declared.batch.Batch.{Batch}
-use Rattle.batch_repr.specs.Written.{written, written_len}
+use Rattle.batch_repr.specs.Written.{written}
 use Rattle.disk_face.specs.declared.Side.{Side}
 use Rattle.disk_face.specs.declared.Side.TheVariants.{Primary}
 use Rattle.disk_face.specs.declared.SegName.{SegName}
 use Rattle.disk_face.specs.View.{Place, segment, File, Files}
 use Rattle.disk_face.specs.Listing.{IsSegmentName}
 use Rattle.disk_face.specs.Tables.{whole}
-use Rattle.wal_top.specs.declared.script.Act.{Act}
-use Rattle.wal_top.specs.declared.script.Act.TheVariants.{Commit, Get}
 
 -- the number of the one log
 abbrev pub LOG : ℕ
@@ -22,14 +18,9 @@ LOG = 1
 abbrev pub log_place : Place
 log_place = segment Primary (record { wal = 1; index = 0 })
 
--- one Full chunk for each batch
+-- one record for each batch, laid from the front of the segment on
 unfoldable pub log_bytes : List Batch → List ℕ
-log_bytes batches = flat_map (λ (batch : Batch). chunk Full LOG (written batch)) batches
-
--- how many bytes an act adds to the log: a header and the written batch
-abbrev pub log_growth : Act → ℕ
-log_growth (Commit entries) = 11 + written_len entries
-log_growth (Get key) = 0
+log_bytes batches = laid LOG 0 (map written batches)
 
 -- A created segment stands there, under a name that is one.
 pub record IsSegment (files : Files) (side : Side) (name : SegName) : Type 0 where
@@ -56,14 +47,18 @@ pub record HasSegments (files : Files) : Type 0 where
 abbrev pub HasNoSegment : Files → Type 0
 HasNoSegment files = (side : Side) → HasNoSegmentOn files side
 
+-- No file but the log changed.
+abbrev pub OthersStay : Files → Files → Type 0
+OthersStay old new = (p : Place) → p ≢ log_place → new p ≡ old p
+
 -- The log stands whole and stable, if it has bytes, and no other file changed.
 pub record KeepsLog (log : List ℕ) (old new : Files) : Type 0 where
   pub kept : log ≢ [] → new log_place ≡ Some (whole log)
   pub nothing : log ≡ [] → new log_place ≡ old log_place
-  pub others : (p : Place) → p ≢ log_place → new p ≡ old p
+  pub others : OthersStay old new
 
 -- The log of the batches stands whole and stable, if there are batches, and no other file changed.
 pub record StoresLog (batches : List Batch) (old new : Files) : Type 0 where
   pub log : batches ≢ [] → new log_place ≡ Some (whole (log_bytes batches))
   pub nothing : batches ≡ [] → new log_place ≡ old log_place
-  pub others : (p : Place) → p ≢ log_place → new p ≡ old p
+  pub others : OthersStay old new

@@ -1,5 +1,5 @@
 -- What a run has to say, and how writing it ends (docs/FORMATS.md, "Statuses").
-use Rattle.std.specs.Prelude.{◌≡◌, ◌⊎◌, ℕ, ◌<◌, ◌≤◌, sum_by, Bool, IsTrue, List, ◌++◌, Option}
+use Rattle.std.specs.Prelude.{◌≡◌, ◌⊎◌, ℕ, Bool, IsTrue, List, ◌++◌, Option}
 use Rattle.wal_base.specs.Faults.{Rose}
 use Rattle.wal_base.specs.Told.{told_back}
 use Rattle.batch_repr.specs.declared.batch.Batch.{Batch}
@@ -13,25 +13,18 @@ use Rattle.wal_top.specs.declared.script.Act.{Act}
 use Rattle.wal_top.specs.Words.{IsCommand, IsReplay}
 use Rattle.wal_top.specs.Printing.{usage_text, read_fault_text, too_long_text, bad_line_text, refused_text, disk_fault_text}
 use Rattle.wal_top.specs.Replay.{IsReplayText}
-use Rattle.wal_top.specs.declared.log.TheConstants.{LOG_MAX}
-use Rattle.wal_top.specs.Log.{log_growth, HasSegments, HasNoSegment, StoresLog}
+use Rattle.wal_top.specs.Log.{HasSegments, HasNoSegment, StoresLog}
 use Rattle.wal_top.specs.Reading.{ReadsScript, ReadsTooMuch, ReadsBadLine}
 
--- A script of the source was refused with this text: for its length, for its first bad line, or for the length of its log.
+-- A script of the source was refused with this text: for its length, or for its first bad line.
 pub data RefusesScript (before after : Option (List ℕ)) : List ℕ → Type 0 where
   too_long : ReadsTooMuch before after → RefusesScript before after too_long_text
   bad_line : (number : ℕ) → ReadsBadLine before number after → RefusesScript before after (bad_line_text number)
-  too_much_log : (acts : List Act) → ReadsScript before acts after → LOG_MAX < sum_by log_growth acts → RefusesScript before after too_long_text
-
--- The script of the source is accepted, asks for these acts, and their log fits one block.
-pub record AcceptsScript (before after : Option (List ℕ)) (acts : List Act) : Type 0 where
-  pub script : ReadsScript before acts after
-  pub fits : sum_by log_growth acts ≤ LOG_MAX
 
 -- The accepted script was replayed: these are its batches, and this is the text of its answers.
 pub record AnswersScript (before after : Option (List ℕ)) (batches : List Batch) (text : List ℕ) : Type 0 where
   pub acts : List Act
-  pub accepts : AcceptsScript before after acts
+  pub accepts : ReadsScript before acts after
   pub answers : IsReplayText acts batches text
 
 -- The directories held no segment, and now hold the log of these batches, where the disk tells its files.
@@ -41,7 +34,7 @@ pub record LogsBatches (tells : Bool) (batches : List Batch) (old new : DiskView
 
 -- The disk failed, and this is the text: one side could not be listed, or the log of the answered script was not written.
 pub data FailsDisk (before after : Option (List ℕ)) (tells : Bool) (old new : DiskView) : List ℕ → Type 0 where
-  unlisted : (acts : List Act) (side : Side) → AcceptsScript before after acts → SameDisk old new → Rose (old.faults side) (new.faults side) → FailsDisk before after tells old new (disk_fault_text side)
+  unlisted : (acts : List Act) (side : Side) → ReadsScript before acts after → SameDisk old new → Rose (old.faults side) (new.faults side) → FailsDisk before after tells old new (disk_fault_text side)
   unwritten : (batches : List Batch) (text : List ℕ) → AnswersScript before after batches text → (IsTrue tells → HasNoSegment (files old))
       → Rose (old.faults Primary) (new.faults Primary) → FailsDisk before after tells old new text
 
@@ -50,7 +43,7 @@ pub data HasToSay (words : List (List ℕ)) (before after : Option (List ℕ)) (
   usage : (IsCommand words → ⊥) → after ≡ before → new ≡ old → HasToSay words before after tells old new Usage usage_text
   read_fault : IsReplay words → new ≡ old → HasToSay words before after tells old new Read read_fault_text
   refused : (text : List ℕ) → IsReplay words → new ≡ old → RefusesScript before after text → HasToSay words before after tells old new Script text
-  occupied : (acts : List Act) → IsReplay words → AcceptsScript before after acts → SameDisk old new → (IsTrue tells → HasSegments (files old)) → HasToSay words before after tells old new Refused refused_text
+  occupied : (acts : List Act) → IsReplay words → ReadsScript before acts after → SameDisk old new → (IsTrue tells → HasSegments (files old)) → HasToSay words before after tells old new Refused refused_text
   failed : (text : List ℕ) → IsReplay words → FailsDisk before after tells old new text → HasToSay words before after tells old new Disk text
   replayed : (batches : List Batch) (text : List ℕ) → IsReplay words → AnswersScript before after batches text → LogsBatches tells batches old new
       → HasToSay words before after tells old new Done text

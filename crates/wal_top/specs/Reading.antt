@@ -1,12 +1,10 @@
 -- What a run takes of its source (docs/FORMATS.md, "The script").
-use Rattle.std.specs.Prelude.{◌≡◌, ℕ, ◌<◌, ◌≤◌, sum_by, List, [], ◌++◌, length, Option, Some, IfSome}
+use Rattle.std.specs.Prelude.{◌≡◌, ℕ, ◌<◌, ◌≤◌, List, [], ◌++◌, length, Option, Some, IfSome}
 use Rattle.wal_base.specs.Told.{told_front}
 use Rattle.wal_top.specs.declared.reading.TheConstants.{SCRIPT_MAX}
 use Rattle.wal_top.specs.declared.script.Act.{Act}
 use Rattle.wal_top.specs.Cutting.{lines_of}
 use Rattle.wal_top.specs.Script.{IsScript, IsFirstBad}
-use Rattle.wal_top.specs.declared.log.TheConstants.{LOG_MAX}
-use Rattle.wal_top.specs.Log.{log_growth}
 
 -- So many bytes were taken of the source, and stand behind the old ones.
 pub record AddsPiece (count : ℕ) (before after : Option (List ℕ)) (old new : List ℕ) : Type 0 where
@@ -46,18 +44,16 @@ pub record ReadsBadLine (before : Option (List ℕ)) (number : ℕ) (after : Opt
   pub within : length script ≤ SCRIPT_MAX
   pub bad : IsFirstBad (lines_of script) number
 
--- The script is accepted, and the log of what it asks for fits one block.
+-- The script is accepted.
 pub record IsGoodScript (script : List ℕ) : Type 0 where
   pub within : length script ≤ SCRIPT_MAX
   pub acts : List Act
   pub asks : IsScript script acts
-  pub fits : sum_by log_growth acts ≤ LOG_MAX
 
--- The script is too long, has a bad line, or asks for more log than one block holds.
+-- The script is too long, or has a bad line.
 pub data IsNoScript (script : List ℕ) : Type 0 where
   longer : SCRIPT_MAX < length script → IsNoScript script
   bad : (number : ℕ) → length script ≤ SCRIPT_MAX → IsFirstBad (lines_of script) number → IsNoScript script
-  more_log : (acts : List Act) → length script ≤ SCRIPT_MAX → IsScript script acts → LOG_MAX < sum_by log_growth acts → IsNoScript script
 
 -- The source tells a script that is accepted.
 pub record TellsScript (told : Option (List ℕ)) : Type 0 where

@@ -5,6 +5,10 @@ use Rattle.disk_face.specs.View.{Place, Files}
 use Rattle.disk_face.specs.Calls.{flight_of, place_of, bytes_of, after_start, AfterDone}
 use Rattle.disk_face.specs.Tables.{whole}
 
+-- No file but that one changed.
+abbrev pub OtherFilesStay : Place → Files → Files → Type 0
+OtherFilesStay place old new = (p : Place) → p ≢ place → new p ≡ old p
+
 -- The operation was done, and no other file changed.
 pub record IsPerformed (op : DiskOp) (old new : Files) : Type 0 where
   pub here : AfterDone (flight_of op).act (after_start (flight_of op).act (bytes_of op) (old (place_of op))) (new (place_of op))

@@ -1,7 +1,7 @@
 //! The top call: `run` does all that the program does, over streams, a disk and a gate that are handed in.
 //!
-//! Stands on `batch_repr` for the batches, on `crc_chunk` for the chunks of a log, on `disk_face` for what a disk
-//! is, and on `wal_base` for bytes and streams. The program above uses one contract, that of `run`: which text is
+//! Stands on `batch_repr` for the batches, on `block_record` for the records of a log, on `disk_face` for what a
+//! disk is, and on `wal_base` for bytes and streams. The program above uses one contract, that of `run`: which text is
 //! written, with which status, and which log is left, by the words, the source and the disk.
 //!
 //! A run goes through the rooms in this order, and writes no text before the last: `words` (which command),
@@ -29,7 +29,6 @@ mod writing;
 
 pub use gate::{Gate, GatePoint, NoGate};
 pub use laws::a_script_asks_for_one_list_of_acts;
-pub use log::LOG_MAX;
 pub use reading::SCRIPT_MAX;
 pub use script::Act;
 pub use status::{Ran, Status};

@@ -3,13 +3,11 @@
 ghost use Rattle.std.specs.Prelude.{◌≡◌, ◌+◌, ◌≤◌, sum_by, IfOk, OnOk};
 ghost use Rattle.batch_repr.specs.declared.limits.TheConstants.{NUMBER_MAX};
 ghost use Rattle.batch_repr.specs.Batches.{end_after};
-ghost use Rattle.wal_top.specs.declared.log.TheConstants.{LOG_MAX};
-ghost use Rattle.wal_top.specs.Log.{log_growth};
 ghost use Rattle.wal_top.specs.Replay.{FIRST, numbers_taken};
 ghost use Rattle.wal_top.specs.Doing.{DoesAct, IsReplay};
 
 use crate::history::History;
-use crate::log::put_record;
+use crate::log::Log;
 use crate::replies::{put_commit, put_end, put_get};
 use crate::script::Act;
 use std::alloc::Global;
@@ -19,29 +17,28 @@ use wal_base::{Buf, NoMemory};
 /// The one session of this stage.
 const SESSION: u32 = 0;
 
-/// What a replay comes to: the whole text of its answers, and the bytes of its log.
+/// What a replay comes to: the whole text of its answers, and its log.
 #[derive(Debug, Drop)]
 pub(crate) struct Replayed {
     pub(crate) text: Buf,
-    pub(crate) log: Buf,
+    pub(crate) log: Log,
 }
 
-/// Does an act after those before it, and adds its reply and its chunk. After an `Err` neither is to be used.
+/// Does an act after those before it, and adds its reply and its record. After an `Err` neither is to be used.
 fn do_act(
     alloc: Global,
     history: &mut History,
-    log: &mut Buf,
+    log: &mut Log,
     text: &mut Buf,
     act: Act,
 ) -> Result<(), NoMemory>
     requires numbers { end_after FIRST history.old + numbers_taken act ≤ NUMBER_MAX }
-    requires fits { log_growth act ≤ LOG_MAX }
     ensures { OnOk result (DoesAct act history.old history.new log.old log.new text.old text.new) }
 {
     match act {
         Act::Commit { batch } => {
             let numbered = history.commit(batch)?;
-            put_record(log, &numbered)?;
+            log.add(&numbered)?;
             put_commit(alloc, text, SESSION, numbered.first(), numbered.count())
         }
         Act::Get { key } => {
@@ -55,11 +52,10 @@ fn do_act(
 /// Does all acts of a script in their order.
 pub(crate) fn replay(alloc: Global, mut acts: VecDeque<Act>) -> Result<Replayed, NoMemory>
     requires numbers { FIRST + sum_by numbers_taken acts.items ≤ NUMBER_MAX }
-    requires fits { sum_by log_growth acts.items ≤ LOG_MAX }
     ensures { IfOk result (λ replayed. IsReplay acts.items replayed.text replayed.log) }
 {
     let mut history = History::new(alloc);
-    let mut log = Buf::new(alloc)?;
+    let mut log = Log::new(alloc)?;
     let mut text = Buf::new(alloc)?;
     while let Some(act) = acts.pop_front() {
         do_act(alloc, &mut history, &mut log, &mut text, act)?;

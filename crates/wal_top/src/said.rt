@@ -9,12 +9,10 @@ ghost use Rattle.disk_face.specs.Calls.{GoesOn};
 ghost use Rattle.wal_top.specs.declared.reading.TheConstants.{SCRIPT_MAX};
 ghost use Rattle.wal_top.specs.Printing.{disk_fault_text};
 ghost use Rattle.wal_top.specs.Replay.{FIRST, numbers_taken};
-ghost use Rattle.wal_top.specs.declared.log.TheConstants.{LOG_MAX};
-ghost use Rattle.wal_top.specs.Log.{log_growth, HasNoSegment, KeepsLog};
+ghost use Rattle.wal_top.specs.Log.{HasNoSegment, KeepsLog, OthersStay};
 ghost use Rattle.wal_top.specs.Doing.{ReplaysOver, ComesTo, ScriptComesTo};
 
 use crate::directories::{ListError, hold_segment};
-use crate::log::fits_log;
 use crate::replay::{Replayed, replay};
 use crate::script::{Act, ScriptError, read_script};
 use crate::status::Status;
@@ -56,6 +54,8 @@ fn keep_log<D: Disk>(disk: &mut D, log: &[u8]) -> Result<(), DiskErr>
     requires idle { NothingInFlight (D.view disk.old) }
     requires free { IsTrue D.tells → HasNoSegment (files (D.view disk.old)) }
     ensures goes_on { GoesOn (D.view disk.old) (D.view disk.new) }
+    ensures idle { NothingInFlight (D.view disk.new) }
+    ensures others { IsTrue D.tells → OthersStay (files (D.view disk.old)) (files (D.view disk.new)) }
     ensures kept { OnOk result (IsTrue D.tells → KeepsLog log.now (files (D.view disk.old)) (files (D.view disk.new))) }
     ensures failed { IsErrOf result DiskErr.Failed → Rose ((D.view disk.old).faults sides.Primary) ((D.view disk.new).faults sides.Primary) }
 {
@@ -68,10 +68,11 @@ fn keep_log<D: Disk>(disk: &mut D, log: &[u8]) -> Result<(), DiskErr>
 /// Does the acts over a disk whose directories are free.
 fn replayed<D: Disk>(alloc: Global, acts: VecDeque<Act>, disk: &mut D) -> Result<Said, NoMemory>
     requires numbers { FIRST + sum_by numbers_taken acts.items ≤ NUMBER_MAX }
-    requires fits { sum_by log_growth acts.items ≤ LOG_MAX }
     requires idle { NothingInFlight (D.view disk.old) }
     requires free { IsTrue D.tells → HasNoSegment (files (D.view disk.old)) }
     ensures goes_on { GoesOn (D.view disk.old) (D.view disk.new) }
+    ensures idle { NothingInFlight (D.view disk.new) }
+    ensures others { IsTrue D.tells → OthersStay (files (D.view disk.old)) (files (D.view disk.new)) }
     ensures comes { IfOk result (λ said. ReplaysOver acts.items D.tells (D.view disk.old) (D.view disk.new) said.status said.text) }
 {
     let Replayed { text, log } = replay(alloc, acts)?;
@@ -88,11 +89,10 @@ fn said_of_acts<D: Disk>(alloc: Global, acts: VecDeque<Act>, disk: &mut D) -> Re
     requires numbers { FIRST + sum_by numbers_taken acts.items ≤ NUMBER_MAX }
     requires idle { NothingInFlight (D.view disk.old) }
     ensures goes_on { GoesOn (D.view disk.old) (D.view disk.new) }
+    ensures idle { NothingInFlight (D.view disk.new) }
+    ensures others { IsTrue D.tells → OthersStay (files (D.view disk.old)) (files (D.view disk.new)) }
     ensures comes { IfOk result (λ said. ComesTo acts.items D.tells (D.view disk.old) (D.view disk.new) said.status said.text) }
 {
-    if !fits_log(&acts) {
-        return saying(alloc, Status::Script, "script too long\n");
-    }
     match hold_segment(disk) {
         Ok(false) => replayed(alloc, acts, disk),
         Ok(true) => saying(alloc, Status::Refused, "refused directories\n"),
@@ -106,6 +106,8 @@ pub(crate) fn said_of<D: Disk>(alloc: Global, script: &[u8], disk: &mut D) -> Re
     requires within { length script.now ≤ SCRIPT_MAX }
     requires idle { NothingInFlight (D.view disk.old) }
     ensures goes_on { GoesOn (D.view disk.old) (D.view disk.new) }
+    ensures idle { NothingInFlight (D.view disk.new) }
+    ensures others { IsTrue D.tells → OthersStay (files (D.view disk.old)) (files (D.view disk.new)) }
     ensures comes { IfOk result (λ said. ScriptComesTo script.now D.tells (D.view disk.old) (D.view disk.new) said.status said.text) }
 {
     match read_script(alloc, script) {

@@ -4,7 +4,7 @@ ghost use Rattle.std.specs.Prelude.{◌≡◌, MatchBool, IsSome, IsTrue, OnOk, 
 ghost use Rattle.wal_base.specs.Faults.{Rose};
 ghost use Rattle.disk_face.specs.View.{files, segment, creating, NothingInFlight};
 ghost use Rattle.disk_face.specs.Calls.{side_of, flight_of, place_of, MayStart, GoesOn, IsDone, HasFailed};
-ghost use Rattle.wal_top.specs.Storing.{IsPerformed, IsStored};
+ghost use Rattle.wal_top.specs.Storing.{IsPerformed, IsStored, OtherFilesStay};
 
 use disk_face::{Disk, DiskErr, DiskOp, OpId, Progress, SegName, Side};
 use wal_base::NoMemory;
@@ -30,6 +30,7 @@ fn perform<D: Disk>(disk: &mut D, op: DiskOp<'_>) -> Result<(), DiskErr>
     requires may { IsTrue D.tells → MayStart (flight_of op).act (files (D.view disk.old) (place_of op)) }
     ensures goes_on { GoesOn (D.view disk.old) (D.view disk.new) }
     ensures idle { NothingInFlight (D.view disk.new) }
+    ensures others { IsTrue D.tells → OtherFilesStay (place_of op.entry) (files (D.view disk.old)) (files (D.view disk.new)) }
     ensures done { OnOk result (IsTrue D.tells → IsPerformed op.entry (files (D.view disk.old)) (files (D.view disk.new))) }
     ensures failed { IsErrOf result DiskErr.Failed → Rose ((D.view disk.old).faults (side_of op.entry)) ((D.view disk.new).faults (side_of op.entry)) }
 {
@@ -54,6 +55,8 @@ pub(crate) fn store<D: Disk>(
     requires idle { NothingInFlight (D.view disk.old) }
     requires absent { IsTrue D.tells → MayStart creating (files (D.view disk.old) (segment side name)) }
     ensures goes_on { GoesOn (D.view disk.old) (D.view disk.new) }
+    ensures idle { NothingInFlight (D.view disk.new) }
+    ensures others { IsTrue D.tells → OtherFilesStay (segment side name) (files (D.view disk.old)) (files (D.view disk.new)) }
     ensures stored { OnOk result (IsTrue D.tells → IsStored (segment side name) bytes.now (files (D.view disk.old)) (files (D.view disk.new))) }
     ensures failed { IsErrOf result DiskErr.Failed → Rose ((D.view disk.old).faults side) ((D.view disk.new).faults side) }
 {

@@ -1,6 +1,6 @@
 ghost use Rattle.disk_face.specs.View.{NothingInFlight};
 
-use crate::{Gate, GatePoint, LOG_MAX, NoGate, Ran, Status, run};
+use crate::{Gate, GatePoint, NoGate, Ran, Status, run};
 use disk_face::{Disk, SegName, Side};
 use mem_disk::MemDisk;
 use std::alloc::{AllocError, Global};
@@ -273,41 +273,58 @@ fn directories_with_a_segment_are_refused(rt: HostRuntime) -> Result<(), Fail> {
     Ok(())
 }
 
-/// A script of one batch whose value has so many bytes.
-fn script_of(alloc: Global, len: usize) -> Result<Vec<u8>, AllocError> {
+/// A script of batches whose values have so many bytes.
+fn script_of(alloc: Global, lens: &[usize]) -> Result<Vec<u8>, AllocError> {
     let mut script = Vec::new(alloc);
-    script.extend_from_slice(b"commit 0 nosync set k ")?;
-    for _ in 0..len {
-        script.push(b'v')?;
+    for len in lens {
+        script.extend_from_slice(b"commit 0 nosync set k ")?;
+        for _ in 0..*len {
+            script.push(b'v')?;
+        }
+        script.push(b'\n')?;
     }
     Ok(script)
 }
 
+/// The bytes at these places, where there are any.
+fn bytes_at(log: &[u8], places: &[usize; 3]) -> [Option<u8>; 3] {
+    places.map(|place| log.get(place).copied())
+}
+
 #[test]
-fn a_log_ends_at_its_greatest_length(rt: HostRuntime) -> Result<(), Fail> {
-    // Over the value the log has a header of 11, a batch header of 12, and the kind, the key and two lengths.
-    let most = LOG_MAX - (11 + 12 + 1 + 2 + 3);
-    for (len, status, text, log) in [
+fn a_log_goes_on_in_the_next_block(rt: HostRuntime) -> Result<(), Fail> {
+    // Before its value a record has 18 bytes, or 16 where the value is short. So the first script has one record of
+    // 70,000 bytes, and the others one of 32,746 or 32,757 bytes and one of 17. A chunk's type is its byte 6.
+    let rows: [(&[usize], [usize; 3], [Option<u8>; 3], usize); 3] = [
         (
-            most,
-            Status::Done,
-            "s0 commit 10 1\nend visible 11 batches 1\n",
-            Some(LOG_MAX),
+            &[69_982],
+            [6, 32_774, 65_542],
+            [Some(6), Some(7), Some(8)],
+            70_033,
         ),
-        (most + 1, Status::Script, "script too long\n", None),
-    ] {
-        let script = script_of(rt.alloc(), len)?;
+        (
+            &[32_728, 1],
+            [6, 32_763, 32_774],
+            [Some(5), Some(6), Some(8)],
+            32_796,
+        ),
+        (
+            &[32_739, 1],
+            [6, 32_774, 32_796],
+            [Some(5), Some(5), None],
+            32_796,
+        ),
+    ];
+    for (lens, places, types, len) in rows {
+        let script = script_of(rt.alloc(), lens)?;
         let mut source = MemSource::new(Blob::copy_of(rt.alloc(), &script)?);
         let mut sink = MemSink::new(rt.alloc())?;
         let disk = MemDisk::new(rt.alloc())?;
         let ran = ran_over(&rt, rt.alloc(), &["replay"], &mut source, &mut sink, disk)?;
-        assert_eq!(rt; ran.status, status);
-        assert_eq!(rt; sink.written(), text.as_bytes());
-        let left = ran
-            .disk
-            .content(Side::Primary, LOG)
-            .map(|bytes| bytes.len());
-        assert!(rt; left == log);
+        assert_eq!(rt; ran.status, Status::Done);
+        let log = ran.disk.content(Side::Primary, LOG).unwrap_or(&[]);
+        assert_eq!(rt; log.len(), len);
+        assert!(rt; bytes_at(log, &places) == types);
     }
     Ok(())
 }

@@ -12,7 +12,7 @@ ghost use Rattle.wal_top.specs.declared.status.Status.TheVariants as statuses;
 ghost use Rattle.wal_top.specs.Words.{IsCommand, IsReplay};
 ghost use Rattle.wal_top.specs.Printing.{usage_text, read_fault_text, refused_text};
 ghost use Rattle.wal_top.specs.Reading.{TookAtMost, TellsScript, TellsNoScript};
-ghost use Rattle.wal_top.specs.Log.{HasSegments, HasNoSegment};
+ghost use Rattle.wal_top.specs.Log.{HasSegments, HasNoSegment, OthersStay};
 ghost use Rattle.wal_top.specs.Outcomes.{AnswersScript, RefusesScript, LogsBatches, FailsDisk, HasToSay, Wrote, WrotePartOf, YieldsTo, Ended, IsBeforeDisk};
 
 use crate::gate::Gate;
@@ -38,6 +38,8 @@ fn answered<S: Source, D: Disk>(
 ) -> Result<Said, NoMemory>
     requires { NothingInFlight (D.view disk.old) }
     ensures goes_on { GoesOn (D.view disk.old) (D.view disk.new) }
+    ensures idle { NothingInFlight (D.view disk.new) }
+    ensures others { IsTrue D.tells → OthersStay (files (D.view disk.old)) (files (D.view disk.new)) }
     ensures says { IfOk result (λ said. HasToSay (map string_bytes words.now) (S.left src.old) (S.left src.new) D.tells (D.view disk.old) (D.view disk.new) said.status said.text) }
     ensures read { IfOk result (λ said. said.status ≡ statuses.Read → Rose (S.faults src.old) (S.faults src.new)) }
     ensures took { TookAtMost (SCRIPT_MAX + 1) (S.left src.old) (S.left src.new) }
@@ -89,7 +91,7 @@ pub fn run<S: Source, K: Sink, D: Disk + Send, G: Gate + Sync, R: Threads + Wait
     ensures unread { result.status ≡ statuses.Usage → S.left src.new ≡ S.left src.old }
     ensures no_command { (IsCommand (map string_bytes words.now) → ⊥) → YieldsTo statuses.Usage result.status }
 
-    // Status 2: exactly where the script is too long, has a bad line, or asks for too much log.
+    // Status 2: exactly where the script is too long, or has a bad line.
     ensures script { result.status ≡ statuses.Script → (text : List ℕ) × RefusesScript (S.left src.old) (S.left src.new) text × Wrote (K.written out.old) (K.written out.new) text }
     ensures no_script { IsReplay (map string_bytes words.now) → TellsNoScript (S.left src.old)
         → (Rose (S.faults src.old) (S.faults src.new) → ⊥) → YieldsTo statuses.Script result.status }
@@ -126,6 +128,10 @@ pub fn run<S: Source, K: Sink, D: Disk + Send, G: Gate + Sync, R: Threads + Wait
     ensures took { TookAtMost (SCRIPT_MAX + 1) (S.left src.old) (S.left src.new) }
     ensures untouched { IsBeforeDisk result.status → D.view result.disk ≡ D.view disk }
     ensures goes_on { GoesOn (D.view disk) (D.view result.disk) }
+
+    // Whatever the status, no file but the log changes, and nothing is left in flight.
+    ensures others { IsTrue D.tells → OthersStay (files (D.view disk)) (files (D.view result.disk)) }
+    ensures idle { NothingInFlight (D.view result.disk) }
 {
     match answered(alloc, words, src, &mut disk) {
         Ok(said) => {

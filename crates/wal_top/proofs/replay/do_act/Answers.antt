@@ -2,10 +2,10 @@ use Rattle.wal_top.proofs.Saying.{on_ok_map}
 use Rattle.wal_top.proofs.OneAct.{does_commit, does_get}
 use Rattle.wal_top.proofs.replay.do_act.Goals as goal
 
-pub returns-in_ok-put_record-in-Commit : goal.returns-in_ok-put_record-in-Commit
-returns-in_ok-put_record-in-Commit c = on_ok_map c.put_commit.result c.put_commit.ensures (λ text.
-    does_commit c.args.act c.in-Commit.batch c.in_ok-numbered-in-Commit.numbered c.args.history.now c.commit.new.self c.args.log.now c.put_record.new.log c.args.text.now c.put_commit.new.out c.first.result c.count.result
-    c.in-Commit.is c.in_ok-numbered-in-Commit.ensures.numbered c.in_ok-numbered-in-Commit.ensures.added c.in_ok-put_record-in-Commit.ensures c.first.ensures c.count.ensures.count text)
+pub returns-in_ok-add-in-Commit : goal.returns-in_ok-add-in-Commit
+returns-in_ok-add-in-Commit c = on_ok_map c.put_commit.result c.put_commit.ensures (λ text.
+    does_commit c.args.act c.in-Commit.batch c.in_ok-numbered-in-Commit.numbered c.args.history.now c.commit.new.self c.args.log.now c.add.new.self c.args.text.now c.put_commit.new.out c.first.result c.count.result
+    c.in-Commit.is c.in_ok-numbered-in-Commit.ensures.numbered c.in_ok-numbered-in-Commit.ensures.added c.in_ok-add-in-Commit.ensures c.first.ensures c.count.ensures.count text)
 
 pub returns-in-Get : goal.returns-in-Get
 returns-in-Get c = on_ok_map c.put_get.result c.put_get.ensures (λ text.

@@ -8,7 +8,7 @@ use Rattle.wal_top.proofs.replay.replay.Goals as goal
 
 pub loop-act-init : goal.loop-act-init
 loop-act-init c =
-    goes_from c.args.acts.items c.new-history.result c.in_ok-text.text c.in_ok-log.log c.new-history.ensures c.in_ok-text.ensures c.in_ok-log.ensures c.requires.numbers c.requires.fits
+    goes_from c.args.acts.items c.new-history.result c.in_ok-text.text c.in_ok-log.log c.new-history.ensures c.in_ok-text.ensures c.in_ok-log.ensures c.requires.numbers
 
 pub loop-act-preserved : goal.loop-act-preserved
 loop-act-preserved c =
