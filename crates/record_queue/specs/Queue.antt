@@ -1,0 +1,29 @@
+-- What the queue of a run's records holds (docs/FORMATS.md, "The queue of records").
+use Rattle.std.specs.Prelude.{◌≡◌, ℕ, ◌+◌, ◌-◌, ◌^◌, ◌≤◌, ◌<◌, List, length, Some, slice_get, min}
+use Rattle.batch_repr.specs.declared.batch.Batch.{Batch}
+
+-- what a queue holds: the records of a run from a number on (counted from 0), and how many more fit without memory
+pub record Queue : Type 0 where
+  pub start : ℕ
+  pub records : List Batch
+  pub spare : ℕ
+
+-- the number behind the last record that a queue holds
+abbrev pub end_of : Queue → ℕ
+end_of queue = queue.start + length queue.records
+
+-- The queue holds the record of this number.
+abbrev pub Holds : Queue → ℕ → Type 0
+Holds queue number = (queue.start ≤ number) × (number < end_of queue)
+
+-- This is the record of a number that the queue holds.
+abbrev pub IsRecordOf : Queue → ℕ → Batch → Type 0
+IsRecordOf queue number rec = (queue.start ≤ number) × (slice_get queue.records (number - queue.start) ≡ Some rec)
+
+-- where the numbers of records end
+abbrev pub NUMBERS_END : ℕ
+NUMBERS_END = 2 ^ 64 - 1
+
+-- how many more fit behind an end: no more than there is room for, and no more than there are numbers
+abbrev pub spare_behind : ℕ → ℕ → ℕ
+spare_behind end room = min room (NUMBERS_END - end)
