@@ -1,7 +1,7 @@
 //! The reader of a segment: it goes from chunk to chunk while one stands there that may follow.
 
 ghost use Rattle.std.specs.Prelude.{◌≡◌, ◌↔◌, ℕ, ◌+◌, ◌<◌, ◌≤◌, ◌^◌, List, [], ◌++◌, length, IsTrue, IfOk, IfSome, IfNone, OnOk, not, ◌==◌};
-ghost use Rattle.std.specs.List.{list_any};
+ghost use Rattle.std.specs.List.{flat_map, list_any};
 ghost use Rattle.crc_chunk.specs.declared.chunk.ChunkKind.{ChunkKind};
 ghost use Rattle.crc_chunk.specs.Chunk.{ChunkAt};
 ghost use Rattle.block_record.specs.ReadOut.{MayFollow, leaves_open, next_place, ended, after_link, nothing, ReadsOut};
@@ -10,7 +10,6 @@ use crate::records::{ReadOut, Rec, Records};
 use crc_chunk::{BLOCK, ChunkKind, HEADER, chunk_at};
 use std::alloc::Global;
 use std::marker::Model;
-use std::mem;
 use wal_base::{Blob, NoMemory};
 
 /// A chunk that stands in a segment.
@@ -84,26 +83,41 @@ fn following(bytes: &[u8], at: usize, log: u32, is_open: bool) -> Option<Found<'
     }
 }
 
-/// What was read so far: whole records, and the one that is open.
+/// The bytes of fragments, copied one after another into one piece of memory.
+fn joined(alloc: Global, parts: &[&[u8]]) -> Result<Blob, NoMemory>
+    ensures { IfOk result (λ bytes. bytes ≡ flat_map (λ part. part.now) parts.now) }
+{
+    let len = parts
+        .iter()
+        .fold(0usize, |len, part| len.saturating_add(part.len()));
+    let mut bytes = Vec::with_capacity(alloc, len)?;
+    for part in parts {
+        bytes.extend_from_slice(part)?;
+    }
+    Ok(Blob::from(bytes))
+}
+
+/// What was read so far: whole records, and the fragments of the one that is open.
 #[derive(Drop)]
-struct Reading {
+struct Reading<'a> {
     alloc: Global,
     records: Records,
     ends_at: u64,
     rest_at: u64,
-    rest: Vec<u8>,
+    rest: Vec<&'a [u8]>,
 }
 
-impl Model for Reading {
+impl<'a> Model for Reading<'a> {
+    ghost use Rattle.std.specs.List.{flat_map};
     ghost use Rattle.block_record.specs.ReadOut.{Spelled};
 
     ghost Value = { Spelled };
 
-    ghost view = { λ a. record { records = a.records; ends_at = a.ends_at; rest = record { at = a.rest_at; bytes = a.rest.items } } };
+    ghost view = { λ a. record { records = a.records; ends_at = a.ends_at; rest = record { at = a.rest_at; bytes = flat_map (λ part. part.now) a.rest.items } } };
 }
 
-impl Reading {
-    fn new(alloc: Global) -> Reading
+impl<'a> Reading<'a> {
+    fn new(alloc: Global) -> Reading<'a>
         ensures { result ≡ nothing }
     {
         Reading {
@@ -121,7 +135,7 @@ impl Reading {
     {
         self.ends_at = end;
         self.rest_at = 0;
-        self.rest = Vec::new(self.alloc);
+        self.rest.clear();
         match self.records.push(Rec { at, bytes }) {
             Ok(()) => Ok(()),
             Err(_) => Err(NoMemory),
@@ -129,7 +143,7 @@ impl Reading {
     }
 
     /// Takes one chunk more, which stands at this place.
-    fn take(&mut self, at: usize, kind: ChunkKind, payload: &[u8]) -> Result<(), NoMemory>
+    fn take(&mut self, at: usize, kind: ChunkKind, payload: &'a [u8]) -> Result<(), NoMemory>
         requires { at + 11 + length payload.now < 2 ^ 63 }
         ensures { OnOk result (self.new ≡ after_link at self.old (record { kind = kind; payload = payload.now })) }
     {
@@ -139,17 +153,18 @@ impl Reading {
             ChunkKind::Full => self.end(at, Blob::copy_of(self.alloc, payload)?, end),
             ChunkKind::First => {
                 self.rest_at = at;
-                self.rest = Vec::from_slice(self.alloc, payload)?;
+                self.rest.clear();
+                self.rest.push(payload)?;
                 Ok(())
             }
             ChunkKind::Middle => {
-                self.rest.extend_from_slice(payload)?;
+                self.rest.push(payload)?;
                 Ok(())
             }
             ChunkKind::Last => {
-                let mut bytes = mem::replace(&mut self.rest, Vec::new(self.alloc));
-                bytes.extend_from_slice(payload)?;
-                self.end(self.rest_at, Blob::from(bytes), end)
+                self.rest.push(payload)?;
+                let bytes = joined(self.alloc, &self.rest)?;
+                self.end(self.rest_at, bytes, end)
             }
         }
     }
