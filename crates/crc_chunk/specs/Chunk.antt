@@ -1,5 +1,5 @@
 -- One chunk of a log: a header of eleven bytes, and a payload (docs/FORMATS.md, "Chunk").
-use Rattle.std.specs.Prelude.{ℕ, ◌+◌, ◌%◌, ◌≤◌, List, ◌∷◌, ◌++◌, length}
+use Rattle.std.specs.Prelude.{◌≡◌, ℕ, ◌+◌, ◌%◌, ◌≤◌, List, ◌∷◌, ◌++◌, length}
 use Rattle.std.specs.Int.{w16, w32, to_le_bytes}
 use Rattle.crc_chunk.specs.Bytes.{StandsAt}
 use Rattle.crc_chunk.specs.declared.chunk.ChunkKind.{ChunkKind}
@@ -28,3 +28,10 @@ chunk kind log payload =
 pub record ChunkAt (bytes : List ℕ) (at log : ℕ) (kind : ChunkKind) (payload : List ℕ) : Type 0 where
   pub stands : StandsAt bytes at (chunk kind log payload)
   pub within : at % 32768 + 11 + length payload ≤ 32768
+
+-- A whole chunk of the log stands at this place, of so many bytes with its header.
+pub record IsChunkOf (bytes : List ℕ) (at log size : ℕ) : Type 0 where
+  pub kind : ChunkKind
+  pub payload : List ℕ
+  pub stands : ChunkAt bytes at log kind payload
+  pub size_is : size ≡ 11 + length payload

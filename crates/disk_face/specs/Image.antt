@@ -61,3 +61,8 @@ as_read (Some f) = if f.created then Some f.reads else None
 -- the directories as they read now
 abbrev pub dirs_as_read : Files → Dirs
 dirs_as_read files p = as_read (files p)
+
+-- what was sent to a file of which a creation was started
+abbrev pub as_sent : Option File → Option (List ℕ)
+as_sent None = None
+as_sent (Some f) = Some f.sent

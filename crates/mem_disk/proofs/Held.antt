@@ -42,7 +42,7 @@ pub set_others_same : (side : Side) (name : SegName) (f m : MemFile) (fs ms : Li
 set_others_same side name f m fs ms q e = ap (λ (o : Option File). cond (is_at f.side f.name q) (Some (file_of f)) o) e
 
 -- a file of the same segment stands before the same files
-before_all_same : (f m : MemFile) (fs : List MemFile) → f.side ≡ m.side → f.name ≡ m.name → IsBeforeAll f fs → IsBeforeAll m fs
+pub before_all_same : (f m : MemFile) (fs : List MemFile) → f.side ≡ m.side → f.name ≡ m.name → IsBeforeAll f fs → IsBeforeAll m fs
 before_all_same f m [] s n h = tt
 before_all_same f m (x ∷ fs) s n h = ((λ e. subst (λ (k : SegName). IsBefore k x.name) n (h.0 (s ∙ e))), before_all_same f m fs s n h.1)
 

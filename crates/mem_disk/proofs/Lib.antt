@@ -5,3 +5,7 @@ pub mod Past
 pub mod Flights
 pub mod Calls
 pub mod ListedFiles
+pub mod Blocks
+pub mod Crashes
+pub mod Chances
+pub mod Images

@@ -174,3 +174,7 @@ listing_named side (m ∷ ms) = go (is_listed side m) refl (listing_named side m
 pub if_ok_of : {E : Type 0} (P : List Listed → Type 0) (r : Result (List Listed) E) (names : List Listed) → IfOk r (λ got. got ≡ names) → P names → IfOk r P
 if_ok_of P (Ok got) names is h = subst P (sym is) h
 if_ok_of P (Err e) names is h = tt
+
+pub if_ok_more : {T E : Type 0} {P Q : T → Type 0} (r : Result T E) → IfOk r P → ((x : T) → P x → Q x) → IfOk r Q
+if_ok_more (Ok x) h more = more x h
+if_ok_more (Err e) h more = tt

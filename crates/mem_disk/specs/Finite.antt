@@ -96,7 +96,7 @@ sound_held (m ∷ ms) p f is = go (is_at m.side m.name p) refl (sound_held ms p 
     go false at deeper = deeper (rw at at is)
 
 -- no table is held
-no_table : (fs : List MemFile) (n : ℕ) → held fs (table n) ≡ None
+pub no_table : (fs : List MemFile) (n : ℕ) → held fs (table n) ≡ None
 no_table [] n = refl
 no_table (m ∷ ms) n = no_table ms n
 

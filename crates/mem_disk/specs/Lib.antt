@@ -1,3 +1,6 @@
 pub mod Mem
 pub mod Plan
+pub mod Picks
+pub mod Leaving
+pub mod Sent
 pub mod Finite

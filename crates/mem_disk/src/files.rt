@@ -2,10 +2,10 @@
 
 ghost use Rattle.std.specs.Prelude.{◌≡◌, ◌+◌, ◌≤◌, ◌<◌, length, drop, OnOk, OnErr, IfOk, IfNone, IfSome, Some, None};
 ghost use Rattle.disk_face.specs.View.{segment, File};
-ghost use Rattle.disk_face.specs.Image.{as_read};
+ghost use Rattle.disk_face.specs.Image.{as_read, as_sent};
 ghost use Rattle.disk_face.specs.Calls.{AfterDone, MayStart, flight_of, place_of, bytes_of, after_start, fresh, FillsFrom};
 ghost use Rattle.disk_face.specs.Tables.{whole};
-ghost use Rattle.mem_disk.specs.Mem.{held, is_at, index_at, undo_at, act_of, ChangesAt, FoundAt, IsUncreated, IsCreated, IsExtended, IsOrdered};
+ghost use Rattle.mem_disk.specs.Mem.{held, file_of, is_at, index_at, undo_at, act_of, ChangesAt, FoundAt, IsUncreated, IsCreated, IsExtended, IsOrdered};
 
 use crate::order::{insert_file, is_side};
 use crate::parts::{MemAct, MemFile, Undo};
@@ -191,6 +191,26 @@ pub fn content_of(files: &Vec<MemFile>, side: Side, name: SegName) -> Option<&[u
     } else {
         None
     }
+}
+
+/// What was sent to a file. That is nothing until it is created.
+pub fn sent_in(file: &MemFile) -> &[u8]
+    ensures { result.now ≡ (file_of file.now).sent }
+{
+    if file.created {
+        &file.sent
+    } else {
+        &file.sent[..0]
+    }
+}
+
+/// What was sent. `None` exactly where no file of that segment is.
+pub fn sent_of(files: &Vec<MemFile>, side: Side, name: SegName) -> Option<&[u8]>
+    ensures some { IfSome result (λ bytes. as_sent (held files.now.items (segment side name)) ≡ Some bytes.now) }
+    ensures none { IfNone result (held files.now.items (segment side name) ≡ None) }
+{
+    let at = find(files, side, name)?;
+    Some(sent_in(&files[at]))
 }
 
 fn copy_out(content: &[u8], at: u64, buf: &mut [u8]) -> usize

@@ -1,22 +1,30 @@
 //! A disk in memory, which tells everything: its files, its operations in flight, and its files at each earlier
-//! moment. Stalls and failures come where they are asked for.
+//! moment. Stalls and failures come where they are asked for, and a crash leaves the image that a pick names.
 //!
-//! Stands on `wal_base`, for want of memory, and on `disk_face`, whose traits `Disk` and `StallDisk` it meets.
-//! The layers above run on [`MemDisk`] in their tests and simulations.
+//! Stands on `wal_base`, for want of memory and lists, on `disk_face`, whose traits `Disk` and `StallDisk` it
+//! meets, and on `crc_chunk`, to find the chunks of an image. The layers above run on [`MemDisk`] in their tests
+//! and simulations: [`MemDisk::crash`] leaves a [`CrashPick`]'s image, [`MemDisk::chance_free`] tests the premise
+//! on checksums of it, and [`each_image_has_a_pick`] says that no image is left out.
 //!
 //! What holds of each such disk: of each segment there is one file, the files of a side are in ascending order,
 //! what is stable was done, what was done was sent, and an operation that is in flight can end without memory.
 #![tactic(auto)]
 
+mod chance;
 mod counts;
+mod crash;
 mod files;
+mod laws;
 mod listing;
 mod memory;
 mod ops;
 mod order;
 mod parts;
+mod picks;
 
+pub use laws::each_image_has_a_pick;
 pub use memory::{MemDisk, Planned};
+pub use picks::{CrashPick, FilePick, FilePicks};
 
 #[cfg(test)]
 mod tests;

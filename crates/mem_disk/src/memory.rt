@@ -4,20 +4,25 @@
 ghost use Rattle.std.specs.Prelude.{◌≡◌, ◌↔◌, ◌+◌, ◌≤◌, true, [], ◌∷◌, ◌++◌, length, drop, vec_capacity, IfOk, IfNone, IfSome, OnOk, OnErr, IsErrOf, IsSome, IsTrue, None, Some};
 ghost use Rattle.disk_face.specs.declared.Side.{Side};
 ghost use Rattle.disk_face.specs.View.{Place, File, segment, files, by_side, IsFree, NothingInFlight};
-ghost use Rattle.disk_face.specs.Image.{as_read};
+ghost use Rattle.disk_face.specs.Image.{IsImage, IsChanceFree, IsRested, as_read, as_sent, dirs_as_read};
 ghost use Rattle.disk_face.specs.Listing.{IsAscending, AreSegmentNames, IsListing};
 ghost use Rattle.disk_face.specs.Calls.{side_of, flight_of, place_of, bytes_of, MayStart, after_start, GoesOn, SameDisk, Starts, ChangesFile, Polled, FillsFrom, Stalls};
 ghost use Rattle.disk_face.specs.Tables.{whole};
 ghost use Rattle.wal_base.specs.Faults.{Rose};
+ghost use Rattle.crc_chunk.specs.Chunk.{IsChunkOf};
+ghost use Rattle.mem_disk.specs.Picks.{picked_dirs, whole_files};
 ghost use Rattle.mem_disk.specs.Plan.{Plan, FailsNext, after_call, after_op, AnswersAsPlanned};
 ghost use Rattle.mem_disk.specs.Finite.{finite_mem, sound_mem};
-ghost use Rattle.mem_disk.specs.Mem.{live_in, mem_view, IsOrdered};
+ghost use Rattle.mem_disk.specs.Mem.{held, live_in, mem_view, IsOrdered};
 
+use crate::chance::is_chance_free;
 use crate::counts::{BySide, CallFaults};
-use crate::files::{begin, content_of, place, read_file, settle, undo_of};
+use crate::crash::files_left;
+use crate::files::{begin, content_of, place, read_file, sent_of, settle, undo_of};
 use crate::listing::list_files;
 use crate::ops::{begin_op, end_op, op_of};
 use crate::parts::{MemFile, MemOp, Undo};
+use crate::picks::CrashPick;
 use disk_face::{Disk, DiskErr, DiskOp, Names, OpId, Progress, SegName, Side, StallDisk};
 use std::alloc::Global;
 use wal_base::NoMemory;
@@ -65,25 +70,7 @@ impl MemDisk {
         ensures idle { IfOk result (λ disk. NothingInFlight (⟦<MemDisk as Disk>⟧.view disk)) }
     {
         let files = Vec::with_capacity(alloc, FIRST_FILES)?;
-        Ok(MemDisk {
-            alloc,
-            files,
-            ops: Vec::new(alloc),
-            undos: Vec::new(alloc),
-            faults: BySide {
-                primary: 0,
-                secondary: 0,
-            },
-            polls: BySide {
-                primary: 0,
-                secondary: 0,
-            },
-            fail_ops: Vec::new(alloc),
-            calls: CallFaults {
-                numbers: Vec::new(alloc),
-                calls: 0,
-            },
-        })
+        Ok(holding(alloc, files))
     }
 
     /// Puts a whole file, all of it stable. No operation may be in flight on it. `Err` is want of memory, and
@@ -96,6 +83,7 @@ impl MemDisk {
         ensures put { OnOk result (ChangesFile (segment side name) (λ f g. g ≡ Some (whole bytes.now)) (⟦<MemDisk as Disk>⟧.view self.old) (⟦<MemDisk as Disk>⟧.view self.new)) }
         ensures err { OnErr result (⟦<MemDisk as Disk>⟧.view self.new ≡ ⟦<MemDisk as Disk>⟧.view self.old) }
         ensures plan { ⟦<MemDisk as Planned>⟧.plan self.new ≡ ⟦<MemDisk as Planned>⟧.plan self.old }
+        ensures rested { IsRested (files (⟦<MemDisk as Disk>⟧.view self.old)) → IsRested (files (⟦<MemDisk as Disk>⟧.view self.new)) }
     {
         let Some(room) = self.ops.len().checked_add(1) else {
             return Err(NoMemory);
@@ -135,6 +123,70 @@ impl MemDisk {
         ensures none { IfNone result (as_read (files (⟦<MemDisk as Disk>⟧.view self.now) (segment side name)) ≡ None) }
     {
         content_of(&self.files, side, name)
+    }
+
+    /// The bytes of all writes started on a file. `None` exactly where no creation of it was started and it was
+    /// not put.
+    pub fn sent(&self, side: Side, name: SegName) -> Option<&[u8]>
+        ensures some { IfSome result (λ bytes. as_sent (files (⟦<MemDisk as Disk>⟧.view self.now) (segment side name)) ≡ Some bytes.now) }
+        ensures none { IfNone result (files (⟦<MemDisk as Disk>⟧.view self.now) (segment side name) ≡ None) }
+    {
+        sent_of(&self.files, side, name)
+    }
+
+    /// The image that the pick names, as a disk in which every byte is stable: no fault, no poll to stall, nothing
+    /// in flight, and no failure asked for. `Err` is want of memory, and gives the disk up.
+    pub fn crash(self, pick: &CrashPick) -> Result<MemDisk, NoMemory>
+        ensures image { IfOk result (λ disk. IsImage (files (⟦<MemDisk as Disk>⟧.view self)) (dirs_as_read (files (⟦<MemDisk as Disk>⟧.view disk)))) }
+        ensures picked { IfOk result (λ disk. (p : Place) → dirs_as_read (files (⟦<MemDisk as Disk>⟧.view disk)) p ≡ picked_dirs (files (⟦<MemDisk as Disk>⟧.view self)) pick.now.files p) }
+        ensures stable { IfOk result (λ disk. (p : Place) → files (⟦<MemDisk as Disk>⟧.view disk) p ≡ whole_files (dirs_as_read (files (⟦<MemDisk as Disk>⟧.view disk))) p) }
+        ensures rested { IfOk result (λ disk. IsRested (files (⟦<MemDisk as Disk>⟧.view disk))) }
+        ensures no_faults { IfOk result (λ disk. (s : Side) → (⟦<MemDisk as Disk>⟧.view disk).faults s ≡ 0) }
+        ensures no_polls { IfOk result (λ disk. (s : Side) → (⟦<MemDisk as Disk>⟧.view disk).polls_left s ≡ 0) }
+        ensures no_plan { IfOk result (λ disk. ⟦<MemDisk as Planned>⟧.plan disk ≡ record { failing_ops = []; starts = 0; failing_calls = []; calls = 0 }) }
+        ensures idle { IfOk result (λ disk. NothingInFlight (⟦<MemDisk as Disk>⟧.view disk)) }
+    {
+        let MemDisk { alloc, files, .. } = self;
+        let files = files_left(alloc, files, pick.files.as_slice())?;
+        Ok(holding(alloc, files))
+    }
+
+    /// The premise on checksums, of the image that the pick names: whether each whole chunk in it that has the log
+    /// number of its file was sent to its place. `Err` is want of memory.
+    pub fn chance_free(&self, pick: &CrashPick) -> Result<bool, NoMemory>
+        ensures { IfOk result (λ free. IsTrue free ↔ IsChanceFree IsChunkOf (files (⟦<MemDisk as Disk>⟧.view self.now)) (picked_dirs (files (⟦<MemDisk as Disk>⟧.view self.now)) pick.now.files)) }
+    {
+        is_chance_free(self.alloc, &self.files, pick.files.as_slice())
+    }
+}
+
+/// A disk that holds these files, on which nothing has happened yet.
+fn holding(alloc: Global, kept: Vec<MemFile>) -> MemDisk
+    requires ordered { IsOrdered kept.items }
+    ensures kept { files (⟦<MemDisk as Disk>⟧.view result) ≡ held kept.items }
+    ensures no_faults { (s : Side) → (⟦<MemDisk as Disk>⟧.view result).faults s ≡ 0 }
+    ensures no_polls { (s : Side) → (⟦<MemDisk as Disk>⟧.view result).polls_left s ≡ 0 }
+    ensures no_plan { ⟦<MemDisk as Planned>⟧.plan result ≡ record { failing_ops = []; starts = 0; failing_calls = []; calls = 0 } }
+    ensures idle { NothingInFlight (⟦<MemDisk as Disk>⟧.view result) }
+{
+    MemDisk {
+        alloc,
+        files: kept,
+        ops: Vec::new(alloc),
+        undos: Vec::new(alloc),
+        faults: BySide {
+            primary: 0,
+            secondary: 0,
+        },
+        polls: BySide {
+            primary: 0,
+            secondary: 0,
+        },
+        fail_ops: Vec::new(alloc),
+        calls: CallFaults {
+            numbers: Vec::new(alloc),
+            calls: 0,
+        },
     }
 }
 

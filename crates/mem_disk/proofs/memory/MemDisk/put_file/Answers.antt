@@ -3,7 +3,9 @@ use Rattle.disk_face.specs.View.{File, Files, segment}
 use Rattle.disk_face.specs.Tables.{whole}
 use Rattle.mem_disk.specs.declared.parts.Undo.{Undo}
 use Rattle.mem_disk.specs.Mem.{mem_view, held}
+use Rattle.disk_face.specs.Image.{IsRested}
 use Rattle.mem_disk.proofs.Flights.{live_le}
+use Rattle.mem_disk.proofs.Images.{rested_put}
 use Rattle.mem_disk.proofs.Past.{StaysBehind, now_held}
 use Rattle.mem_disk.proofs.Calls.{goes_on_moment, changes_moment, taken_back}
 use Rattle.mem_disk.proofs.memory.MemDisk.put_file.Goals as goal
@@ -31,3 +33,20 @@ returns-clause-put c =
     let longer : c.push_reserved.new.self.items ≡ c.args.self.now.undos.items ++ c.undo_of-undo.result ∷ [] = c.push_reserved.ensures.items ∙ ap (λ (l : List Undo). l ++ c.undo_of-undo.result ∷ []) c.reserve.ensures.items in
     changes_moment c.args.self.now.files.items c.place.new.files.items _ _ c.args.self.now.undos.items c.push_reserved.new.self.items c.undo_of-undo.result _ _ _ _ longer
     (segment c.args.side c.args.name) (λ f g. g ≡ Some (whole c.args.bytes.now)) c.in_ok-place.ensures.ok
+
+pub returns-in_err-reserve-clause-rested : goal.returns-in_err-reserve-clause-rested
+unfolding mem_view
+returns-in_err-reserve-clause-rested c rested =
+    subst IsRested (now_held c.args.self.now.undos.items (held c.args.self.now.files.items) ∙ sym (now_held c.reserve.new.self.items (held c.args.self.now.files.items))) rested
+
+pub returns-in_err-place-clause-rested : goal.returns-in_err-place-clause-rested
+unfolding mem_view
+returns-in_err-place-clause-rested c rested =
+    subst IsRested (now_held c.args.self.now.undos.items (held c.args.self.now.files.items) ∙ ap held (sym c.in_err-place.ensures.err) ∙ sym (now_held c.reserve.new.self.items (held c.place.new.files.items))) rested
+
+pub returns-clause-rested : goal.returns-clause-rested
+unfolding mem_view
+returns-clause-rested c rested =
+    subst IsRested (sym (now_held c.push_reserved.new.self.items (held c.place.new.files.items)))
+    (rested_put c.args.side c.args.name c.args.bytes.now (held c.args.self.now.files.items) (held c.place.new.files.items) c.in_ok-place.ensures.ok
+    (subst IsRested (now_held c.args.self.now.undos.items (held c.args.self.now.files.items)) rested))

@@ -1,0 +1,76 @@
+//! What a crash leaves of the files.
+
+ghost use Rattle.std.specs.Prelude.{◌≡◌, IfOk, OnOk};
+ghost use Rattle.disk_face.specs.View.{Place};
+ghost use Rattle.mem_disk.specs.Mem.{held, IsOrdered};
+ghost use Rattle.mem_disk.specs.Picks.{picked_dirs, whole_files};
+ghost use Rattle.mem_disk.specs.Leaving.{IsLeft, IsOneMoreLeft, AreLeft};
+
+use crate::parts::MemFile;
+use crate::picks::{FilePick, add_tail, kept_len, tail_for};
+use std::alloc::Global;
+use wal_base::NoMemory;
+
+// The bytes are kept where they are: what is not stable is cut off, and the tail put behind it.
+fn left_of(file: MemFile, picks: &[FilePick]) -> Result<Option<MemFile>, NoMemory>
+    ensures { IfOk result (IsLeft picks.now file) }
+{
+    let tail = tail_for(picks, file.side, file.name);
+    let Some(kept) = kept_len(&file, tail) else {
+        return Ok(None);
+    };
+    let MemFile {
+        side,
+        name,
+        mut sent,
+        ..
+    } = file;
+    sent.truncate(kept);
+    add_tail(&mut sent, tail)?;
+    let len = sent.len();
+    Ok(Some(MemFile {
+        side,
+        name,
+        sent,
+        done: len,
+        stable: len,
+        created: true,
+    }))
+}
+
+fn push_left(left: &mut Vec<MemFile>, file: MemFile, picks: &[FilePick]) -> Result<(), NoMemory>
+    ensures { OnOk result (IsOneMoreLeft picks.now file left.old.items left.new.items) }
+{
+    let Some(file) = left_of(file, picks)? else {
+        return Ok(());
+    };
+    left.push(file)?;
+    Ok(())
+}
+
+fn all_left(
+    alloc: Global,
+    files: Vec<MemFile>,
+    picks: &[FilePick],
+) -> Result<Vec<MemFile>, NoMemory>
+    ensures { IfOk result (λ left. AreLeft picks.now files.items left.items) }
+{
+    let mut left = Vec::with_capacity(alloc, files.len())?;
+    for file in files {
+        push_left(&mut left, file, picks)?;
+    }
+    Ok(left)
+}
+
+/// The files that a crash leaves, by the picks. Each is whole. `Err` is want of memory.
+pub fn files_left(
+    alloc: Global,
+    files: Vec<MemFile>,
+    picks: &[FilePick],
+) -> Result<Vec<MemFile>, NoMemory>
+    requires ordered { IsOrdered files.items }
+    ensures files { IfOk result (λ left. (p : Place) → held left.items p ≡ whole_files (picked_dirs (held files.items) picks.now) p) }
+    ensures ordered { IfOk result (λ left. IsOrdered left.items) }
+{
+    all_left(alloc, files, picks)
+}
