@@ -85,7 +85,7 @@ read_image p (Some f) sound = go p f.created refl (sound f refl)
   where
     go : (q : Place) (made : Bool) → f.created ≡ made → IsSound q f → IsImageOf q (Some f) (as_read (Some f))
     go q false is s = rw is (λ e. cc)
-    go (segment side name) true is s = rw is (λ e. begins_shorter f.stable f.done f.sent f.reads s.stable s.reads)
+    go (segment side name) true is s = rw is (λ e. begins_shorter f.stable f.done f.sent f.reads s.0.stable s.0.reads)
     go (table upto) true is s = rw is (λ e. s.1 is)
 
 -- a disk as it reads is one of its images

@@ -1,5 +1,5 @@
 -- What a crash may leave of the files, and when no torn chunk passes for a whole one (docs/FORMATS.md, "Images").
-use Rattle.std.specs.Prelude.{◌≡◌, ℕ, ◌≤◌, ◌%◌, ◌^◌, true, false, List, ◌++◌, take, drop, length, Option, Some, None, if◌then◌else◌}
+use Rattle.std.specs.Prelude.{◌≡◌, ℕ, ◌≤◌, ◌%◌, ◌^◌, true, false, List, [], ◌++◌, take, drop, length, Option, Some, None, if◌then◌else◌}
 use Rattle.disk_face.specs.View.{Place, segment, table, File, Files, Dirs}
 
 -- the bytes begin with that front
@@ -37,9 +37,10 @@ pub record IsSoundFile (f : File) : Type 0 where
   pub done : f.done ≤ length f.sent
   pub reads : Begins (take f.done f.sent) f.reads
 
--- what is true of the file at a place: it is sound, and a table that is there reads as it was sent
+-- What is true of the file at a place: it is sound, nothing was sent to a segment that is not created, and a table that is
+-- there reads as it was sent.
 abbrev pub IsSound : Place → File → Type 0
-IsSound (segment s n) f = IsSoundFile f
+IsSound (segment s n) f = IsSoundFile f × (f.created ≡ false → f.sent ≡ [])
 IsSound (table n) f = IsSoundFile f × (f.created ≡ true → f.reads ≡ f.sent)
 
 -- a file is whole: created, read as it was sent, and sent in full

@@ -81,18 +81,21 @@ drop_all : (log : List Undo) → drop (length log) log ≡ []
 drop_all [] = refl
 drop_all (u ∷ log) = drop_all log
 
-sound_of : (m : MemFile) → IsSoundFile (file_of m)
-sound_of m = elim m.created as (λ b. IsSoundFile (if b then record { sent = m.sent.items; done = m.done; stable = m.stable; created = true; leaving = false; reads = take m.done m.sent.items } else fresh)) [
-  | true ↦ record { stable = m.ordered; done = m.within; reads = ([], sym (append-nil (take m.done m.sent.items))) }
-  | false ↦ record { stable = omega arith; done = omega arith; reads = ([], refl) }
+abbrev IsSoundSegment : File → Type 0
+IsSoundSegment f = IsSoundFile f × (f.created ≡ false → f.sent ≡ [])
+
+sound_of : (m : MemFile) → IsSoundSegment (file_of m)
+sound_of m = elim m.created as (λ b. IsSoundSegment (if b then record { sent = m.sent.items; done = m.done; stable = m.stable; created = true; leaving = false; reads = take m.done m.sent.items } else fresh)) [
+  | true ↦ (record { stable = m.ordered; done = m.within; reads = ([], sym (append-nil (take m.done m.sent.items))) }, λ e. cc)
+  | false ↦ (record { stable = omega arith; done = omega arith; reads = ([], refl) }, λ e. refl)
 ]
 
-sound_held : (fs : List MemFile) (p : Place) (f : File) → held fs p ≡ Some f → IsSoundFile f
+sound_held : (fs : List MemFile) (p : Place) (f : File) → held fs p ≡ Some f → IsSoundSegment f
 sound_held [] p f is = cc
 sound_held (m ∷ ms) p f is = go (is_at m.side m.name p) refl (sound_held ms p f)
   where
-    go : (b : Bool) → is_at m.side m.name p ≡ b → (held ms p ≡ Some f → IsSoundFile f) → IsSoundFile f
-    go true at deeper = let z : Some (file_of m) ≡ Some f = rw at at is in let f_is : file_of m ≡ f = cc in subst IsSoundFile f_is (sound_of m)
+    go : (b : Bool) → is_at m.side m.name p ≡ b → (held ms p ≡ Some f → IsSoundSegment f) → IsSoundSegment f
+    go true at deeper = let z : Some (file_of m) ≡ Some f = rw at at is in let f_is : file_of m ≡ f = cc in subst IsSoundSegment f_is (sound_of m)
     go false at deeper = deeper (rw at at is)
 
 -- no table is held
