@@ -17,8 +17,9 @@ const ROOM: usize = BLOCK - HEADER;
 /// What fills a block's end where no header fits.
 const ZEROS: [u8; 10] = [0; 10];
 
-/// Lays records into the blocks of a segment. Contracts see where it stands.
-#[derive(Debug, Drop)]
+/// Lays records into the blocks of a segment. Contracts see where it stands. A copy of it tries what is then kept or
+/// dropped.
+#[derive(Clone, Copy, Debug)]
 pub struct Framer {
     log: u32,
     place: usize,
@@ -33,6 +34,8 @@ impl Model for Framer {
     ghost view = { λ a. record { log = a.log; place = a.place } };
 
     ghost invariant = { λ a. a.place + 11 ≤ 32768 };
+
+    ghost inverse = { λ d. record { log = d.log; place = d.place } };
 }
 
 /// Appends one chunk. An error may leave its header.

@@ -70,6 +70,16 @@ impl Buf {
         Ok(Buf { bytes })
     }
 
+    /// Makes room for so many bytes more, so that adding them moves none of the others.
+    pub fn reserve(&mut self, more: usize) -> Result<(), NoMemory>
+        ensures { self.new ≡ self.old }
+    {
+        match self.bytes.reserve_exact(more) {
+            Ok(()) => Ok(()),
+            Err(_) => Err(NoMemory),
+        }
+    }
+
     /// Adds the bytes at the end.
     pub fn append(&mut self, bytes: &[u8]) -> Result<(), NoMemory>
         ensures ok { OnOk result (self.new ≡ self.old ++ bytes.now) }

@@ -22,6 +22,7 @@ fn bytes_are_kept_and_shown(rt: HostRuntime) -> Result<(), NoMemory> {
     assert_eq!(rt; moved.as_slice(), b"xy".as_slice());
     let mut buf = Buf::new(rt.alloc())?;
     buf.append(b"ab")?;
+    buf.reserve(1_000)?;
     buf.append(b"c")?;
     assert_eq!(rt; buf.as_slice(), b"abc".as_slice());
     buf.truncate(2);

@@ -1,0 +1,114 @@
+-- What the start of the next operation leaves, for each operation.
+use Rattle.std.proofs.Common.{◌≡◌, ℕ, ◌<◌, Bool, true, false, List, ◌++◌, length, Some, None, IsTrue, ap, sym, subst, ◌∙◌, refl, arith, nat_lt}
+use Rattle.std.specs.Prelude.{not, ◌&&◌, if◌then◌else◌}
+use Rattle.std.proofs.lemmas.Bool.{ltb-true}
+use Rattle.std.proofs.lemmas.List.{length-append, length-drop}
+use Rattle.disk_face.specs.declared.OpId.{OpId}
+use Rattle.disk_face.specs.View.{writing, DiskView, files, IsFree, AtEachMoment}
+use Rattle.disk_face.specs.Calls.{GoesOn, Starts, ChangesFile, after_start}
+use Rattle.batch_repr.specs.declared.batch.Batch.{Batch}
+use Rattle.record_queue.specs.Queue.{Queue}
+use Rattle.log_writer.specs.declared.goal.Goal.{Goal}
+use Rattle.log_writer.specs.declared.phase.Operation.{Operation}
+use Rattle.log_writer.specs.declared.phase.Operation.TheVariants.{Create, Write, Sync}
+use Rattle.log_writer.specs.declared.phase.Phase.{Phase}
+use Rattle.log_writer.specs.declared.phase.Phase.TheVariants.{New, InFlight, Idle, Broken}
+use Rattle.log_writer.specs.Writer.{Writer}
+use Rattle.log_writer.specs.Parts.{segment_bytes}
+use Rattle.log_writer.specs.Fits.{file_of, act_of, Flies, HasFlight, HasNumbers, IsOrdered, HasFile, Fits}
+use Rattle.log_writer.specs.Kept.{SegmentKept}
+use Rattle.log_writer.specs.Steps.{IsQueueOf, HoldsPart, next_operation, next_of_created}
+use Rattle.log_writer.specs.Sending.{frames_of, sending}
+use Rattle.log_writer.proofs.Fitting.{fits_kept}
+use Rattle.log_writer.proofs.Beside.{two_moments}
+use Rattle.log_writer.proofs.Sending.{frames_complete}
+
+-- where an operation is the next one
+abbrev IsReadyFor : Operation → ℕ → ℕ → Phase → Type 0
+IsReadyFor Create written len phase = phase ≡ New
+IsReadyFor Sync written len phase = phase ≡ Idle
+IsReadyFor Write written len phase = (phase ≡ Idle) × (written < len)
+
+created_next : (written : ℕ) (goal : Goal) (operation : Operation) → next_of_created written goal ≡ Some operation → IsReadyFor operation written goal.len Idle
+created_next written goal operation next = go (nat_lt goal.acked goal.want && not (nat_lt written goal.want)) (nat_lt written goal.len) refl next
+  where
+    go : (sync more : Bool) → nat_lt written goal.len ≡ more → (if sync then Some Sync else (if more then Some Write else None)) ≡ Some operation → IsReadyFor operation written goal.len Idle
+    go true more is e = let same : Sync ≡ operation = cc in subst (λ (o : Operation). IsReadyFor o written goal.len Idle) same refl
+    go false true is e = let same : Write ≡ operation = cc in subst (λ (o : Operation). IsReadyFor o written goal.len Idle) same (refl, ltb-true written goal.len is)
+    go false false is e = cc
+
+next_ready : (phase : Phase) (written : ℕ) (goal : Goal) (operation : Operation) → next_operation phase written goal ≡ Some operation → IsReadyFor operation written goal.len phase
+next_ready New written goal operation next = let same : Create ≡ operation = cc in subst (λ (o : Operation). IsReadyFor o written goal.len New) same refl
+next_ready (InFlight other id) written goal operation next = cc
+next_ready Idle written goal operation next = created_next written goal operation next
+next_ready Broken written goal operation next = cc
+
+flies_from : (old new : DiskView) (w : Writer) (operation : Operation) (id : OpId) → IsFree old (file_of w) → Starts (record { place = file_of w; act = act_of operation }) w.side id old new → Flies new (file_of w) (act_of operation) id
+flies_from old new w operation id free starts = record { here = starts.here; alone = λ q ne f is. free q f (sym (starts.others q ne) ∙ is) }
+
+-- the writer once its operation is in flight
+abbrev begun : Operation → OpId → Queue → ℕ → Writer → Writer
+begun operation id queue len w = record (sending operation queue len w) { waiting = 0; phase = InFlight operation id }
+
+module _ (tells : Bool) (w : Writer) (queue : Queue) (goal : Goal) (old new : DiskView) (id : OpId) (records : List Batch) (fits : Fits tells records w old) (is_queue : IsQueueOf records queue) (held : HoldsPart queue w.sent goal.len) where
+  abbrev ordered : IsOrdered records w
+  ordered = fits.ordered
+
+  in_phase : (phase : Phase) → w.phase ≡ phase → HasNumbers phase w × HasFlight phase (file_of w) old × (IsTrue tells → HasFile phase records w (files old (file_of w)))
+  in_phase phase is = (
+    subst (λ (p : Phase). HasNumbers p w) is fits.numbers,
+    subst (λ (p : Phase). HasFlight p (file_of w) old) is fits.flight,
+    λ told. subst (λ (p : Phase). HasFile p records w (files old (file_of w))) is (fits.file told),
+  )
+
+  -- The bytes of the segment once all records are sent.
+  completed : w.written ≡ w.sent → w.written < goal.len → segment_bytes w.log w.from goal.len records ≡ segment_bytes w.log w.from w.sent records ++ frames_of queue w goal.len
+  completed rests more = frames_complete records queue w goal.len is_queue held.start (omega (arith, ordered.from, ordered.synced, ordered.written)) (omega (arith, rests, more)) ordered.place
+
+  pub begun_fits : (operation : Operation) → next_operation w.phase w.written goal ≡ Some operation → Starts (record { place = file_of w; act = act_of operation }) w.side id old new
+      → (IsTrue tells → ChangesFile (file_of w) (λ f g. g ≡ after_start (act_of operation) (frames_of queue w goal.len) f) old new) → Fits tells records (begun operation id queue goal.len w) new
+  begun_fits operation next starts file = go operation (next_ready w.phase w.written goal operation next) starts file
+    where
+      go : (o : Operation) → IsReadyFor o w.written goal.len w.phase → Starts (record { place = file_of w; act = act_of o }) w.side id old new
+          → (IsTrue tells → ChangesFile (file_of w) (λ f g. g ≡ after_start (act_of o) (frames_of queue w goal.len) f) old new) → Fits tells records (begun o id queue goal.len w) new
+      go Create is starts file =
+          let was = in_phase New is in
+          record {
+            ordered = record { log = ordered.log; from = ordered.from; synced = ordered.synced; written = ordered.written; sent = ordered.sent; place = ordered.place };
+            numbers = was.0;
+            flight = flies_from old new w Create id was.1 starts;
+            file = λ told. (file told).here;
+          }
+      go Sync is starts file =
+          let was = in_phase Idle is in
+          record {
+            ordered = record { log = ordered.log; from = ordered.from; synced = ordered.synced; written = ordered.written; sent = ordered.sent; place = ordered.place };
+            numbers = was.0;
+            flight = flies_from old new w Sync id was.1 starts;
+            file = λ told. (file told).here ∙ was.2 told;
+          }
+      go Write is starts file =
+          let was = in_phase Idle is.0 in
+          let whole = completed was.0 is.1 in
+          let frames : List ℕ = frames_of queue w goal.len in
+          record {
+            ordered = record {
+              log = ordered.log;
+              from = ordered.from;
+              synced = ordered.synced;
+              written = omega (arith, is.1);
+              sent = omega (arith, held.end, is_queue.start, ap length is_queue.holds, length-drop queue.start records);
+              place = omega (arith, ordered.place, ap length whole, length-append (segment_bytes w.log w.from w.sent records) frames);
+            };
+            numbers = tt;
+            flight = flies_from old new w Write id was.1 starts;
+            file = λ told. (file told).here ∙ ap (after_start writing frames) (was.2 told) ∙ rw (← whole) refl;
+          }
+
+  pub begun_moments : (operation : Operation) → GoesOn old new → next_operation w.phase w.written goal ≡ Some operation → Starts (record { place = file_of w; act = act_of operation }) w.side id old new
+      → (IsTrue tells → ChangesFile (file_of w) (λ f g. g ≡ after_start (act_of operation) (frames_of queue w goal.len) f) old new) → IsTrue tells
+      → AtEachMoment old.clock new (SegmentKept (file_of w) w.log w.from w.synced records)
+  begun_moments operation goes next starts file told =
+      two_moments (file_of w) (λ f g. g ≡ after_start (act_of operation) (frames_of queue w goal.len) f) old new (SegmentKept (file_of w) w.log w.from w.synced records) goes (file told)
+      (fits_kept tells records w old fits told)
+      (fits_kept tells records (begun operation id queue goal.len w) new (begun_fits operation next starts file) told)

@@ -1,0 +1,115 @@
+-- From the state of a segment's file to what each of its images reads out as. The bytes are looked at by the law of framing alone.
+use Rattle.std.proofs.Common.{◌≡◌, ℕ, ◌+◌, ◌-◌, ◌≤◌, Bool, true, false, List, length, map, take, drop, Option, Some, None, ap, sym, subst, ◌∙◌, refl, arith}
+use Rattle.std.proofs.lemmas.List.{length-take, length-drop, length-map, take-map, take-take, take-append-le, take_all}
+use native.Mathlib.Decide.{dec_le}
+use Rattle.disk_face.specs.declared.Side.{Side}
+use Rattle.disk_face.specs.declared.SegName.{SegName}
+use Rattle.disk_face.specs.View.{Place, segment, File, Files}
+use Rattle.disk_face.specs.Image.{Begins, IsImageOf, log_of}
+use Rattle.crc_chunk.specs.declared.chunk.ChunkKind.{ChunkKind}
+use Rattle.crc_chunk.specs.Chunk.{chunk, ChunkAt, IsChunkOf}
+use Rattle.batch_repr.specs.declared.batch.Batch.{Batch}
+use Rattle.batch_repr.specs.Written.{written}
+use Rattle.block_record.specs.Framing.{laid}
+use Rattle.block_record.specs.ReadOut.{bytes_of, ReadsFirst, ChunksStandIn}
+use Rattle.block_record.proofs.Fragments.{chunk_len}
+use Rattle.block_record.proofs.Beginnings.{first_are_read}
+use Rattle.log_writer.specs.Parts.{part, texts, segment_bytes}
+use Rattle.log_writer.specs.Kept.{IsFirstOf, IsKeptAs, SegmentKept, HasSynced, IsKeptFile}
+use Rattle.log_writer.proofs.Parts.{part_front, no_bytes}
+
+-- A chunk stands wherever its bytes do.
+chunk_moved : (bytes others : List ℕ) (at log : ℕ) (kind : ChunkKind) (payload : List ℕ) → take (11 + length payload) (drop at bytes) ≡ take (11 + length payload) (drop at others)
+    → ChunkAt bytes at log kind payload → ChunkAt others at log kind payload
+chunk_moved bytes others at log kind payload same here =
+    let size : length (chunk kind log payload) ≡ 11 + length payload = chunk_len kind log payload in
+    record {
+      stands = record { is = ap (λ (n : ℕ). take n (drop at others)) size ∙ sym same ∙ sym (ap (λ (n : ℕ). take n (drop at bytes)) size) ∙ here.stands.is };
+      within = here.within;
+    }
+
+-- What begins with the stable bytes has them.
+front_of : (f : File) (content : List ℕ) → f.stable ≤ length f.sent → Begins (take f.stable f.sent) content → take f.stable content ≡ take f.stable f.sent
+front_of f content within begins =
+    let front : List ℕ = take f.stable f.sent in
+    let len : f.stable ≤ length front = omega (arith, length-take f.stable f.sent, within) in
+    ap (take f.stable) begins.1 ∙ take-append-le f.stable front begins.0 len ∙ take_all f.stable front (omega (arith, length-take f.stable f.sent))
+
+module _ (place : Place) (log from synced : ℕ) (records : List Batch) where
+  abbrev sent_texts : ℕ → List (List ℕ)
+  sent_texts upto = texts (part from upto records)
+
+  -- The records that were read, out of those sent.
+  first_of : (f : File) (within : ℕ) (read : List (List ℕ)) (kept : HasSynced log from synced records f) → length (segment_bytes log from synced records) ≤ within
+      → ReadsFirst log within (sent_texts kept.upto) read → IsFirstOf from synced records read
+  unfolding segment_bytes
+  first_of f within read kept covered first = elim (dec_le first.count n) [
+    | yes le ↦ record {
+      count = first.count;
+      has_synced = enough;
+      within = omega (arith, le, kept.begins, kept.has_synced, kept.within);
+      first = texts_are ∙ ap (map written) (take-take first.count n rest le);
+    }
+    | no h ↦ record {
+      count = n;
+      has_synced = omega (arith, kept.has_synced);
+      within = omega (arith, kept.begins, kept.has_synced, kept.within);
+      first = texts_are ∙ ap (map written) (take_all first.count (take n rest) (omega (arith, h, length-take n rest)));
+    }
+  ]
+    where
+      n : ℕ
+      n = kept.upto - from
+
+      rest : List Batch
+      rest = drop from records
+
+      texts_are : read ≡ map written (take first.count (take n rest))
+      texts_are = first.first ∙ take-map written first.count (take n rest)
+
+      front : take (synced - from) (sent_texts kept.upto) ≡ texts (part from synced records)
+      front = take-map written (synced - from) (take n rest) ∙ ap (map written) (part_front from synced kept.upto records kept.has_synced)
+
+      enough : synced - from ≤ first.count
+      enough =
+          first.all_within (synced - from)
+          (omega (arith, length-map (take n rest) written, length-take n rest, length-drop from records, kept.begins, kept.has_synced, kept.within))
+          (omega (arith, covered, ap (λ (t : List (List ℕ)). length (laid log 0 t)) front))
+
+  -- Of a file that begins with so many bytes of what was sent.
+  reads_first : (f : File) (content : List ℕ) (within : ℕ) (kept : HasSynced log from synced records f) → within ≤ length f.sent → take within content ≡ take within f.sent
+      → length (segment_bytes log from synced records) ≤ within → ChunksStandIn f.sent log content → IsKeptAs log from synced records (Some content)
+  unfolding segment_bytes
+  reads_first f content within kept short front covered chunks found ends_at torn out =
+      first_of f within (bytes_of found) kept covered
+      (first_are_read log within (sent_texts kept.upto) content found ends_at torn
+      (omega (arith, short, ap length kept.sent)) (front ∙ ap (take within) kept.sent)
+      (subst (λ (l : List ℕ). ChunksStandIn l log content) kept.sent chunks) out)
+
+  -- What of the file makes that its segment is kept.
+  kept_in : (f : File) (content : List ℕ) (created : Bool) → f.created ≡ created → HasSynced log from synced records f → (f.created ≡ true → Begins (take f.stable f.sent) content)
+      → ChunksStandIn f.sent log content → IsKeptAs log from synced records (Some content)
+  kept_in f content true is kept begins chunks = reads_first f content f.stable kept (kept.stable is) (front_of f content (kept.stable is) (begins is)) (kept.covered is) chunks
+  kept_in f content false is kept begins chunks =
+      reads_first f content 0 kept (omega arith) refl (omega (arith, ap length (ap (λ (n : ℕ). segment_bytes log from n records) (kept.not_created is)), ap length (no_bytes log from records))) chunks
+
+-- Where the file has what is synced, the segment is kept in each image.
+pub file_kept : (side : Side) (name : SegName) (log from synced : ℕ) (records : List Batch) (files : Files) → log ≡ log_of (segment side name)
+    → IsKeptFile log from synced records (files (segment side name)) → SegmentKept (segment side name) log from synced records files
+file_kept side name log from synced records files log_is kept dirs image chance_free = go (files place) (dirs place) refl refl kept (image place)
+  where
+    place : Place
+    place = segment side name
+
+    go : (f : Option File) (o : Option (List ℕ)) → files place ≡ f → dirs place ≡ o → IsKeptFile log from synced records f → IsImageOf place f o → IsKeptAs log from synced records o
+    go None None f_is o_is k im = k
+    go None (Some content) f_is o_is k im = absurd im
+    go (Some f) None f_is o_is k im = gone f.created refl k im
+      where
+        gone : (created : Bool) → f.created ≡ created → HasSynced log from synced records f → (f.created ≡ true → f.leaving ≡ true) → synced ≡ from
+        gone true is k im = let clash : true ≡ false = sym (im is) ∙ k.stays is in cc
+        gone false is k im = k.not_created is
+    go (Some f) (Some content) f_is o_is k im =
+        kept_in place log from synced records f content f.created refl k im
+        (λ at kind payload here. chunk_moved content f.sent at log kind payload
+        (chance_free place f content at (11 + length payload) f_is o_is (subst (λ (l : ℕ). IsChunkOf content at l (11 + length payload)) log_is (record { kind = kind; payload = payload; stands = here; size_is = refl }))) here)

@@ -1,0 +1,64 @@
+-- One record more is framed behind those of a queue that are framed.
+use Rattle.std.proofs.Common.{◌≡◌, ℕ, suc, ◌+◌, ◌-◌, ◌%◌, ◌<◌, ◌≤◌, List, [], ◌∷◌, ◌++◌, length, take, drop, get_or, sym, ap, ◌∙◌, arith}
+use Rattle.std.proofs.lemmas.List.{length-drop, get_or-drop, append-nil, map-append, drop-drop}
+use Rattle.std.proofs.Math.Seq.{take-suc}
+use Rattle.batch_repr.specs.declared.batch.Batch.{Batch}
+use Rattle.batch_repr.specs.Written.{written}
+use Rattle.block_record.specs.Framing.{Standing, framed, laid}
+use Rattle.block_record.proofs.Laying.{framed_in_block, laid-append}
+use Rattle.std.proofs.lemmas.Option.{slice_get_within, get_or_from_slice_get}
+use Rattle.record_queue.specs.Queue.{Queue, IsRecordOf}
+use Rattle.log_writer.specs.Writer.{Writer}
+use Rattle.log_writer.specs.Parts.{part, texts, segment_bytes}
+use Rattle.log_writer.specs.Steps.{IsQueueOf}
+use Rattle.log_writer.specs.Sending.{queue_part, frames_from, frames_of}
+use Rattle.log_writer.proofs.Parts.{laid_in_block, bytes_split}
+
+one_more : (queue : Queue) (from number : ℕ) (rec : Batch) → queue.start ≤ from → from ≤ number → IsRecordOf queue number rec → queue_part queue from (number + 1) ≡ queue_part queue from number ++ rec ∷ []
+one_more queue from number rec low le found =
+    let n : ℕ = number - from in
+    let rest : List Batch = drop (from - queue.start) queue.records in
+    let more : number + 1 - queue.start - (from - queue.start) ≡ suc n = omega (arith, low, le) in
+    let same : number - queue.start - (from - queue.start) ≡ n = omega (arith, low, le) in
+    let place : from - queue.start + n ≡ number - queue.start = omega (arith, low, le) in
+    let within : n < length rest = omega (arith, slice_get_within queue.records (number - queue.start) rec found.1, length-drop (from - queue.start) queue.records, low, le) in
+    let here : get_or rest n rec ≡ rec =
+    get_or-drop (from - queue.start) queue.records n rec ∙ ap (λ (i : ℕ). get_or queue.records i rec) place ∙ get_or_from_slice_get queue.records (number - queue.start) rec rec found.1 in
+    ap (λ (i : ℕ). take i rest) more ∙ take-suc rest n rec within
+    ∙ ap (λ (b : Batch). take n rest ++ b ∷ []) here
+    ∙ ap (λ (i : ℕ). take i rest ++ rec ∷ []) (sym same)
+
+-- The next record of the queue is framed behind the others.
+pub framed_more : (queue : Queue) (standing : Standing) (from number : ℕ) (rec : Batch) → queue.start ≤ from → from ≤ number → IsRecordOf queue number rec
+    → frames_from queue standing.log standing.place from (number + 1)
+    ≡ frames_from queue standing.log standing.place from number ++ framed standing.log ((standing.place + length (frames_from queue standing.log standing.place from number)) % 32768) (written rec)
+framed_more queue standing from number rec low le found =
+    ap (λ (t : List Batch). laid standing.log standing.place (texts t)) (one_more queue from number rec low le found)
+    ∙ ap (laid standing.log standing.place) (map-append written (queue_part queue from number) (rec ∷ []))
+    ∙ laid-append standing.log standing.place (texts (queue_part queue from number)) (written rec ∷ [])
+    ∙ ap (λ (t : List ℕ). frames_from queue standing.log standing.place from number ++ t)
+    (append-nil (framed standing.log (standing.place + length (frames_from queue standing.log standing.place from number)) (written rec)) ∙ sym (framed_in_block standing.log (standing.place + length (frames_from queue standing.log standing.place from number)) (written rec)))
+
+-- The part of a queue is the part of the records that it holds.
+queue_part_is : (records : List Batch) (queue : Queue) (from to : ℕ) → IsQueueOf records queue → queue.start ≤ from → from ≤ to → queue_part queue from to ≡ part from to records
+queue_part_is records queue from to is low le =
+    let count : (to - queue.start) - (from - queue.start) ≡ to - from = omega (arith, low, le) in
+    let place : queue.start + (from - queue.start) ≡ from = omega (arith, low) in
+    ap (λ (n : ℕ). take n (drop (from - queue.start) queue.records)) count
+    ∙ ap (λ (t : List Batch). take (to - from) (drop (from - queue.start) t)) is.holds
+    ∙ ap (take (to - from)) (drop-drop (from - queue.start) queue.start records ∙ ap (λ (n : ℕ). drop n records) place)
+
+-- What a write sends completes the bytes of the segment.
+pub frames_complete : (records : List Batch) (queue : Queue) (w : Writer) (len : ℕ) → IsQueueOf records queue → queue.start ≤ w.sent → w.from ≤ w.sent → w.sent ≤ len
+    → w.place ≡ length (segment_bytes w.log w.from w.sent records) % 32768
+    → segment_bytes w.log w.from len records ≡ segment_bytes w.log w.from w.sent records ++ frames_of queue w len
+frames_complete records queue w len is low begins le place =
+    bytes_split w.log w.from w.sent len records begins le
+    ∙ ap (λ (t : List ℕ). segment_bytes w.log w.from w.sent records ++ t)
+    (sym (laid_in_block w.log (length (segment_bytes w.log w.from w.sent records)) (texts (part w.sent len records)))
+    ∙ ap (λ (n : ℕ). laid w.log n (texts (part w.sent len records))) (sym place)
+    ∙ ap (λ (t : List Batch). laid w.log w.place (texts t)) (sym (queue_part_is records queue w.sent len is low le)))
+
+-- Where there is none from one number to below another, none is framed.
+pub nothing_framed : (queue : Queue) (log place from to : ℕ) → to ≤ from → frames_from queue log place from to ≡ []
+nothing_framed queue log place from to le = let none : to - queue.start - (from - queue.start) ≡ 0 = omega (arith, le) in ap (λ (n : ℕ). laid log place (texts (take n (drop (from - queue.start) queue.records)))) none

@@ -1,0 +1,6 @@
+pub mod Writer
+pub mod Parts
+pub mod Fits
+pub mod Kept
+pub mod Steps
+pub mod Sending

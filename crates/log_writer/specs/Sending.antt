@@ -1,0 +1,32 @@
+-- What a start of an operation sends (docs/FORMATS.md, "The next operation of a segment").
+use Rattle.std.specs.Prelude.{ℕ, ◌+◌, ◌-◌, ◌%◌, List, length}
+use Rattle.batch_repr.specs.declared.batch.Batch.{Batch}
+use Rattle.block_record.specs.Framing.{laid}
+use Rattle.record_queue.specs.Queue.{Queue}
+use Rattle.log_writer.specs.declared.phase.Operation.{Operation}
+use Rattle.log_writer.specs.declared.phase.Operation.TheVariants.{Create, Write, Sync}
+use Rattle.log_writer.specs.Parts.{part, texts}
+use Rattle.log_writer.specs.Writer.{Writer}
+use Rattle.log_writer.specs.Steps.{sent_with}
+
+-- the records of a queue from one number to below another
+abbrev pub queue_part : Queue → ℕ → ℕ → List Batch
+queue_part queue from to = part (from - queue.start) (to - queue.start) queue.records
+
+-- the records of a queue from one number to below another, framed behind that place of a block
+abbrev pub frames_from : Queue → ℕ → ℕ → ℕ → ℕ → List ℕ
+frames_from queue log place from to = laid log place (texts (queue_part queue from to))
+
+-- where the next record begins in its block, once these bytes were sent by a write
+abbrev pub place_with : Operation → List ℕ → ℕ → ℕ
+place_with Create frames place = place
+place_with Write frames place = (place + length frames) % 32768
+place_with Sync frames place = place
+
+-- the bytes of a write of all records up to `len`
+abbrev pub frames_of : Queue → Writer → ℕ → List ℕ
+frames_of queue w len = frames_from queue w.log w.place w.sent len
+
+-- the writer once the operation is started, before it notes which
+abbrev pub sending : Operation → Queue → ℕ → Writer → Writer
+sending operation queue len w = record w { sent = sent_with operation len w.sent; place = place_with operation (frames_of queue w len) w.place }

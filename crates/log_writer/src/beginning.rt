@@ -1,0 +1,168 @@
+//! How a writer starts its next operation.
+
+ghost use Rattle.std.specs.Prelude.{◌≡◌, ◌≢◌, ◌<◌, ◌++◌, List, IsTrue, IfOk, OnOk, OnErr};
+ghost use Rattle.disk_face.specs.View.{Place, Files, writing, files, IsFree, AtEachMoment};
+ghost use Rattle.disk_face.specs.Calls.{GoesOn, MayStart, Starts, ChangesFile, after_start};
+ghost use Rattle.batch_repr.specs.declared.batch.Batch.{Batch};
+ghost use Rattle.block_record.specs.Framing.{standing_after};
+ghost use Rattle.log_writer.specs.declared.phase.Operation.TheVariants.{Write};
+ghost use Rattle.log_writer.specs.declared.phase.Phase.TheVariants.{Broken};
+ghost use Rattle.log_writer.specs.Fits.{Fits, IsBusy, SameFile, file_of, act_of};
+ghost use Rattle.log_writer.specs.Kept.{SegmentKept};
+ghost use Rattle.log_writer.specs.Steps.{IsQueueOf, HoldsPart, next_operation, BeginsJust};
+ghost use Rattle.log_writer.specs.Sending.{frames_from, frames_of, sending};
+
+use crate::goal::Goal;
+use crate::phase::{Operation, Phase};
+use crate::writer::LogWriter;
+use block_record::Framer;
+use crc_chunk::{BLOCK, HEADER};
+use disk_face::{Disk, DiskOp, OpId};
+use record_queue::RecordQueue;
+use wal_base::{Buf, NoMemory};
+
+/// How many bytes the frames of the records from one number to below another have at the most. With so much room no
+/// byte is copied twice.
+fn room_for(queue: &RecordQueue, from: u64, to: u64) -> usize {
+    let mut room: usize = 0;
+    for number in from..to {
+        let len = queue.get(number).map_or(0, |record| record.bytes().len());
+        // A chunk for each block that is filled, one in front and one behind, and then the zeros of a block's end.
+        let headers = (len / (BLOCK - HEADER) + 3).saturating_mul(HEADER);
+        room = room.saturating_add(len).saturating_add(headers);
+    }
+    room
+}
+
+/// Frames the records from one number to below another. After an error a part of them may stand in `out`.
+fn frame_records(
+    framer: &mut Framer,
+    out: &mut Buf,
+    queue: &RecordQueue,
+    from: u64,
+    to: u64,
+) -> Result<(), NoMemory>
+    requires held { HoldsPart queue.now from to }
+    requires in_block { framer.old.place < 32768 }
+    ensures framed { OnOk result (out.new ≡ out.old ++ frames_from queue.now framer.old.log framer.old.place from to) }
+    ensures moved { OnOk result (framer.new ≡ standing_after framer.old (frames_from queue.now framer.old.log framer.old.place from to)) }
+{
+    for number in from..to {
+        let Some(record) = queue.get(number) else {
+            unreachable!();
+        };
+        framer.frame(record.bytes(), out)?;
+    }
+    Ok(())
+}
+
+impl LogWriter {
+    /// The next operation of the segment, where nothing is in flight and nothing has failed.
+    fn next(&self, goal: &Goal) -> Option<Operation>
+        ensures { result ≡ next_operation self.now.phase self.now.written goal.now }
+    {
+        match self.phase {
+            Phase::New => Some(Operation::Create),
+            Phase::InFlight(_, _) | Phase::Broken => None,
+            Phase::Idle => {
+                if goal.want > goal.acked && self.written >= goal.want {
+                    return Some(Operation::Sync);
+                }
+                (self.written < goal.len).then_some(Operation::Write)
+            }
+        }
+    }
+
+    /// Writes all records from `sent` up to `len`, framed in one buffer.
+    fn write<D: Disk>(
+        &mut self,
+        disk: &mut D,
+        queue: &RecordQueue,
+        len: u64,
+    ) -> Result<OpId, NoMemory>
+        requires free { IsFree (D.view disk.old) (file_of self.old) }
+        requires may { IsTrue D.tells → MayStart writing (files (D.view disk.old) (file_of self.old)) }
+        requires held { HoldsPart queue.now self.old.sent len }
+        requires in_block { self.old.place < 32768 }
+        ensures goes_on { GoesOn (D.view disk.old) (D.view disk.new) }
+        ensures starts { IfOk result (λ id. Starts (record { place = file_of self.old; act = writing }) self.old.side id (D.view disk.old) (D.view disk.new)) }
+        ensures file { OnOk result (IsTrue D.tells → ChangesFile (file_of self.old) (λ f g. g ≡ after_start writing (frames_of queue.now self.old len) f) (D.view disk.old) (D.view disk.new)) }
+        ensures sent { OnOk result (self.new ≡ sending Write queue.now len self.old) }
+        ensures err { OnErr result ((self.new ≡ self.old) × (D.view disk.new ≡ D.view disk.old)) }
+    {
+        let mut framer = self.framer;
+        let mut frames = Buf::new(self.alloc)?;
+        frames.reserve(room_for(queue, self.sent, len))?;
+        frame_records(&mut framer, &mut frames, queue, self.sent, len)?;
+        let id = disk.start(DiskOp::Write {
+            side: self.side,
+            name: self.name,
+            bytes: frames.as_slice(),
+        })?;
+        self.framer = framer;
+        self.sent = len;
+        Ok(id)
+    }
+
+    /// Puts this operation in flight, with all records up to `len` where it is a write.
+    fn start<D: Disk>(
+        &mut self,
+        disk: &mut D,
+        queue: &RecordQueue,
+        operation: Operation,
+        len: u64,
+    ) -> Result<OpId, NoMemory>
+        requires free { IsFree (D.view disk.old) (file_of self.old) }
+        requires may { IsTrue D.tells → MayStart (act_of operation) (files (D.view disk.old) (file_of self.old)) }
+        requires held { HoldsPart queue.now self.old.sent len }
+        requires in_block { self.old.place < 32768 }
+        ensures goes_on { GoesOn (D.view disk.old) (D.view disk.new) }
+        ensures starts { IfOk result (λ id. Starts (record { place = file_of self.old; act = act_of operation }) self.old.side id (D.view disk.old) (D.view disk.new)) }
+        ensures file { OnOk result (IsTrue D.tells → ChangesFile (file_of self.old) (λ f g. g ≡ after_start (act_of operation) (frames_of queue.now self.old len) f) (D.view disk.old) (D.view disk.new)) }
+        ensures sent { OnOk result (self.new ≡ sending operation queue.now len self.old) }
+        ensures err { OnErr result ((self.new ≡ self.old) × (D.view disk.new ≡ D.view disk.old)) }
+    {
+        let side = self.side;
+        let name = self.name;
+        match operation {
+            Operation::Create => disk.start(DiskOp::Create { side, name }),
+            Operation::Write => self.write(disk, queue, len),
+            Operation::Sync => disk.start(DiskOp::Sync { side, name }),
+        }
+    }
+
+    /// Starts the next operation of the segment, and says whether there was one: its creation where that is not
+    /// completed; else a sync where `want` is above `acked` and all of `want` is written; else a write of all records
+    /// from `written` up to `len`; else none. The queue holds every record from `sent` up to `len`. `Err` is want of
+    /// memory, and nothing was started.
+    pub fn begin<D: Disk>(
+        &mut self,
+        disk: &mut D,
+        queue: &RecordQueue,
+        goal: &Goal,
+    ) -> Result<bool, NoMemory>
+        requires not_busy { ¬ IsBusy self.old.phase }
+        requires not_broken { self.old.phase ≢ Broken }
+        requires held { HoldsPart queue.now self.old.sent goal.now.len }
+        requires fits { (records : List Batch) × Fits D.tells records self.old (D.view disk.old) × IsQueueOf records queue.now }
+        ensures goes_on { GoesOn (D.view disk.old) (D.view disk.new) }
+        ensures starts { IfOk result (λ started. BeginsJust (next_operation self.old.phase self.old.written goal.now) goal.now.len started self.old self.new (D.view disk.old) (D.view disk.new)) }
+        ensures err { OnErr result ((self.new ≡ self.old) × (D.view disk.new ≡ D.view disk.old)) }
+        ensures fits { (records : List Batch) → Fits D.tells records self.old (D.view disk.old) → IsQueueOf records queue.now → Fits D.tells records self.new (D.view disk.new) }
+
+        // What a crash leaves, at each moment of the call.
+        ensures each_moment { (records : List Batch) → Fits D.tells records self.old (D.view disk.old) → IsQueueOf records queue.now → IsTrue D.tells → AtEachMoment ((D.view disk.old).clock) (D.view disk.new) (SegmentKept (file_of self.old) self.old.log self.old.from self.old.synced records) }
+
+        // Every other file stays as it was, at each moment too.
+        ensures others { (place : Place) → place ≢ file_of self.old → SameFile D.tells place (D.view disk.old) (D.view disk.new) }
+        ensures other_moments { IsTrue D.tells → AtEachMoment ((D.view disk.old).clock) (D.view disk.new) (λ (now : Files). (place : Place) → place ≢ file_of self.old → now place ≡ files (D.view disk.old) place) }
+    {
+        let Some(operation) = self.next(goal) else {
+            return Ok(false);
+        };
+        let id = self.start(disk, queue, operation, goal.len)?;
+        self.waiting = 0;
+        self.phase = Phase::InFlight(operation, id);
+        Ok(true)
+    }
+}

@@ -1,0 +1,383 @@
+ghost use Rattle.std.specs.Prelude.{◌≡◌, IsTrue, None};
+ghost use Rattle.disk_face.specs.declared.Side.TheVariants.{Primary};
+ghost use Rattle.disk_face.specs.View.{Place, segment, files, IsFree, NothingInFlight};
+
+use crate::{Goal, LogWriter};
+use batch_repr::{BatchBuilder, Numbered};
+use block_record::{ReadOut, read_out};
+use disk_face::{Disk, Progress, SegName, Side, StallDisk};
+use mem_disk::{CrashPick, FilePick, FilePicks, MemDisk};
+use record_queue::RecordQueue;
+use std::alloc::Global;
+use std::marker::Model;
+use std::process::Abort;
+use wal_base::Blob;
+
+const NAME: SegName = SegName { wal: 1, index: 0 };
+
+/// A writer, with its disk and all records of its run.
+#[derive(Drop)]
+struct Rig<D: StallDisk> {
+    disk: D,
+    queue: RecordQueue,
+    writer: LogWriter,
+}
+
+impl<D: StallDisk> Model for Rig<D> {
+    ghost use Rattle.std.specs.Prelude.{◌≡◌};
+    ghost use Rattle.log_writer.specs.Fits.{Fits};
+
+    ghost Value = { D };
+
+    ghost view = { λ rig. rig.disk };
+
+    ghost invariant = { λ rig. Fits D.tells rig.queue.records rig.writer (D.view rig.disk) × (rig.queue.start ≡ 0) };
+}
+
+/// What a step of a rig did.
+#[derive(Clone, Copy, Debug, PartialEq, Eq)]
+enum Step {
+    Begun,
+    Polled(Progress),
+    Resting,
+    Broken,
+}
+
+impl<D: StallDisk> Rig<D> {
+    /// A new writer of a segment that begins with that record.
+    fn new(rt: &impl Abort, alloc: Global, disk: D, queue: RecordQueue, from: u64) -> Rig<D>
+        requires free { IsFree (D.view disk) (segment Primary NAME) }
+        requires absent { IsTrue D.tells → files (D.view disk) (segment Primary NAME) ≡ None }
+        requires whole { queue.start ≡ 0 }
+    {
+        assert!(rt; from <= queue.end());
+        let writer = LogWriter::new(alloc, Side::Primary, NAME, 1, from).expect(rt, "memory");
+        Rig {
+            disk,
+            queue,
+            writer,
+        }
+    }
+
+    /// Polls the operation in flight, or starts the next one.
+    fn step(&mut self, rt: &impl Abort, goal: Goal) -> Step {
+        if self.writer.busy() {
+            return Step::Polled(self.writer.poll(&mut self.disk));
+        }
+        if self.writer.broken() {
+            return Step::Broken;
+        }
+        assert!(rt; goal.len <= self.queue.end());
+        let begun = self.writer.begin(&mut self.disk, &self.queue, &goal);
+        if begun.expect(rt, "memory") {
+            Step::Begun
+        } else {
+            Step::Resting
+        }
+    }
+
+    /// Makes so many steps, or as many as there are, for more and more records. Answers how many it made.
+    fn run(&mut self, rt: &impl Abort, steps: u32) -> u32 {
+        for step in 0..steps {
+            let all = self.queue.end();
+            let goal = goal_at(step, all, self.writer.synced());
+            let done = self.step(rt, goal);
+            if done == Step::Broken || (done == Step::Resting && goal.len == all) {
+                return step;
+            }
+        }
+        steps
+    }
+
+    /// More polls of the writer's side are pending.
+    fn stall(&mut self, polls: u32) {
+        self.disk.stall(Side::Primary, polls);
+    }
+
+    fn from(&self) -> u64 {
+        self.writer.from()
+    }
+
+    fn waiting(&self) -> u32 {
+        self.writer.waiting()
+    }
+
+    fn is_broken(&self) -> bool {
+        self.writer.broken()
+    }
+
+    fn into_disk(self) -> D {
+        let Rig { disk, .. } = self;
+        disk
+    }
+
+    /// The ends of what is sent, written and synced.
+    fn ends(&self) -> (u64, u64, u64) {
+        (
+            self.writer.sent(),
+            self.writer.written(),
+            self.writer.synced(),
+        )
+    }
+}
+
+/// What is wanted at a step of a run: one record more at each third step, and a sync of each fourth record.
+fn goal_at(step: u32, all: u64, acked: u64) -> Goal {
+    let len = u64::from(step / 3).saturating_add(1).min(all);
+    let want = if len < all { len - len % 4 } else { all };
+    Goal { len, want, acked }
+}
+
+/// The batch of this number that sets `a` to a value of so many equal bytes.
+fn numbered(rt: &impl Abort, alloc: Global, first: u32, byte: u8, len: usize) -> Numbered {
+    let value = vec![in alloc; byte; len].expect(rt, "memory");
+    let mut builder = BatchBuilder::new(alloc).expect(rt, "memory");
+    builder.set(b"a", &value).expect(rt, "an entry");
+    let Ok(batch) = builder.finish() else {
+        panic!(rt; "a batch");
+    };
+    assert_eq!(rt; batch.count(), 1);
+    batch.number(u64::from(first))
+}
+
+/// A record for each length of a value, the first with the number 10.
+fn records_of(rt: &impl Abort, alloc: Global, lens: &[usize]) -> RecordQueue
+    ensures { result.start ≡ 0 }
+{
+    let mut queue = RecordQueue::new(alloc).expect(rt, "memory");
+    let mut first = 10u32;
+    let mut byte = b'1';
+    for len in lens {
+        queue.reserve().expect(rt, "memory");
+        queue.push(numbered(rt, alloc, first, byte, *len));
+        first = first.wrapping_add(1);
+        byte = byte.wrapping_add(1);
+    }
+    queue
+}
+
+/// The pick of an image in which the segment has this tail, or none.
+fn pick_of(rt: &impl Abort, alloc: Global, tail: Option<&[u8]>) -> CrashPick {
+    let tail = tail.map(|bytes| Blob::copy_of(alloc, bytes).expect(rt, "memory"));
+    let mut files = FilePicks::new(alloc);
+    let pushed = files.push(FilePick {
+        side: Side::Primary,
+        name: NAME,
+        tail,
+    });
+    assert!(rt; pushed.is_ok());
+    CrashPick { files }
+}
+
+/// What the segment reads out as in the image with this tail, which no torn chunk may deceive.
+fn read_after(rt: &impl Abort, alloc: Global, disk: MemDisk, tail: Option<&[u8]>) -> ReadOut {
+    let pick = pick_of(rt, alloc, tail);
+    let free = disk.chance_free(&pick).expect(rt, "memory");
+    assert!(rt; free);
+    let image = disk.crash(&pick).expect(rt, "memory");
+    let bytes = image.content(Side::Primary, NAME).unwrap_or(b"");
+    read_out(alloc, 1, bytes).expect(rt, "memory")
+}
+
+/// An empty disk, on which the operation of that number is to fail if there is one.
+fn disk_of(rt: &impl Abort, alloc: Global, failing: Option<u64>) -> MemDisk
+    ensures idle { NothingInFlight (⟦<MemDisk as Disk>⟧.view result) }
+    ensures empty { (p : Place) → files (⟦<MemDisk as Disk>⟧.view result) p ≡ None }
+{
+    let mut disk = MemDisk::new(alloc).expect(rt, "memory");
+    let Some(number) = failing else {
+        return disk;
+    };
+    disk.fail_op(number).expect(rt, "memory");
+    disk
+}
+
+/// A rig over such a disk, with a record for each length of a value, and a segment that begins with that record.
+fn rig_from(
+    rt: &impl Abort,
+    alloc: Global,
+    failing: Option<u64>,
+    lens: &[usize],
+    from: u64,
+) -> Rig<MemDisk> {
+    let disk = disk_of(rt, alloc, failing);
+    Rig::new(rt, alloc, disk, records_of(rt, alloc, lens), from)
+}
+
+fn rig_of(rt: &impl Abort, alloc: Global, failing: Option<u64>, lens: &[usize]) -> Rig<MemDisk> {
+    rig_from(rt, alloc, failing, lens, 0)
+}
+
+#[test]
+fn three_records_of_which_two_are_synced(rt: HostRuntime) {
+    let sync_two = Goal {
+        len: 2,
+        want: 2,
+        acked: 0,
+    };
+    let write_three = Goal {
+        len: 3,
+        want: 2,
+        acked: 2,
+    };
+    for (tail, changed, records) in [(false, false, 2), (true, false, 3), (true, true, 2)] {
+        let mut rig = rig_of(&rt, rt.alloc(), None, &[1, 1, 1]);
+        for goal in [sync_two, sync_two, sync_two, write_three] {
+            assert_eq!(rt; rig.step(&rt, goal), Step::Begun);
+            assert_eq!(rt; rig.step(&rt, goal), Step::Polled(Progress::Done));
+        }
+        assert_eq!(rt; rig.step(&rt, write_three), Step::Resting);
+        assert_eq!(rt; rig.ends(), (3, 3, 2));
+        let disk = rig.into_disk();
+        let mut sent = [0; 84];
+        match disk.sent(Side::Primary, NAME) {
+            Some(bytes) if bytes.len() == 84 => sent.copy_from_slice(bytes),
+            _ => panic!(rt; "84 bytes are sent"),
+        }
+        if changed {
+            sent[80] ^= 1;
+        }
+        let behind = if tail { Some(&sent[56..]) } else { None };
+        let read = read_after(&rt, rt.alloc(), disk, behind);
+        assert_eq!(rt;
+            (read.records.len(), read.ends_at),
+            (records, 28 * records as u64)
+        );
+    }
+}
+
+/// What a crash leaves behind the stable bytes.
+#[derive(Clone, Copy, Debug, PartialEq, Eq)]
+enum Tail {
+    Nothing,
+    AllSent,
+    LastByteChanged,
+}
+
+/// The bytes that were sent behind the first of so many records, changed as the tail says.
+fn tail_of(
+    rt: &impl Abort,
+    alloc: Global,
+    disk: &MemDisk,
+    synced: u64,
+    tail: Tail,
+) -> Option<Vec<u8>> {
+    let sent = disk.sent(Side::Primary, NAME)?;
+    let read = read_out(alloc, 1, sent).expect(rt, "memory");
+    let from = match read.records.get(synced as usize) {
+        Some(record) => record.at as usize,
+        None => sent.len(),
+    };
+    let mut bytes = Vec::from_slice(alloc, sent.get(from..)?).expect(rt, "memory");
+    if tail == Tail::LastByteChanged
+        && let Some(last) = bytes.last_mut()
+    {
+        *last ^= 1;
+    }
+    (tail != Tail::Nothing).then_some(bytes)
+}
+
+/// What a crash leaves with this tail reads out as the first of the records, with all that is synced.
+fn crash(rt: &impl Abort, alloc: Global, rig: Rig<MemDisk>, tail: Tail) {
+    let from = rig.from();
+    let (sent, _, synced) = rig.ends();
+    let sent = sent.saturating_sub(from);
+    let synced = synced.saturating_sub(from);
+    let Rig { disk, queue, .. } = rig;
+    let bytes = tail_of(rt, alloc, &disk, synced, tail);
+    let read = read_after(rt, alloc, disk, bytes.as_deref());
+    let count = read.records.len() as u64;
+    match tail {
+        Tail::Nothing => assert_eq!(rt; count, synced),
+        Tail::AllSent => assert_eq!(rt; count, sent),
+        Tail::LastByteChanged => assert!(rt; synced <= count && count <= sent),
+    }
+    for (number, record) in read.records.as_slice().iter().enumerate() {
+        let wanted = queue
+            .get(from.saturating_add(number as u64))
+            .map(|rec| rec.bytes());
+        assert!(rt; wanted == Some(record.bytes.as_slice()), "record {number}");
+    }
+}
+
+#[test]
+fn a_stop_after_each_step_of_fifty_records(rt: HostRuntime) {
+    let mut lens = [0; 50];
+    for (at, len) in lens.iter_mut().enumerate() {
+        *len = at % 10 * 37 + 1;
+    }
+    lens[5] = 33_000;
+    lens[30] = 40_000;
+    let steps = rig_of(&rt, rt.alloc(), None, &lens).run(&rt, 1_000);
+    assert!(rt; 100 < steps && steps < 1_000);
+    for stopped in 0..=steps {
+        for tail in [Tail::Nothing, Tail::AllSent, Tail::LastByteChanged] {
+            let mut rig = rig_of(&rt, rt.alloc(), None, &lens);
+            assert_eq!(rt; rig.run(&rt, stopped), stopped);
+            crash(&rt, rt.alloc(), rig, tail);
+        }
+    }
+}
+
+#[test]
+fn a_segment_that_begins_with_a_later_record(rt: HostRuntime) {
+    let mut rig = rig_from(&rt, rt.alloc(), None, &[1, 1, 33_000, 1, 1], 2);
+    assert_eq!(rt; (rig.from(), rig.ends()), (2, (2, 2, 2)));
+    rig.run(&rt, 1_000);
+    assert_eq!(rt; (rig.from(), rig.ends()), (2, (5, 5, 5)));
+    crash(&rt, rt.alloc(), rig, Tail::Nothing);
+}
+
+#[test]
+fn each_operation_fails_once(rt: HostRuntime) {
+    for (number, ends) in [
+        (0, (0, 0, 0)),
+        (1, (1, 0, 0)),
+        (2, (2, 1, 0)),
+        (3, (3, 2, 0)),
+        (4, (4, 3, 0)),
+        (5, (4, 4, 0)),
+        (6, (5, 4, 4)),
+        (7, (6, 5, 4)),
+        (8, (7, 6, 4)),
+        (9, (8, 7, 4)),
+        (10, (8, 8, 4)),
+        (11, (9, 8, 8)),
+        (12, (9, 9, 8)),
+        (13, (9, 9, 9)),
+    ] {
+        let mut rig = rig_of(&rt, rt.alloc(), Some(number), &[1; 9]);
+        rig.run(&rt, 1_000);
+        assert_eq!(rt; rig.ends(), ends, "where {number} fails");
+        assert_eq!(rt; rig.is_broken(), number < 13, "where {number} fails");
+        crash(&rt, rt.alloc(), rig, Tail::Nothing);
+    }
+}
+
+#[test]
+fn pending_answers_are_counted_to_a_thousand(rt: HostRuntime) {
+    let goal = Goal {
+        len: 1,
+        want: 0,
+        acked: 0,
+    };
+    for (polls, counted) in [
+        (0, 0),
+        (1, 1),
+        (2, 2),
+        (999, 999),
+        (1_000, 1_000),
+        (1_001, 1_000),
+        (1_500, 1_000),
+    ] {
+        let mut rig = rig_of(&rt, rt.alloc(), None, &[1]);
+        assert_eq!(rt; rig.step(&rt, goal), Step::Begun);
+        rig.stall(polls);
+        for _ in 0..polls {
+            assert_eq!(rt; rig.step(&rt, goal), Step::Polled(Progress::Pending));
+        }
+        assert_eq!(rt; rig.waiting(), counted);
+        assert_eq!(rt; rig.step(&rt, goal), Step::Polled(Progress::Done));
+        assert_eq!(rt; rig.waiting(), 0);
+    }
+}
