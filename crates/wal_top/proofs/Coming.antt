@@ -1,31 +1,19 @@
 -- What a replay comes to over a disk, told of the disk before its directories were listed, and the log that it leaves.
-use Rattle.std.proofs.Common.{◌≡◌, ◌≢◌, ℕ, Bool, true, false, List, Option, Some, None, refl, sym, ap, ◌∙◌, arith, subst}
-use Rattle.batch_repr.specs.declared.batch.Batch.{Batch}
+use Rattle.std.proofs.Common.{◌≡◌, ◌≢◌, ℕ, Bool, true, false, List, Option, Some, None, refl, arith, subst}
 use Rattle.disk_face.specs.declared.Side.TheVariants.{Primary}
 use Rattle.disk_face.specs.View.{DiskView, File, Files, files, creating}
 use Rattle.disk_face.specs.Calls.{MayStart, GoesOn, SameDisk}
-use Rattle.disk_face.specs.Tables.{whole}
 use Rattle.disk_face.proofs.Moments.{same_files, rose_later}
 use Rattle.wal_top.specs.declared.script.Act.{Act}
 use Rattle.wal_top.specs.declared.status.Status.{Status}
 use Rattle.wal_top.specs.declared.status.Status.TheVariants.{Read}
-use Rattle.wal_top.specs.Log.{log_place, log_bytes, HasNoSegment, KeepsLog, StoresLog}
+use Rattle.wal_top.specs.Log.{log_place, HasNoSegment, StoresLog}
 use Rattle.wal_top.specs.Doing.{ReplaysOver, unwritten, written, ComesTo, occupied, unlisted, replayed, ScriptComesTo, bad_line, asked}
-use Rattle.wal_top.proofs.LogBytes.{no_log}
 
 module _ (old mid new : DiskView) (goes : GoesOn old mid) (same : SameDisk old mid) where
   pub replays_after : (acts : List Act) (tells : Bool) (status : Status) (text : List ℕ) → ReplaysOver acts tells mid new status text → ReplaysOver acts tells old new status text
   replays_after acts tells _ _ (unwritten batches text is rose) = unwritten batches text is (rose_later (old.faults Primary) (mid.faults Primary) (new.faults Primary) (goes.faults Primary) rose)
   replays_after acts tells _ _ (written batches text is stored) = written batches text is (λ told. subst (λ (fs : Files). StoresLog batches fs (files new)) (same_files old mid same) (stored told))
-
--- a log that is kept is that of the batches
-pub stores_by : (batches : List Batch) (log : List ℕ) (old new : Files) → log ≡ log_bytes batches → KeepsLog log old new → StoresLog batches old new
-unfolding log_bytes
-stores_by batches log old new e k = record {
-  log = λ some. k.kept (λ none. some (no_log batches (sym e ∙ none))) ∙ ap (λ (t : List ℕ). Some (whole t)) e;
-  nothing = λ none. k.nothing (e ∙ ap log_bytes none);
-  others = k.others;
-}
 
 -- a log may be created where no segment stands
 pub may_create : (fs : Files) → HasNoSegment fs → MayStart creating (fs log_place)

@@ -1,4 +1,4 @@
--- A replay that goes on act by act: the batches so far are the front of the whole history, the text so far of the whole text, and the log so far has their chunks.
+-- A replay that goes on act by act: the batches so far are the front of the whole history, the text so far of the whole text, and the queue holds the batches so far.
 use Rattle.std.proofs.Common.{◌≡◌, ℕ, ◌+◌, ◌≤◌, List, [], ◌∷◌, ◌++◌, length, take, map, refl, sym, ap, ◌∙◌, arith, append_assoc, subst}
 use Rattle.std.specs.Prelude.{sum_by}
 use Rattle.std.specs.List.{filter_map}
@@ -10,8 +10,8 @@ use Rattle.batch_repr.specs.Batches.{count_of, IsContiguous, end_after, answer}
 use Rattle.wal_top.specs.declared.script.Act.{Act}
 use Rattle.wal_top.specs.declared.script.Act.TheVariants.{Commit, Get}
 use Rattle.wal_top.specs.Printing.{end_line}
-use Rattle.wal_top.specs.Replay.{FIRST, committed, numbers_taken, batches_added, reply_line, reply_lines}
-use Rattle.wal_top.specs.Log.{log_bytes}
+use Rattle.wal_top.specs.Replay.{FIRST, IsReplayText, committed, numbers_taken, batches_added, reply_line, reply_lines}
+use Rattle.record_queue.specs.Queue.{Queue}
 use Rattle.wal_top.specs.Doing.{batch_made, DoesAct, IsReplay}
 use Rattle.wal_top.proofs.Numbering.{end_after-push}
 
@@ -20,19 +20,20 @@ unfoldable pub made : ℕ → List Act → List Batch
 made from [] = []
 made from (act ∷ acts) = batch_made from act ++ made (from + numbers_taken act) acts
 
--- The history and the text are what the batches and the text so far become over the rest of the acts, and the log is that of the batches so far.
-pub record GoesOn (acts : List Act) (batches : List Batch) (rest : List Act) (text log : List ℕ) : Type 0 where
+-- The history and the text are what the batches and the text so far become over the rest of the acts, and the queue holds the batches so far.
+pub record GoesOn (acts : List Act) (batches : List Batch) (rest : List Act) (text : List ℕ) (queue : Queue) : Type 0 where
   pub history : made FIRST acts ≡ batches ++ made (end_after FIRST batches) rest
   pub text_is : text ++ reply_lines (made FIRST acts) (length batches) rest ≡ reply_lines (made FIRST acts) 0 acts
   pub room : end_after FIRST batches + sum_by numbers_taken rest ≤ NUMBER_MAX
-  pub log_is : log ≡ log_bytes batches
+  pub queue_is : queue.records ≡ batches
+  pub start : queue.start ≡ 0
 
-pub goes_from : (acts : List Act) (batches : List Batch) (text log : List ℕ) → batches ≡ [] → text ≡ [] → log ≡ [] → FIRST + sum_by numbers_taken acts ≤ NUMBER_MAX
-    → GoesOn acts batches acts text log
-unfolding end_after log_bytes
-goes_from acts batches text log none empty no_log room =
-    subst (λ (bs : List Batch). GoesOn acts bs acts text log) (sym none)
-    (subst (λ (t : List ℕ). GoesOn acts [] acts t log) (sym empty) (record { history = refl; text_is = refl; room = room; log_is = no_log }))
+pub goes_from : (acts : List Act) (batches : List Batch) (text : List ℕ) (queue : Queue) → batches ≡ [] → text ≡ [] → queue.records ≡ [] → queue.start ≡ 0 → FIRST + sum_by numbers_taken acts ≤ NUMBER_MAX
+    → GoesOn acts batches acts text queue
+unfolding end_after
+goes_from acts batches text queue none empty no_record start room =
+    subst (λ (bs : List Batch). GoesOn acts bs acts text queue) (sym none)
+    (subst (λ (t : List ℕ). GoesOn acts [] acts t queue) (sym empty) (record { history = refl; text_is = refl; room = room; queue_is = no_record; start = start }))
 
 end_after-made : (batches : List Batch) (act : Act) → end_after FIRST (batches ++ batch_made (end_after FIRST batches) act) ≡ end_after FIRST batches + numbers_taken act
 end_after-made batches (Commit entries) = end_after-push FIRST batches (record { first = end_after FIRST batches; entries = entries })
@@ -54,10 +55,10 @@ reply_behind batches more act =
     cases (Get key) front = rw front refl
 
 -- one act more
-pub goes_on : (acts : List Act) (old new : List Batch) (act : Act) (before rest : List Act) (text text' log log' : List ℕ) → GoesOn acts old before text log → before ≡ act ∷ rest → DoesAct act old new log log' text text'
-    → GoesOn acts new rest text' log'
+pub goes_on : (acts : List Act) (old new : List Batch) (act : Act) (before rest : List Act) (text text' : List ℕ) (queue queue' : Queue) → GoesOn acts old before text queue → before ≡ act ∷ rest → DoesAct act old new queue queue' text text'
+    → GoesOn acts new rest text' queue'
 unfolding made reply_lines
-goes_on acts old new act before rest text text' log log' g e d =
+goes_on acts old new act before rest text text' queue queue' g e d =
     let whole : List Batch = made FIRST acts in
     let from : ℕ = end_after FIRST old in
     let one : List Batch = batch_made from act in
@@ -74,7 +75,8 @@ goes_on acts old new act before rest text text' log log' g e d =
           ∙ ap (λ (t : List ℕ). text ++ (t ++ reply_lines whole (length new) rest)) (sym reply) ∙ ap (λ (n : ℕ). text ++ (reply_line whole (length old) act ++ reply_lines whole n rest)) longer
           ∙ ap (λ (t : List Act). text ++ reply_lines whole (length old) t) (sym e) ∙ g.text_is;
       room = omega (arith, g.room, next, sums);
-      log_is = d.logged g.log_is;
+      queue_is = d.queued ∙ ap (λ (bs : List Batch). bs ++ one) g.queue_is ∙ sym d.batches;
+      start = d.start ∙ g.start;
     }
 
 made_committed : (from : ℕ) (acts : List Act) → map (λ (batch : Batch). batch.entries) (made from acts) ≡ filter_map committed acts
@@ -84,18 +86,17 @@ made_committed from (Commit entries ∷ acts) = ap (λ t. entries ∷ t) (made_c
 made_committed from (Get key ∷ acts) = made_committed (from + 0) acts
 
 -- the end: the history is whole, and the last line ends the text
-pub has_gone : (acts : List Act) (batches : List Batch) (rest : List Act) (text text' log : List ℕ) → GoesOn acts batches rest text log → rest ≡ [] → IsContiguous FIRST batches
-    → text' ≡ text ++ end_line (end_after FIRST batches) (length batches) → IsReplay acts text' log
+pub has_gone : (acts : List Act) (batches : List Batch) (rest : List Act) (text text' : List ℕ) (queue : Queue) → GoesOn acts batches rest text queue → rest ≡ [] → IsContiguous FIRST batches
+    → text' ≡ text ++ end_line (end_after FIRST batches) (length batches) → IsReplay acts text' queue
 unfolding made reply_lines
-has_gone acts batches rest text text' log g e numbered last =
+has_gone acts batches rest text text' queue g e numbered last =
     let whole : made FIRST acts ≡ batches = g.history ∙ ap (λ (t : List Act). batches ++ made (end_after FIRST batches) t) e ∙ append-nil batches in
     let said : text ≡ reply_lines batches 0 acts =
     sym (append-nil text) ∙ ap (λ (t : List Act). text ++ reply_lines (made FIRST acts) (length batches) t) (sym e) ∙ g.text_is ∙ ap (λ (bs : List Batch). reply_lines bs 0 acts) whole in
     record {
-      batches = batches;
-      answers = record {
+      answers = subst (λ (bs : List Batch). IsReplayText acts bs text') (sym g.queue_is) (record {
         history = record { numbered = numbered; committed_are = ap (map (λ (batch : Batch). batch.entries)) (sym whole) ∙ made_committed FIRST acts };
         text_is = last ∙ ap (λ (t : List ℕ). t ++ end_line (end_after FIRST batches) (length batches)) said;
-      };
-      log_is = g.log_is;
+      });
+      start = g.start;
     }

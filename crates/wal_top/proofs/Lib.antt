@@ -1,10 +1,9 @@
 mod Examples
-pub mod Waiting
 pub mod Listed
 pub mod OneScript
 pub mod OneAct
 pub mod Coming
-pub mod LogBytes
+pub mod Logging
 pub mod Saying
 pub mod Endings
 pub mod Taking

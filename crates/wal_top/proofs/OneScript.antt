@@ -1,5 +1,5 @@
 -- A script asks for one list of acts: each line says one thing at the most.
-use Rattle.std.proofs.Common.{◌≡◌, ◌⊎◌, inl, inr, ℕ, ◌≤◌, arith, false, List, [], ◌∷◌, ◌++◌, Option, Some, None, refl, sym, ap, ◌∙◌}
+use Rattle.std.proofs.Common.{◌≡◌, inl, inr, ℕ, ◌≤◌, arith, false, List, [], ◌∷◌, ◌++◌, Option, Some, None, refl, sym, ap, ◌∙◌}
 use Rattle.std.specs.Prelude.{codes, slice_get}
 use Rattle.std.specs.List.{slice_split, onto_first}
 use Rattle.std.specs.Option.{option_to_list}
@@ -8,7 +8,7 @@ use Rattle.wal_top.specs.declared.pieces.Cut.TheVariants.{AtBlanks}
 use Rattle.wal_top.specs.declared.script.Act.{Act}
 use Rattle.wal_top.specs.declared.script.Act.TheVariants.{Commit, Get}
 use Rattle.wal_top.specs.Cutting.{is_cut, pieces, lines_of, words_of}
-use Rattle.wal_top.specs.Script.{AsksToCommit, AsksToGet, Asks, SaysNothing, LineSays, LinesSay, IsScript}
+use Rattle.wal_top.specs.Script.{Asks, SaysNothing, LineSays, LinesSay, IsScript}
 
 begins_with : (b : ℕ) (parts : List (List ℕ)) (word : List ℕ) (words : List (List ℕ)) → onto_first b parts ≡ word ∷ words → slice_get word 0 ≡ Some b
 begins_with b [] word words e = let first : word ≡ b ∷ [] = cc in ap (λ (t : List ℕ). slice_get t 0) first

@@ -3,6 +3,7 @@ use Rattle.std.specs.Prelude.{◌≡◌, ℕ, Bool, IsTrue, List, [], ◌∷◌,
 use Rattle.wal_base.specs.Faults.{Rose}
 use Rattle.batch_repr.specs.declared.batch.Batch.{Batch}
 use Rattle.batch_repr.specs.Batches.{end_after}
+use Rattle.record_queue.specs.Queue.{Queue}
 use Rattle.disk_face.specs.declared.Side.{Side}
 use Rattle.disk_face.specs.declared.Side.TheVariants.{Primary}
 use Rattle.disk_face.specs.View.{DiskView, files}
@@ -15,24 +16,24 @@ use Rattle.wal_top.specs.Cutting.{lines_of}
 use Rattle.wal_top.specs.Script.{IsScript, IsFirstBad}
 use Rattle.wal_top.specs.Printing.{bad_line_text, refused_text, disk_fault_text}
 use Rattle.wal_top.specs.Replay.{FIRST, reply_line, IsReplayText}
-use Rattle.wal_top.specs.Log.{log_bytes, HasSegments, HasNoSegment, StoresLog}
+use Rattle.wal_top.specs.Log.{HasSegments, HasNoSegment, StoresLog}
 
 -- the batch that an act makes, numbered from here, if it makes one
 abbrev pub batch_made : ℕ → Act → List Batch
 batch_made first (Commit entries) = record { first = first; entries = entries } ∷ []
 batch_made first (Get key) = []
 
--- The act adds its batch behind the old ones, its record to their log, and its reply behind the old text.
-pub record DoesAct (act : Act) (old new : List Batch) (log log' text text' : List ℕ) : Type 0 where
+-- The act adds its batch behind the old ones and to the queue, and its reply behind the old text.
+pub record DoesAct (act : Act) (old new : List Batch) (queue queue' : Queue) (text text' : List ℕ) : Type 0 where
   pub batches : new ≡ old ++ batch_made (end_after FIRST old) act
-  pub logged : log ≡ log_bytes old → log' ≡ log_bytes new
+  pub queued : queue'.records ≡ queue.records ++ batch_made (end_after FIRST old) act
+  pub start : queue'.start ≡ queue.start
   pub reply : text' ≡ text ++ reply_line old (length old) act
 
--- A replay of the acts: this text, and the log of the same batches.
-pub record IsReplay (acts : List Act) (text log : List ℕ) : Type 0 where
-  pub batches : List Batch
-  pub answers : IsReplayText acts batches text
-  pub log_is : log ≡ log_bytes batches
+-- A replay of the acts: this text, and the queue of the same batches.
+pub record IsReplay (acts : List Act) (text : List ℕ) (queue : Queue) : Type 0 where
+  pub answers : IsReplayText acts queue.records text
+  pub start : queue.start ≡ 0
 
 -- What a replay of the acts comes to over a disk with free directories: its log was written, or not.
 pub data ReplaysOver (acts : List Act) (tells : Bool) (old new : DiskView) : Status → List ℕ → Type 0 where

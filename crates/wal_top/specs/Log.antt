@@ -1,12 +1,16 @@
 -- The log of a run: the records of its batches, in one segment (docs/FORMATS.md, "The log of a run").
-use Rattle.std.specs.Prelude.{◌≡◌, ◌≢◌, ℕ, true, List, [], map, Some}
+use Rattle.std.specs.Prelude.{◌≡◌, ◌≢◌, ℕ, Bool, true, List, [], map, Some}
+use Rattle.crc_chunk.specs.Chunk.{IsChunkOf}
+use Rattle.block_record.specs.declared.records.Rec.{Rec}
 use Rattle.block_record.specs.Framing.{laid}
+use Rattle.block_record.specs.ReadOut.{ReadsOut, bytes_of}
 use Rattle.batch_repr.specs.declared.batch.Batch.{Batch}
 use Rattle.batch_repr.specs.Written.{written}
 use Rattle.disk_face.specs.declared.Side.{Side}
 use Rattle.disk_face.specs.declared.Side.TheVariants.{Primary}
 use Rattle.disk_face.specs.declared.SegName.{SegName}
-use Rattle.disk_face.specs.View.{Place, segment, File, Files}
+use Rattle.disk_face.specs.View.{Place, segment, File, Files, Dirs}
+use Rattle.disk_face.specs.Image.{IsImage, IsChanceFree}
 use Rattle.disk_face.specs.Listing.{IsSegmentName}
 use Rattle.disk_face.specs.Tables.{whole}
 
@@ -14,9 +18,13 @@ use Rattle.disk_face.specs.Tables.{whole}
 abbrev pub LOG : ℕ
 LOG = 1
 
--- where the log stands: segment 0 of WAL 1, on the primary side
+-- the name of the log: segment 0 of WAL 1
+abbrev pub LOG_NAME : SegName
+LOG_NAME = record { wal = 1; index = 0 }
+
+-- where the log stands: on the primary side
 abbrev pub log_place : Place
-log_place = segment Primary (record { wal = 1; index = 0 })
+log_place = segment Primary LOG_NAME
 
 -- one record for each batch, laid from the front of the segment on
 unfoldable pub log_bytes : List Batch → List ℕ
@@ -51,14 +59,16 @@ HasNoSegment files = (side : Side) → HasNoSegmentOn files side
 abbrev pub OthersStay : Files → Files → Type 0
 OthersStay old new = (p : Place) → p ≢ log_place → new p ≡ old p
 
--- The log stands whole and stable, if it has bytes, and no other file changed.
-pub record KeepsLog (log : List ℕ) (old new : Files) : Type 0 where
-  pub kept : log ≢ [] → new log_place ≡ Some (whole log)
-  pub nothing : log ≡ [] → new log_place ≡ old log_place
-  pub others : OthersStay old new
+-- In each image that no torn chunk deceives the log stands, and reads out as the batches.
+abbrev pub EachImageReads : List Batch → Files → Type 0
+EachImageReads batches files =
+    (dirs : Dirs) → IsImage files dirs → IsChanceFree IsChunkOf files dirs
+    → (content : List ℕ) × (dirs log_place ≡ Some content) × ((found : List Rec) (ends_at : ℕ) (torn : Bool) → ReadsOut content LOG found ends_at torn → bytes_of found ≡ map written batches)
 
--- The log of the batches stands whole and stable, if there are batches, and no other file changed.
+-- The log of the batches stands whole and stable, if there are batches, and no other file changed. Whatever a crash leaves, it
+-- reads out as the batches.
 pub record StoresLog (batches : List Batch) (old new : Files) : Type 0 where
   pub log : batches ≢ [] → new log_place ≡ Some (whole (log_bytes batches))
+  pub images : batches ≢ [] → EachImageReads batches new
   pub nothing : batches ≡ [] → new log_place ≡ old log_place
   pub others : OthersStay old new

@@ -1,12 +1,12 @@
 //! The top call: `run` does all that the program does, over streams, a disk and a gate that are handed in.
 //!
-//! Stands on `batch_repr` for the batches, on `block_record` for the records of a log, on `disk_face` for what a
+//! Stands on `batch_repr` for the batches, on `record_queue` and `log_writer` for the log, on `disk_face` for what a
 //! disk is, and on `wal_base` for bytes and streams. The program above uses one contract, that of `run`: which text is
 //! written, with which status, and which log is left, by the words, the source and the disk.
 //!
 //! A run goes through the rooms in this order, and writes no text before the last: `words` (which command),
 //! `reading` (the script's bytes), `script` with `words_taken` and `pieces` (its lines), `directories` (whether
-//! they are free), `replay` with `history`, `replies` and `log` (the acts, one after another), `storing` (the
+//! they are free), `replay` with `history` and `replies` (the acts, one after another), `storing` (the
 //! log), `said` (which text and status), `writing` (the text, built whole by then).
 #![tactic(auto)]
 
@@ -14,7 +14,6 @@ mod directories;
 mod gate;
 mod history;
 mod laws;
-mod log;
 mod pieces;
 mod reading;
 mod replay;

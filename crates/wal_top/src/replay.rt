@@ -7,9 +7,9 @@ ghost use Rattle.wal_top.specs.Replay.{FIRST, numbers_taken};
 ghost use Rattle.wal_top.specs.Doing.{DoesAct, IsReplay};
 
 use crate::history::History;
-use crate::log::Log;
 use crate::replies::{put_commit, put_end, put_get};
 use crate::script::Act;
+use record_queue::RecordQueue;
 use std::alloc::Global;
 use std::collections::VecDeque;
 use wal_base::{Buf, NoMemory};
@@ -17,29 +17,32 @@ use wal_base::{Buf, NoMemory};
 /// The one session of this stage.
 const SESSION: u32 = 0;
 
-/// What a replay comes to: the whole text of its answers, and its log.
+/// What a replay comes to: the whole text of its answers, and its batches, which the log is to have.
 #[derive(Debug, Drop)]
 pub(crate) struct Replayed {
     pub(crate) text: Buf,
-    pub(crate) log: Log,
+    pub(crate) records: RecordQueue,
 }
 
-/// Does an act after those before it, and adds its reply and its record. After an `Err` neither is to be used.
+/// Does an act after those before it, and adds its reply and its batch. After an `Err` neither is to be used.
 fn do_act(
     alloc: Global,
     history: &mut History,
-    log: &mut Log,
+    records: &mut RecordQueue,
     text: &mut Buf,
     act: Act,
 ) -> Result<(), NoMemory>
     requires numbers { end_after FIRST history.old + numbers_taken act ≤ NUMBER_MAX }
-    ensures { OnOk result (DoesAct act history.old history.new log.old log.new text.old text.new) }
+    ensures { OnOk result (DoesAct act history.old history.new records.old records.new text.old text.new) }
 {
     match act {
         Act::Commit { batch } => {
+            // A batch is numbered only once there is room for it.
+            records.reserve()?;
             let numbered = history.commit(batch)?;
-            log.add(&numbered)?;
-            put_commit(alloc, text, SESSION, numbered.first(), numbered.count())
+            let (first, count) = (numbered.first(), numbered.count());
+            records.push(numbered);
+            put_commit(alloc, text, SESSION, first, count)
         }
         Act::Get { key } => {
             let value = history.value(key.as_slice());
@@ -52,14 +55,14 @@ fn do_act(
 /// Does all acts of a script in their order.
 pub(crate) fn replay(alloc: Global, mut acts: VecDeque<Act>) -> Result<Replayed, NoMemory>
     requires numbers { FIRST + sum_by numbers_taken acts.items ≤ NUMBER_MAX }
-    ensures { IfOk result (λ replayed. IsReplay acts.items replayed.text replayed.log) }
+    ensures { IfOk result (λ replayed. IsReplay acts.items replayed.text replayed.records) }
 {
     let mut history = History::new(alloc);
-    let mut log = Log::new(alloc)?;
+    let mut records = RecordQueue::new(alloc)?;
     let mut text = Buf::new(alloc)?;
     while let Some(act) = acts.pop_front() {
-        do_act(alloc, &mut history, &mut log, &mut text, act)?;
+        do_act(alloc, &mut history, &mut records, &mut text, act)?;
     }
     put_end(alloc, &mut text, history.visible(), history.len())?;
-    Ok(Replayed { text, log })
+    Ok(Replayed { text, records })
 }

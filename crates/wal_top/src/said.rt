@@ -9,7 +9,7 @@ ghost use Rattle.disk_face.specs.Calls.{GoesOn};
 ghost use Rattle.wal_top.specs.declared.reading.TheConstants.{SCRIPT_MAX};
 ghost use Rattle.wal_top.specs.Printing.{disk_fault_text};
 ghost use Rattle.wal_top.specs.Replay.{FIRST, numbers_taken};
-ghost use Rattle.wal_top.specs.Log.{HasNoSegment, KeepsLog, OthersStay};
+ghost use Rattle.wal_top.specs.Log.{HasNoSegment, StoresLog, OthersStay};
 ghost use Rattle.wal_top.specs.Doing.{ReplaysOver, ComesTo, ScriptComesTo};
 
 use crate::directories::{ListError, hold_segment};
@@ -17,13 +17,11 @@ use crate::replay::{Replayed, replay};
 use crate::script::{Act, ScriptError, read_script};
 use crate::status::Status;
 use crate::storing::store;
-use disk_face::{Disk, DiskErr, SegName, Side};
+use disk_face::{Disk, DiskErr, Side};
+use record_queue::RecordQueue;
 use std::alloc::Global;
 use std::collections::VecDeque;
 use wal_base::{Buf, NoMemory};
-
-/// The name of the log of a run.
-const LOG_NAME: SegName = SegName { wal: 1, index: 0 };
 
 /// What a run has to say: the whole text, and the status that goes with it.
 #[derive(Debug, Drop)]
@@ -50,19 +48,20 @@ fn fault_text(side: Side) -> &'static str
 }
 
 /// Writes and syncs the log of a replay, where it has a batch.
-fn keep_log<D: Disk>(disk: &mut D, log: &[u8]) -> Result<(), DiskErr>
+fn keep_log<D: Disk>(alloc: Global, disk: &mut D, records: &RecordQueue) -> Result<(), DiskErr>
+    requires whole { records.now.start ≡ 0 }
     requires idle { NothingInFlight (D.view disk.old) }
     requires free { IsTrue D.tells → HasNoSegment (files (D.view disk.old)) }
     ensures goes_on { GoesOn (D.view disk.old) (D.view disk.new) }
     ensures idle { NothingInFlight (D.view disk.new) }
     ensures others { IsTrue D.tells → OthersStay (files (D.view disk.old)) (files (D.view disk.new)) }
-    ensures kept { OnOk result (IsTrue D.tells → KeepsLog log.now (files (D.view disk.old)) (files (D.view disk.new))) }
+    ensures stored { OnOk result (IsTrue D.tells → StoresLog records.now.records (files (D.view disk.old)) (files (D.view disk.new))) }
     ensures failed { IsErrOf result DiskErr.Failed → Rose ((D.view disk.old).faults sides.Primary) ((D.view disk.new).faults sides.Primary) }
 {
-    if log.is_empty() {
+    if records.end() == 0 {
         return Ok(());
     }
-    store(disk, Side::Primary, LOG_NAME, log)
+    store(alloc, disk, records)
 }
 
 /// Does the acts over a disk whose directories are free.
@@ -75,8 +74,8 @@ fn replayed<D: Disk>(alloc: Global, acts: VecDeque<Act>, disk: &mut D) -> Result
     ensures others { IsTrue D.tells → OthersStay (files (D.view disk.old)) (files (D.view disk.new)) }
     ensures comes { IfOk result (λ said. ReplaysOver acts.items D.tells (D.view disk.old) (D.view disk.new) said.status said.text) }
 {
-    let Replayed { text, log } = replay(alloc, acts)?;
-    let status = match keep_log(disk, log.as_slice()) {
+    let Replayed { text, records } = replay(alloc, acts)?;
+    let status = match keep_log(alloc, disk, &records) {
         Ok(()) => Status::Done,
         Err(DiskErr::Failed) => Status::Disk,
         Err(DiskErr::NoMemory) => return Err(NoMemory),

@@ -1,22 +1,43 @@
-//! One segment, written whole and synced. Each operation is polled until it ends.
+//! The log of a run, written whole and synced by one writer. Each operation is polled until it ends.
 
-ghost use Rattle.std.specs.Prelude.{◌≡◌, MatchBool, IsSome, IsTrue, OnOk, IsErrOf};
+ghost use Rattle.std.specs.Prelude.{◌≡◌, ◌≢◌, ◌<◌, false, List, length, IsTrue, OnOk, IsErrOf};
 ghost use Rattle.wal_base.specs.Faults.{Rose};
-ghost use Rattle.disk_face.specs.View.{files, segment, creating, NothingInFlight};
-ghost use Rattle.disk_face.specs.Calls.{side_of, flight_of, place_of, MayStart, GoesOn, IsDone, HasFailed};
-ghost use Rattle.wal_top.specs.Storing.{IsPerformed, IsStored, OtherFilesStay};
+ghost use Rattle.batch_repr.specs.declared.batch.Batch.{Batch};
+ghost use Rattle.disk_face.specs.declared.OpId.{OpId};
+ghost use Rattle.disk_face.specs.declared.Side.TheVariants as sides;
+ghost use Rattle.disk_face.specs.View.{Place, files, NothingInFlight};
+ghost use Rattle.disk_face.specs.Calls.{GoesOn};
+ghost use Rattle.log_writer.specs.declared.phase.Operation.{Operation};
+ghost use Rattle.log_writer.specs.declared.phase.Phase.TheVariants.{InFlight, Broken};
+ghost use Rattle.log_writer.specs.Fits.{Fits, IsBusy, SameFile, file_of};
+ghost use Rattle.log_writer.specs.Steps.{next_operation};
+ghost use Rattle.wal_top.specs.Log.{log_place, HasNoSegment, StoresLog, OthersStay};
+ghost use Rattle.wal_top.specs.Storing.{IsLogWriter, HasEnded, HasStepped, OthersAsBefore, all_of};
 
-use disk_face::{Disk, DiskErr, DiskOp, OpId, Progress, SegName, Side};
+use disk_face::{Disk, DiskErr, Progress, SegName, Side};
+use log_writer::{Goal, LogWriter};
+use record_queue::RecordQueue;
+use std::alloc::Global;
 use wal_base::NoMemory;
 
-/// Polls an operation until it has ended, and says whether it was done.
-fn wait<D: Disk>(disk: &mut D, id: OpId) -> bool
-    requires { IsSome ((D.view disk.old).in_flight id) }
+/// The name of the log of a run.
+const LOG_NAME: SegName = SegName { wal: 1, index: 0 };
+
+/// The log number of its chunks.
+const LOG_NUMBER: u32 = 1;
+
+/// Polls the operation in flight until it has ended, and says whether it was done.
+fn wait<D: Disk>(disk: &mut D, writer: &mut LogWriter) -> bool
+    requires busy { IsBusy writer.old.phase }
+    requires fits { (records : List Batch) × Fits D.tells records writer.old (D.view disk.old) }
     ensures goes_on { GoesOn (D.view disk.old) (D.view disk.new) }
-    ensures ended { MatchBool result (IsDone D.tells id (D.view disk.old) (D.view disk.new)) (HasFailed D.tells id (D.view disk.old) (D.view disk.new)) }
+    ensures fits { (records : List Batch) → Fits D.tells records writer.old (D.view disk.old) → Fits D.tells records writer.new (D.view disk.new) }
+    ensures others { (p : Place) → p ≢ file_of writer.old → SameFile D.tells p (D.view disk.old) (D.view disk.new) }
+    ensures ended { (operation : Operation) (id : OpId) → writer.old.phase ≡ InFlight operation id → HasEnded result operation writer.old writer.new }
+    ensures failed { (operation : Operation) (id : OpId) → writer.old.phase ≡ InFlight operation id → result ≡ false → Rose ((D.view disk.old).faults id.side) ((D.view disk.new).faults id.side) }
 {
     loop {
-        match disk.poll(id) {
+        match writer.poll(disk) {
             Progress::Pending => {}
             Progress::Done => return true,
             Progress::Failed => return false,
@@ -24,43 +45,63 @@ fn wait<D: Disk>(disk: &mut D, id: OpId) -> bool
     }
 }
 
-/// Does one operation, from its start to its end. `Failed` comes only where its side counted a fault.
-fn perform<D: Disk>(disk: &mut D, op: DiskOp<'_>) -> Result<(), DiskErr>
-    requires idle { NothingInFlight (D.view disk.old) }
-    requires may { IsTrue D.tells → MayStart (flight_of op).act (files (D.view disk.old) (place_of op)) }
+/// Does the next operation of the log, from its start to its end. `Failed` comes only where its side counted a fault.
+fn step<D: Disk>(disk: &mut D, writer: &mut LogWriter, records: &RecordQueue) -> Result<(), DiskErr>
+    requires whole { records.now.start ≡ 0 }
+    requires log { IsLogWriter writer.old }
+    requires not_busy { ¬ IsBusy writer.old.phase }
+    requires not_broken { writer.old.phase ≢ Broken }
+    requires fits { Fits D.tells records.now.records writer.old (D.view disk.old) }
     ensures goes_on { GoesOn (D.view disk.old) (D.view disk.new) }
-    ensures idle { NothingInFlight (D.view disk.new) }
-    ensures others { IsTrue D.tells → OtherFilesStay (place_of op.entry) (files (D.view disk.old)) (files (D.view disk.new)) }
-    ensures done { OnOk result (IsTrue D.tells → IsPerformed op.entry (files (D.view disk.old)) (files (D.view disk.new))) }
-    ensures failed { IsErrOf result DiskErr.Failed → Rose ((D.view disk.old).faults (side_of op.entry)) ((D.view disk.new).faults (side_of op.entry)) }
+    ensures log { IsLogWriter writer.new }
+    ensures fits { Fits D.tells records.now.records writer.new (D.view disk.new) }
+    ensures free { ¬ IsBusy writer.new.phase }
+    ensures others { OthersAsBefore D.tells (D.view disk.old) (D.view disk.new) }
+    ensures stepped { OnOk result (HasStepped (next_operation writer.old.phase writer.old.written (all_of (length records.now.records) writer.old)) (length records.now.records) writer.old writer.new) }
+    ensures failed { IsErrOf result DiskErr.Failed → Rose ((D.view disk.old).faults sides.Primary) ((D.view disk.new).faults sides.Primary) }
 {
-    let id = match disk.start(op) {
-        Ok(id) => id,
+    let len = records.end();
+    let goal = Goal {
+        len,
+        want: len,
+        acked: writer.synced(),
+    };
+    let started = match writer.begin(disk, records, &goal) {
+        Ok(started) => started,
         Err(NoMemory) => return Err(DiskErr::NoMemory),
     };
-    if wait(disk, id) {
+    if !started {
+        return Ok(());
+    }
+    if wait(disk, writer) {
         Ok(())
     } else {
         Err(DiskErr::Failed)
     }
 }
 
-/// Makes a segment that holds the bytes, and syncs it. `Failed` comes only where its side counted a fault.
+/// Makes the log, writes all records into it by one write, and syncs it. `Failed` comes only where its side counted a
+/// fault.
 pub(crate) fn store<D: Disk>(
+    alloc: Global,
     disk: &mut D,
-    side: Side,
-    name: SegName,
-    bytes: &[u8],
+    records: &RecordQueue,
 ) -> Result<(), DiskErr>
+    requires whole { records.now.start ≡ 0 }
+    requires some { 0 < length records.now.records }
     requires idle { NothingInFlight (D.view disk.old) }
-    requires absent { IsTrue D.tells → MayStart creating (files (D.view disk.old) (segment side name)) }
+    requires free { IsTrue D.tells → HasNoSegment (files (D.view disk.old)) }
     ensures goes_on { GoesOn (D.view disk.old) (D.view disk.new) }
     ensures idle { NothingInFlight (D.view disk.new) }
-    ensures others { IsTrue D.tells → OtherFilesStay (segment side name) (files (D.view disk.old)) (files (D.view disk.new)) }
-    ensures stored { OnOk result (IsTrue D.tells → IsStored (segment side name) bytes.now (files (D.view disk.old)) (files (D.view disk.new))) }
-    ensures failed { IsErrOf result DiskErr.Failed → Rose ((D.view disk.old).faults side) ((D.view disk.new).faults side) }
+    ensures others { IsTrue D.tells → OthersStay (files (D.view disk.old)) (files (D.view disk.new)) }
+    ensures stored { OnOk result (IsTrue D.tells → StoresLog records.now.records (files (D.view disk.old)) (files (D.view disk.new))) }
+    ensures failed { IsErrOf result DiskErr.Failed → Rose ((D.view disk.old).faults sides.Primary) ((D.view disk.new).faults sides.Primary) }
 {
-    perform(disk, DiskOp::Create { side, name })?;
-    perform(disk, DiskOp::Write { side, name, bytes })?;
-    perform(disk, DiskOp::Sync { side, name })
+    let mut writer = match LogWriter::new(alloc, Side::Primary, LOG_NAME, LOG_NUMBER, 0) {
+        Ok(writer) => writer,
+        Err(NoMemory) => return Err(DiskErr::NoMemory),
+    };
+    step(disk, &mut writer, records)?;
+    step(disk, &mut writer, records)?;
+    step(disk, &mut writer, records)
 }

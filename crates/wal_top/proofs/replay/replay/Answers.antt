@@ -8,12 +8,12 @@ use Rattle.wal_top.proofs.replay.replay.Goals as goal
 
 pub loop-act-init : goal.loop-act-init
 loop-act-init c =
-    goes_from c.args.acts.items c.new-history.result c.in_ok-text.text c.in_ok-log.log c.new-history.ensures c.in_ok-text.ensures c.in_ok-log.ensures c.requires.numbers
+    goes_from c.args.acts.items c.new-history.result c.in_ok-text.text c.in_ok-records.records c.new-history.ensures c.in_ok-text.ensures c.in_ok-records.ensures.records c.in_ok-records.ensures.start c.requires.numbers
 
 pub loop-act-preserved : goal.loop-act-preserved
 loop-act-preserved c =
     goes_on c.args.acts.items c.loop-act.history c.do_act.new.history c.in-Some.act c.loop-act.acts.items c.pop_front.new.self.items c.loop-act.text c.do_act.new.text
-    c.loop-act.log c.do_act.new.log c.loop-act.invariant c.in-Some.ensures.items c.in_ok-do_act.ensures
+    c.loop-act.records c.do_act.new.records c.loop-act.invariant c.in-Some.ensures.items c.in_ok-do_act.ensures
 
 pub returns : goal.returns
 returns c =
@@ -21,4 +21,4 @@ returns c =
     c.in_ok-put_end.ensures ∙ ap (λ (n : ℕ). c.loop-act.text ++ end_line n c.len.result) c.visible.ensures.visible ∙ ap (λ (n : ℕ). c.loop-act.text ++ end_line (end_after FIRST c.loop-act.history) n) c.len.ensures in
     let none_left : c.loop-act.acts.items ≡ [] =
     nil_from_length c.loop-act.acts.items (omega (arith, ap length (c.in_default.ensures.items ∙ c.in_default.ensures.rest), length-drop 1 c.loop-act.acts.items)) in
-    has_gone c.args.acts.items c.loop-act.history c.loop-act.acts.items c.loop-act.text c.put_end.new.out c.loop-act.log c.loop-act.invariant none_left c.visible.ensures.numbered last
+    has_gone c.args.acts.items c.loop-act.history c.loop-act.acts.items c.loop-act.text c.put_end.new.out c.loop-act.records c.loop-act.invariant none_left c.visible.ensures.numbered last
