@@ -1,0 +1,14 @@
+pub mod Members
+pub mod Contiguous
+pub mod Ascending
+pub mod Search
+pub mod Unique
+pub mod Cover
+pub mod Pass
+pub mod Places
+pub mod Refused
+pub mod OneRefusal
+pub mod Answered
+pub mod OneLenient
+pub mod LenientPass
+pub mod LenientRefusals

@@ -1,0 +1,15 @@
+-- What a merge has kept so far (docs/FORMATS.md, "Merging").
+use Rattle.std.specs.Prelude.{ℕ, ◌≤◌, List}
+use Rattle.batch_repr.specs.declared.batch.Batch.{Batch}
+use Rattle.batch_repr.specs.Batches.{end_after}
+use Rattle.segment_merge.specs.Merging.{IsAscending}
+
+-- the batches, and the number that comes next
+pub record Kept : Type 0 where
+  pub batches : List Batch
+  pub next : ℕ
+
+-- They are in the order of their numbers, and end at or below the number that comes next.
+pub record AreKept (batches : List Batch) (next : ℕ) : Type 0 where
+  pub ascending : IsAscending 0 batches
+  pub below : end_after 0 batches ≤ next

@@ -1,0 +1,88 @@
+//! Merging without gaps, in one pass over the batches of a row.
+
+ghost use Rattle.std.specs.Prelude.{ℕ, List, IfErr, IfOk};
+ghost use Rattle.batch_repr.specs.declared.batch.Batch.{Batch};
+ghost use Rattle.segment_merge.specs.declared.segment.SegmentRead.{SegmentRead};
+ghost use Rattle.segment_merge.specs.declared.fault.MergeFault.TheVariants as faults;
+ghost use Rattle.segment_merge.specs.Rows.{IsNumbered, IsNumberedSegment, IsRow, batches_in};
+ghost use Rattle.segment_merge.specs.Merging.{Merged};
+ghost use Rattle.segment_merge.specs.Refusals.{IsGap, IsConflict, IsRefused};
+ghost use Rattle.segment_merge.specs.Returned.{OkOrMemory, ErrOrMemory, MemoryOr};
+ghost use Rattle.segment_merge.specs.Steps.{KeepsMerged, Steps, SegmentAnswers};
+
+use crate::fault::MergeFault;
+use crate::kept::Kept;
+use crate::numbers::end;
+use crate::segment::{SegmentRead, Segments};
+use batch_repr::{Batch, Batches};
+use std::alloc::Global;
+
+/// What the next batch of a segment does. It is appended where it begins at the number that comes next, and passed
+/// over where it is kept already.
+fn step(
+    kept: &mut Kept,
+    expected: u64,
+    is_first: bool,
+    index: u32,
+    batch: Batch,
+) -> Result<(), MergeFault>
+    requires { IsNumbered batch }
+    ensures { Steps kept.old kept.new expected is_first index batch result }
+{
+    let first = batch.first;
+    if first > expected {
+        return Err(MergeFault::Gap {
+            index,
+            expected,
+            found: first,
+        });
+    }
+    if !is_first && first < expected {
+        return Err(MergeFault::Conflict { index, first });
+    }
+    if first == kept.next() {
+        kept.push(batch)?;
+        return Ok(());
+    }
+    if !kept.has(&batch) {
+        return Err(MergeFault::Conflict { index, first });
+    }
+    Ok(())
+}
+
+/// Merges one more segment. What was kept so far is the merged list of those before it.
+fn merge_segment(kept: &mut Kept, segment: SegmentRead) -> Result<(), MergeFault>
+    requires { IsNumberedSegment segment }
+    ensures { (first : ℕ) (before : List SegmentRead) → KeepsMerged first (batches_in before) kept.old → SegmentAnswers first before segment kept.new result }
+{
+    let index = segment.index;
+    let mut expected = kept.next();
+    let mut is_first = true;
+    for batch in segment.batches.into_vec() {
+        let behind = end(&batch);
+        step(kept, expected, is_first, index, batch)?;
+        expected = behind;
+        is_first = false;
+    }
+    Ok(())
+}
+
+/// The merged list of a row of segments: contiguous from `first`, with exactly the batches of all of them. Batches are
+/// moved, not copied, and each is compared with one other at most.
+///
+/// `Gap` and `Conflict` come exactly where there is no such list, at the first batch with which there is none:
+/// `Gap` where it begins above the number that is expected there, and `Conflict` where it does not.
+pub fn merge(alloc: Global, first: u64, segs: Segments) -> Result<Batches, MergeFault>
+    requires { IsRow segs }
+    ensures found { IfOk result (λ merged. Merged first (batches_in segs) merged) }
+    ensures merged { (merged : List Batch) → Merged first (batches_in segs) merged → OkOrMemory result merged }
+    ensures refused { IfErr result (MemoryOr (IsRefused first segs)) }
+    ensures gap { (index expected found : ℕ) → IsGap first segs index expected found → ErrOrMemory result (faults.Gap index expected found) }
+    ensures conflict { (index number : ℕ) → IsConflict first segs index number → ErrOrMemory result (faults.Conflict index number) }
+{
+    let mut kept = Kept::new(alloc, first);
+    for segment in segs.into_vec() {
+        merge_segment(&mut kept, segment)?;
+    }
+    Ok(kept.into_batches())
+}
