@@ -7,27 +7,14 @@
 #include <string.h>
 #include <time.h>
 
+#include "../crc32c.h"
+
 /* The proved crate's crc32c, which takes a slice as its start and its length. */
 extern uint32_t crc_chunk_crc32c(const uint8_t *bytes, size_t len);
 
 #define TOTAL ((size_t)64 << 20)
 #define PIECE ((size_t)89)
 #define ROUNDS 9
-
-static uint32_t table[8][256];
-
-static void make_tables(void)
-{
-    for (uint32_t i = 0; i < 256; i++) {
-        uint32_t r = i;
-        for (int k = 0; k < 8; k++)
-            r = (r >> 1) ^ (r & 1 ? 0x82F63B78u : 0);
-        table[0][i] = r;
-    }
-    for (int t = 1; t < 8; t++)
-        for (int i = 0; i < 256; i++)
-            table[t][i] = table[0][table[t - 1][i] & 0xFF] ^ (table[t - 1][i] >> 8);
-}
 
 static uint32_t by_byte(const uint8_t *p, size_t n)
 {
@@ -39,18 +26,7 @@ static uint32_t by_byte(const uint8_t *p, size_t n)
 
 static uint32_t by_eight(const uint8_t *p, size_t n)
 {
-    uint32_t r = 0xFFFFFFFFu;
-    for (; n >= 8; p += 8, n -= 8) {
-        uint32_t low, high;
-        memcpy(&low, p, 4);
-        memcpy(&high, p + 4, 4);
-        low ^= r;
-        r = table[7][low & 0xFF] ^ table[6][(low >> 8) & 0xFF] ^ table[5][(low >> 16) & 0xFF] ^ table[4][low >> 24]
-          ^ table[3][high & 0xFF] ^ table[2][(high >> 8) & 0xFF] ^ table[1][(high >> 16) & 0xFF] ^ table[0][high >> 24];
-    }
-    while (n-- > 0)
-        r = table[0][(r ^ *p++) & 0xFF] ^ (r >> 8);
-    return ~r;
+    return ~crc_more(0xFFFFFFFFu, p, n);
 }
 
 typedef uint32_t (*crc_fn)(const uint8_t *, size_t);
