@@ -1,0 +1,4 @@
+mod Examples
+pub mod Runs
+pub mod Changing
+pub mod Keeping

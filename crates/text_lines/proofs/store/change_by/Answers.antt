@@ -1,0 +1,10 @@
+use Rattle.text_lines.proofs.Changing.{held_set, held_delete}
+use Rattle.text_lines.proofs.store.change_by.Goals as goal
+
+pub returns-in_ok-insert-in-Set : goal.returns-in_ok-insert-in-Set
+returns-in_ok-insert-in-Set c =
+    held_set c.as_slice.result.now c.in-Set.key c.in-Set.value c.as_slice-in-Set.result c.args.entry.now c.args.holding.now c.insert.new.self c.in_ok-insert-in-Set.ensures.updates c.as_slice.ensures c.as_slice-in-Set.ensures c.in-Set.is
+
+pub returns-in-Delete : goal.returns-in-Delete
+returns-in-Delete c =
+    held_delete c.as_slice-in-Delete.result.now c.in-Delete.key c.args.entry.now c.args.holding.now c.remove.new.self c.remove.ensures.updates c.as_slice-in-Delete.ensures c.in-Delete.is

@@ -1,0 +1,20 @@
+use Rattle.std.proofs.Common.{◌≡◌, ◌↔◌, ℕ, List, map, Option, Some, refl, ◌∙◌, subst}
+use Rattle.std.specs.Prelude.{Contains}
+use Rattle.std.specs.List.{flat_map}
+use Rattle.std.proofs.lemmas.Result.{on_ok_weaker}
+use Rattle.text_lines.specs.Holding.{shown}
+use Rattle.text_lines.specs.Store.{held_line, IsStoreOf}
+use Rattle.text_lines.proofs.Changing.{changed_answer}
+use Rattle.text_lines.proofs.Keeping.{ascends, same}
+use Rattle.text_lines.proofs.store.put_store.Goals as goal
+
+pub returns : goal.returns
+returns c =
+    let entries = c.in_ok-holding.holding.entries in
+    let batches = c.args.batches.now in
+    let answers = λ (key : List ℕ). c.in_ok-holding.ensures key ∙ changed_answer key batches in
+    let store : IsStoreOf batches (map shown entries) = record {
+      ascends = ascends entries c.put_holding.ensures.ordered;
+      same = λ key value. subst (λ (o : Option (List ℕ)). Contains (map shown entries) (record { key = key; value = value }) ↔ (o ≡ Some value)) (answers key) (same entries c.put_holding.ensures.ordered key value);
+    } in
+    on_ok_weaker c.put_holding.result (λ is. (flat_map held_line (map shown entries), record { store = map shown entries; is = store; text_is = refl }, is)) c.put_holding.ensures.lines

@@ -1,0 +1,25 @@
+-- What is held while a store is printed: each key that has a value, with it, both borrowed from the batches.
+use Rattle.std.specs.Prelude.{ℕ, List, cond, Option, option_map}
+use Rattle.std.specs.Borrow.{Bor}
+use Rattle.std.specs.Ordering.{nat_cmp}
+use Rattle.std.specs.Cmp.Lexicographic.{slice_cmp}
+use Rattle.std.specs.BTreeMap.{BTreeMap, get_by}
+use Rattle.wal_base.specs.declared.entry.Entry.{Entry}
+use Rattle.batch_repr.specs.Batches.{is_about, value_left}
+use Rattle.text_lines.specs.Store.{Held}
+
+-- borrowed keys with borrowed values
+abbrev pub Holding : Type 0
+Holding = BTreeMap (Bor (List ℕ)) (Bor (List ℕ))
+
+-- the value that is held of a key
+abbrev pub held : Holding → List ℕ → Option (List ℕ)
+held holding key = option_map (λ value. value.now) (get_by (λ own. slice_cmp nat_cmp key own.now) holding)
+
+-- the value of a key behind an entry, from the one before it
+abbrev pub changed : List ℕ → Option (List ℕ) → Entry → Option (List ℕ)
+changed key before entry = cond (is_about key entry) (value_left entry) before
+
+-- a borrowed key with its value, as the store has them
+abbrev pub shown : Bor (List ℕ) × Bor (List ℕ) → Held
+shown pair = record { key = pair.0.now; value = pair.1.now }

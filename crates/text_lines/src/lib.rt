@@ -1,0 +1,22 @@
+//! The lines that the program prints of what a log holds: bytes, batches, segments, a store, and refusals.
+//!
+//! Stands on `batch_repr` for batches and what a store answers after them, and on `disk_face` for the names of
+//! segments. The layer above uses one contract: each call adds to a text exactly the line that its definition says, and
+//! of a store one line for each key that has a value, in order of bytes.
+//!
+//! No value of this crate is kept: a text is the list of its bytes.
+#![tactic(auto)]
+
+mod batches;
+mod printed;
+mod refusals;
+mod segments;
+mod store;
+#[cfg(test)]
+mod tests;
+
+pub use batches::put_batch;
+pub use printed::{put_number, put_printed};
+pub use refusals::{put_bad_batch, put_conflict, put_duplicate, put_gap};
+pub use segments::{SegmentLine, put_recovered_end, put_segment, side_name};
+pub use store::put_store;

@@ -1,0 +1,89 @@
+//! The store that batches leave, a line for each key that has a value.
+
+ghost use Rattle.std.specs.Prelude.{◌≡◌, ℕ, List, ◌++◌, None, fold, map, OnOk, IfOk};
+ghost use Rattle.std.specs.List.{flat_map};
+ghost use Rattle.std.specs.Ordering.{nat_cmp};
+ghost use Rattle.std.specs.Cmp.Lexicographic.{slice_cmp};
+ghost use Rattle.std.specs.BTreeMap.{IsOrdered};
+ghost use Rattle.batch_repr.specs.Batches.{entries_in};
+ghost use Rattle.text_lines.specs.Holding.{held, changed, shown};
+ghost use Rattle.text_lines.specs.Store.{held_line, IsStoreText};
+
+use crate::put_printed;
+use batch_repr::Batch;
+use std::alloc::Global;
+use std::collections::BTreeMap;
+use wal_base::{Buf, Entry, NoMemory};
+
+/// Adds a line for each key that has a value after the batches, in order of bytes. After an `Err` a part of them may
+/// stand there.
+pub fn put_store(alloc: Global, out: &mut Buf, batches: &[Batch]) -> Result<(), NoMemory>
+    ensures { OnOk result ((lines : List ℕ) × IsStoreText batches.now lines × (out.new ≡ out.old ++ lines)) }
+{
+    let holding = hold(alloc, batches)?;
+    put_holding(out, &holding)
+}
+
+/// Holds each key that has a value after the batches, with it. Both are borrowed, and not copied.
+fn hold<'b>(alloc: Global, batches: &'b [Batch]) -> Result<BTreeMap<&'b [u8], &'b [u8]>, NoMemory>
+    ensures { IfOk result (λ holding. (key : List ℕ) → held holding key ≡ fold (changed key) None (entries_in batches.now)) }
+{
+    let mut holding = BTreeMap::new(alloc);
+    for batch in batches {
+        change_by_all(&mut holding, batch.entries.as_slice())?;
+    }
+    Ok(holding)
+}
+
+/// Changes what is held as the entries say, in their order.
+fn change_by_all<'b>(
+    holding: &mut BTreeMap<&'b [u8], &'b [u8]>,
+    entries: &'b [Entry],
+) -> Result<(), NoMemory>
+    ensures { OnOk result ((key : List ℕ) → held holding.new key ≡ fold (changed key) (held holding.old key) entries.now) }
+{
+    for entry in entries {
+        change_by(holding, entry)?;
+    }
+    Ok(())
+}
+
+/// Changes what is held as the entry says.
+fn change_by<'b>(
+    holding: &mut BTreeMap<&'b [u8], &'b [u8]>,
+    entry: &'b Entry,
+) -> Result<(), NoMemory>
+    ensures { OnOk result ((key : List ℕ) → held holding.new key ≡ changed key (held holding.old key) entry.now) }
+{
+    match entry {
+        Entry::Set { key, value } => {
+            holding.insert(key.as_slice(), value.as_slice())?;
+        }
+        Entry::Delete { key } => {
+            holding.remove(&key.as_slice());
+        }
+        Entry::Note { .. } => {}
+    }
+    Ok(())
+}
+
+/// Adds a line for each key that is held.
+fn put_holding<'b>(out: &mut Buf, holding: &BTreeMap<&'b [u8], &'b [u8]>) -> Result<(), NoMemory>
+    ensures lines { OnOk result (out.new ≡ out.old ++ flat_map held_line (map shown holding.now.entries)) }
+    ensures ordered { IsOrdered (λ key other. slice_cmp nat_cmp key.now other.now) holding.now }
+{
+    for (key, value) in holding {
+        put_held(out, key, value)?;
+    }
+    Ok(())
+}
+
+/// Adds the line of a key with its value.
+fn put_held(out: &mut Buf, key: &[u8], value: &[u8]) -> Result<(), NoMemory>
+    ensures { OnOk result (out.new ≡ out.old ++ held_line (record { key = key.now; value = value.now })) }
+{
+    put_printed(out, key)?;
+    out.append(b" = ")?;
+    put_printed(out, value)?;
+    out.append(b"\n")
+}
