@@ -1,0 +1,40 @@
+-- A segment reads as one list of records, and bytes spell one batch.
+use Rattle.std.proofs.Common.{◌≡◌, ℕ, Bool, false, List, [], ◌∷◌, length, not, ◌==◌, drop, sym, subst, ap, ◌∙◌, refl, arith}
+use Rattle.std.specs.List.{list_any}
+use Rattle.batch_repr.specs.declared.batch.Batch.{Batch}
+use Rattle.batch_repr.specs.Spelling.{SpellsBatch}
+use Rattle.batch_repr.proofs.Agreement.{spelled_reads, same_batch}
+use Rattle.crc_chunk.proofs.Chunks.{one_chunk}
+use Rattle.block_record.specs.declared.records.Rec.{Rec}
+use Rattle.block_record.specs.ReadOut.{Link, next_place, end_of, leaves_open, IsChain, spelled_from, nothing, ReadsOut}
+
+-- Of two chains of one length from one place, both are one.
+one_chain : (bytes : List ℕ) (log at : ℕ) (is_open : Bool) (ls ms : List Link) → IsChain bytes log at is_open ls → IsChain bytes log at is_open ms → length ls ≡ length ms → ls ≡ ms
+one_chain bytes log at is_open [] [] a b e = refl
+one_chain bytes log at is_open [] (m ∷ ms) a b e = absurd (omega (arith, e))
+one_chain bytes log at is_open (l ∷ ls) [] a b e = absurd (omega (arith, e))
+one_chain bytes log at is_open (l ∷ ls) (m ∷ ms) a b e =
+    let c = one_chunk a.1 b.1 in
+    let here : l ≡ m = (λ i. record { kind = c.0 i; payload = c.1 i }) in
+    let rest : IsChain bytes log (end_of (next_place at) l) (leaves_open l.kind) ms = subst (λ (x : Link). IsChain bytes log (end_of (next_place at) x) (leaves_open x.kind) ms) (sym here) b.2 in
+    let len : length ls ≡ length ms = omega (arith, e) in
+    ap (λ x. l ∷ x) (one_chain bytes log (end_of (next_place at) l) (leaves_open l.kind) ls ms a.2 rest len) ∙ ap (λ x. x ∷ ms) here
+
+module _ (bytes : List ℕ) (log : ℕ) (r s : List Rec) (d e : ℕ) (t u : Bool) (a : ReadsOut bytes log r d t) (b : ReadsOut bytes log s e u) where
+  one_links : a.links ≡ b.links
+  one_links =
+      let len : length a.links ≡ length b.links = omega (arith, a.longest.longest b.links b.longest.chain, b.longest.longest a.links a.longest.chain) in
+      one_chain bytes log 0 false a.links b.links a.longest.chain b.longest.chain len
+
+  pub one_read : r ≡ s
+  one_read = a.records_are ∙ ap (λ ls. (spelled_from 0 nothing ls).records) one_links ∙ sym b.records_are
+
+  pub one_end : d ≡ e
+  one_end = a.end_is ∙ ap (λ ls. (spelled_from 0 nothing ls).ends_at) one_links ∙ sym b.end_is
+
+  pub one_torn : t ≡ u
+  one_torn = a.torn_is ∙ ap (λ n. list_any (λ c. not (c == 0)) (drop n bytes)) one_end ∙ sym b.torn_is
+
+-- Bytes spell one batch.
+pub one_spelled : (bytes : List ℕ) (b c : Batch) → SpellsBatch bytes b → SpellsBatch bytes c → b ≡ c
+one_spelled bytes b c h k = same_batch bytes b c (spelled_reads bytes b h) (spelled_reads bytes c k)

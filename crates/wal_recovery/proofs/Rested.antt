@@ -1,0 +1,55 @@
+-- Files at rest that were synced are stable in full, and the moments of a run that changes nothing or only syncs.
+use Rattle.std.proofs.Common.{◌≡◌, inl, inr, ℕ, List, All, Contains, length, get_or, Option, Some, subst, sym, ◌∙◌, refl}
+use Rattle.std.proofs.lemmas.List.Elements.{Contains-get_or}
+use Rattle.disk_face.specs.View.{Place, segment, syncing, File, Files, DiskView, files, AtEachMoment}
+use Rattle.disk_face.specs.Image.{IsSound, IsRested, IsRestedFile}
+use Rattle.disk_face.specs.Calls.{SameDisk, MayStart}
+use Rattle.disk_face.proofs.Moments.{same_files}
+use Rattle.wal_recovery.specs.declared.listing.Found.{Found}
+use Rattle.wal_recovery.specs.Rows.{place_of, IsRowOf}
+use Rattle.wal_recovery.specs.Resting.{IsStable, AreSegmentsStable, AddsNoImage, IsSynced, IsAsOrSynced, OnlySynced}
+use Rattle.wal_recovery.proofs.Syncs.{adds_no_image}
+use Rattle.wal_recovery.proofs.Tools.{some_is}
+
+-- each segment of a row may be synced
+there_in : (fs : Files) (row : List Found) → IsRowOf fs row → (f : Found) → Contains row f → MayStart syncing (fs (place_of f))
+there_in fs row is f at =
+    let has = ((is f).0 at).1 in
+    subst (λ (o : Option File). MayStart syncing o) (sym has.1) has.2
+
+pub may_sync : (fs : Files) (row : List Found) → IsRowOf fs row → All (λ (f : Found). MayStart syncing (fs (place_of f))) row
+may_sync fs row is k d lt = there_in fs row is (get_or row k d) (Contains-get_or row k d lt)
+
+-- what was whole and is synced is stable
+stable_here : (o n : Option File) (f : File) → n ≡ Some f → ((g : File) → o ≡ Some g → IsRestedFile g) → IsAsOrSynced o n → IsSynced n → IsStable f
+stable_here o n f is rested (inl e) (g, there, stable) =
+    let r = rested f (sym e ∙ is) in
+    let same : g ≡ f = some_is g f (sym there ∙ is) in
+    record { created = r.created; stays = r.stays; whole = subst (λ (h : File). h.stable ≡ h.done) same stable ∙ r.done }
+stable_here o n f is rested (inr (g, was, now)) synced =
+    let r = rested g was in
+    subst IsStable (some_is (record g { stable = g.done }) f (sym now ∙ is)) (record { created = r.created; stays = r.stays; whole = r.done })
+
+was_there : (o n : Option File) (f : File) → n ≡ Some f → IsAsOrSynced o n → (g : File) × (o ≡ Some g)
+was_there o n f is (inl e) = (f, sym e ∙ is)
+was_there o n f is (inr (g, was, now)) = (g, was)
+
+pub all_stable : (old new : Files) (row : List Found) → IsRowOf old row → IsRested old → OnlySynced old new → All (λ (f : Found). IsSynced (new (place_of f))) row → AreSegmentsStable new
+all_stable old new row is rested only synced side name f named there =
+    let place = segment side name in
+    let was = was_there (old place) (new place) f there (only place) in
+    let found : Found = record { side = side; name = name; len = length was.0.reads } in
+    let at : Contains row found = (is found).1 (named, (was.0, was.1, (rested place was.0 was.1).created, refl)) in
+    let here : IsSynced (new place) = subst (λ (g : Found). IsSynced (new (place_of g))) at.2 (synced at.0 found at.1) in
+    stable_here (old place) (new place) f there (rested place) (only place) here
+
+-- ---- moments
+
+-- a run that changes nothing, and one behind it
+pub same_then : (old mid new : DiskView) (P : Files → Files → Type 0) → SameDisk old mid → AtEachMoment mid.clock new (P (files mid)) → AtEachMoment old.clock new (P (files old))
+same_then old mid new P same each =
+    subst (λ (fs : Files). AtEachMoment old.clock new (P fs)) (same_files old mid same) (subst (λ (k : ℕ). AtEachMoment k new (P (files mid))) same.clock each)
+
+-- syncs add no image
+pub synced_moments : (since : ℕ) (new : DiskView) (fs : Files) → ((p : Place) (f : File) → fs p ≡ Some f → IsSound p f) → AtEachMoment since new (OnlySynced fs) → AtEachMoment since new (AddsNoImage fs)
+synced_moments since new fs sound each k low high = adds_no_image fs (new.history k) sound (each k low high)

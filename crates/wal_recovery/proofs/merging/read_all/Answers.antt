@@ -1,0 +1,56 @@
+use Rattle.std.proofs.Common.{◌≡◌, ℕ, ◌+◌, [], List, Err, IsTrue, length, sym, subst, ap, ◌∙◌, arith, rules, take_all}
+use Rattle.std.specs.Prelude.{IfErr, Result}
+use Rattle.std.proofs.lemmas.List.{length_push}
+use Rattle.segment_merge.specs.declared.segment.SegmentRead.{SegmentRead}
+use Rattle.disk_face.specs.View.{files}
+use Rattle.disk_face.proofs.Moments.{goes_on_from, goes_on_further, same_from, same_further, same_files}
+use Rattle.wal_recovery.specs.declared.fault.RecoverFault.{RecoverFault}
+use Rattle.wal_recovery.specs.declared.listing.Found.{Found}
+use Rattle.wal_recovery.specs.Answers.{DiskMemoryOr}
+use Rattle.wal_recovery.specs.Gathered.{AreAsListed, GathersAll, IsFirstBadOf}
+use Rattle.wal_recovery.proofs.Adding.{all_none, all_step, all_row, first_bad}
+use Rattle.wal_recovery.proofs.merging.read_all.Goals as goal
+
+pub loop-segment-init : goal.loop-segment-init
+loop-segment-init g c =
+    let v = g.D.Disk.view c.args.disk.now in
+    record {
+      goes = goes_on_from v;
+      same = same_from v;
+      long = ap length c.new-row.ensures;
+      gathered = subst (λ (r : List SegmentRead). GathersAll g.D.Disk.tells (files v) [] c.args.reports.now c.args.reports.now r) (sym c.new-row.ensures) (all_none g.D.Disk.tells (files v) c.args.reports.now);
+    }
+
+pub loop-segment-preserved : goal.loop-segment-preserved
+loop-segment-preserved g c =
+    let first = g.D.Disk.view c.args.disk.now in
+    let mid = g.D.Disk.view c.loop-segment.disk in
+    let new = g.D.Disk.view c.read_segment.new.disk in
+    let now : files mid ≡ files first = same_files first mid c.loop-segment.invariant.same in
+    record {
+      goes = goes_on_further first mid new c.loop-segment.invariant.goes c.in_ok-read_segment.ensures.goes_on;
+      same = same_further first mid new c.loop-segment.invariant.same c.in_ok-read_segment.ensures.same;
+      long = ap length c.in_ok-read_segment.ensures.added.rows ∙ length_push c.loop-segment.row _ ∙ ap (λ (n : ℕ). n + 1) c.loop-segment.invariant.long;
+      gathered = all_step g.D.Disk.tells (files first) (files mid) now c.args.segments.now c.loop-segment.segment-index _ c.in-Ok.place c.args.reports.now c.loop-segment.reports c.read_segment.new.reports c.loop-segment.row c.read_segment.new.row
+          c.loop-segment-test.true (omega (arith, c.in-Ok.ensures, c.len.ensures, c.loop-segment.invariant.long)) c.loop-segment.invariant.gathered c.in_ok-read_segment.ensures.added;
+    }
+
+pub returns-in_err-read_segment-clause-bad : goal.returns-in_err-read_segment-clause-bad
+returns-in_err-read_segment-clause-bad g c =
+    let first = g.D.Disk.view c.args.disk.now in
+    let mid = g.D.Disk.view c.loop-segment.disk in
+    let now : files mid ≡ files first = same_files first mid c.loop-segment.invariant.same in
+    let fault = c.in_err-read_segment.field-0.0 in
+    let is : c.from_residual.result ≡ Err fault = search rules in
+    subst (λ (r : Result (List SegmentRead) RecoverFault). IfErr r (λ fault. IsTrue g.D.Disk.tells → AreAsListed (files first) c.args.segments.now → DiskMemoryOr (IsFirstBadOf (files first) c.args.segments.now) fault)) (sym is)
+    (λ told listed. first_bad g.D.Disk.tells (files first) (files mid) now c.args.segments.now c.loop-segment.segment-index _ c.args.reports.now c.loop-segment.reports fault c.loop-segment-test.true c.loop-segment.invariant.gathered.added told listed
+    (c.in_err-read_segment.ensures.bad told))
+
+pub returns-clause-gathered : goal.returns-clause-gathered
+returns-clause-gathered g c =
+    subst (λ (l : List Found). GathersAll g.D.Disk.tells (files (g.D.Disk.view c.args.disk.now)) l c.args.reports.now c.loop-segment.reports c.loop-segment.row)
+    (take_all c.loop-segment.segment-index c.args.segments.now c.loop-segment-test.false) c.loop-segment.invariant.gathered
+
+pub returns-clause-row : goal.returns-clause-row
+returns-clause-row g c =
+    all_row g.D.Disk.tells (files (g.D.Disk.view c.args.disk.now)) c.args.segments.now c.args.reports.now c.loop-segment.reports c.loop-segment.row (returns-clause-gathered g c)

@@ -1,0 +1,69 @@
+-- The WALs are those of the row, so what was merged of them is what the directories recover to. The syncs behind it add no image.
+use Rattle.std.proofs.Common.{◌≡◌, All, Result, Err, IsTrue, sym, subst, arith, rules}
+use Rattle.std.specs.Prelude.{IfErr}
+use Rattle.disk_face.specs.View.{Files, files, syncing, AtEachMoment}
+use Rattle.disk_face.specs.Image.{dirs_as_read}
+use Rattle.disk_face.specs.Calls.{MayStart}
+use Rattle.disk_face.proofs.Moments.{same_files}
+use Rattle.wal_recovery.specs.declared.fault.RecoverFault.{RecoverFault}
+use Rattle.wal_recovery.specs.declared.listing.Found.{Found}
+use Rattle.wal_recovery.specs.declared.reports.Mode.TheVariants.{Strict}
+use Rattle.wal_recovery.specs.declared.reports.Recovered.{Recovered}
+use Rattle.wal_recovery.specs.Resting.{OnlySynced}
+use Rattle.wal_recovery.specs.Answers.{IsRefusedBy, DiskMemoryOr}
+use Rattle.wal_recovery.specs.Rows.{place_of, wals_in}
+use Rattle.wal_recovery.specs.Gathered.{AreListedWals}
+use Rattle.wal_recovery.proofs.ByWal.{wals_by_number}
+use Rattle.wal_recovery.proofs.WalsListed.{wals_own, wals_listed}
+use Rattle.wal_recovery.proofs.Rested.{may_sync, all_stable, same_then}
+use Rattle.wal_recovery.proofs.recovering.recover_strict.Goals as goal
+
+pub merge_strict-requires-clause-order : goal.merge_strict-requires-clause-order
+merge_strict-requires-clause-order g c =
+    wals_by_number (files (g.D.Disk.view c.args.disk.now)) c.in_ok-wals.wals c.args.segments.now c.in_ok-wals.ensures c.requires.ascends
+
+pub merge_strict-requires-clause-own : goal.merge_strict-requires-clause-own
+merge_strict-requires-clause-own g c = wals_own c.in_ok-wals.wals c.args.segments.now c.in_ok-wals.ensures
+
+pub returns-in_err-merged-clause-refused : goal.returns-in_err-merged-clause-refused
+returns-in_err-merged-clause-refused g c =
+    let now : Files = files (g.D.Disk.view c.args.disk.now) in
+    let fault = c.in_err-merged.field-0.0 in
+    let is : c.from_residual-in_err-merged.result ≡ Err fault = search rules in
+    subst (λ (r : Result Recovered RecoverFault). IfErr r (λ fault. IsTrue g.D.Disk.tells → DiskMemoryOr (IsRefusedBy Strict (dirs_as_read now)) fault)) (sym is)
+    (λ told. c.in_err-merged.ensures.refused told (wals_listed now c.in_ok-wals.wals c.args.segments.now c.in_ok-wals.ensures c.requires.ascends (c.requires.listed told)))
+
+pub sync_all-requires-clause-there : goal.sync_all-requires-clause-there
+sync_all-requires-clause-there g c = λ told.
+    let now = g.D.Disk.view c.args.disk.now in
+    let same : files (g.D.Disk.view c.merge_strict.new.disk) ≡ files now = same_files now (g.D.Disk.view c.merge_strict.new.disk) c.in_ok-merged.ensures.same in
+    subst (λ (fs : Files). All (λ (f : Found). MayStart syncing (fs (place_of f))) c.args.segments.now) (sym same) (may_sync (files now) c.args.segments.now (c.requires.listed told))
+
+pub returns-in_err-sync_all-clause-each_moment : goal.returns-in_err-sync_all-clause-each_moment
+returns-in_err-sync_all-clause-each_moment g c = λ told.
+    same_then (g.D.Disk.view c.args.disk.now) (g.D.Disk.view c.merge_strict.new.disk) (g.D.Disk.view c.sync_all.new.disk) OnlySynced c.in_ok-merged.ensures.same (c.in_err-sync_all.ensures.each_moment told)
+
+pub returns-clause-recovered : goal.returns-clause-recovered
+returns-clause-recovered g c = λ told.
+    let now : Files = files (g.D.Disk.view c.args.disk.now) in
+    let listed : AreListedWals now c.in_ok-wals.wals = wals_listed now c.in_ok-wals.wals c.args.segments.now c.in_ok-wals.ensures c.requires.ascends (c.requires.listed told) in
+    record { wals = wals_in now c.in_ok-wals.wals; listed = listed.listed; merges = c.in_ok-merged.ensures.merged told listed }
+
+pub returns-clause-reports : goal.returns-clause-reports
+returns-clause-reports g c = λ told.
+    let now : Files = files (g.D.Disk.view c.args.disk.now) in
+    let listed : AreListedWals now c.in_ok-wals.wals = wals_listed now c.in_ok-wals.wals c.args.segments.now c.in_ok-wals.ensures c.requires.ascends (c.requires.listed told) in
+    record { wals = wals_in now c.in_ok-wals.wals; listed = listed.listed; reported = c.in_ok-merged.ensures.reports told listed }
+
+pub returns-clause-each_moment : goal.returns-clause-each_moment
+returns-clause-each_moment g c = λ told.
+    same_then (g.D.Disk.view c.args.disk.now) (g.D.Disk.view c.merge_strict.new.disk) (g.D.Disk.view c.sync_all.new.disk) OnlySynced c.in_ok-merged.ensures.same (c.in_ok-sync_all.ensures.each_moment told)
+
+pub returns-clause-stable : goal.returns-clause-stable
+returns-clause-stable g c = λ told rested.
+    let now = g.D.Disk.view c.args.disk.now in
+    let new = g.D.Disk.view c.sync_all.new.disk in
+    let mid = g.D.Disk.view c.merge_strict.new.disk in
+    let each : AtEachMoment now.clock new (OnlySynced (files now)) = same_then now mid new OnlySynced c.in_ok-merged.ensures.same (c.in_ok-sync_all.ensures.each_moment told) in
+    all_stable (files now) (files new) c.args.segments.now (c.requires.listed told) rested
+    (each new.clock (omega (arith, c.in_ok-merged.ensures.goes_on.clock, c.in_ok-sync_all.ensures.goes_on.clock)) (omega arith)) (c.in_ok-sync_all.ensures.synced told)

@@ -1,0 +1,11 @@
+use Rattle.disk_face.specs.Calls.{GoesOn, SameDisk}
+use Rattle.wal_recovery.proofs.syncing.wait.Given as goal
+
+abbrev pub invariant-loop : goal.invariant-loop
+invariant-loop g l = record {
+  goes : GoesOn (g.D.Disk.view l.initial.disk) (g.D.Disk.view l.disk);
+  same : SameDisk (g.D.Disk.view l.initial.disk) (g.D.Disk.view l.disk);
+}
+
+abbrev pub decreases-loop : goal.decreases-loop
+decreases-loop g l = (g.D.Disk.view l.disk).polls_left l.id.side

@@ -1,0 +1,53 @@
+-- What recovery answers, by its mode. A fault of the disk or want of memory may take the place of any answer (docs/FORMATS.md, "Recovery").
+use Rattle.std.specs.Prelude.{◌≡◌, List, Result, Ok, Err}
+use Rattle.batch_repr.specs.declared.batch.Batch.{Batch}
+use Rattle.wal_base.specs.Faults.{Rose}
+use Rattle.disk_face.specs.View.{Dirs, DiskView}
+use Rattle.wal_recovery.specs.declared.reports.Mode.{Mode}
+use Rattle.wal_recovery.specs.declared.reports.Mode.TheVariants.{Strict, Lenient}
+use Rattle.wal_recovery.specs.declared.reports.Recovered.{Recovered}
+use Rattle.wal_recovery.specs.declared.fault.RecoverFault.{RecoverFault}
+use Rattle.wal_recovery.specs.declared.fault.RecoverFault.TheVariants as faults
+use Rattle.wal_recovery.specs.Recovering.{Recovers, RecoversLenient}
+use Rattle.wal_recovery.specs.Refused.{IsRefused, IsLenientlyRefused}
+
+-- the directories recover to these batches
+abbrev pub RecoversBy : Mode → Dirs → List Batch → Type 0
+RecoversBy Strict dirs merged = Recovers dirs merged
+RecoversBy Lenient dirs merged = RecoversLenient dirs merged
+
+-- the directories are refused
+abbrev pub IsRefusedBy : Mode → Dirs → RecoverFault → Type 0
+IsRefusedBy Strict dirs fault = IsRefused dirs fault
+IsRefusedBy Lenient dirs fault = IsLenientlyRefused dirs fault
+
+-- A fault of a side comes only where that side's count rose.
+abbrev pub FaultRose : DiskView → DiskView → RecoverFault → Type 0
+FaultRose old new (faults.Disk side) = Rose (old.faults side) (new.faults side)
+FaultRose old new fault = Unit {0}
+
+-- The fault is the disk's or want of memory, or this holds of it.
+abbrev pub DiskMemoryOr : (RecoverFault → Type 0) → RecoverFault → Type 0
+DiskMemoryOr P (faults.Disk side) = Unit {0}
+DiskMemoryOr P faults.NoMemory = Unit {0}
+DiskMemoryOr P fault = P fault
+
+-- It is these batches, unless the disk failed or memory ran out.
+abbrev pub OkOrFailed : Result Recovered RecoverFault → List Batch → Type 0
+OkOrFailed (Ok found) merged = found.batches ≡ merged
+OkOrFailed (Err (faults.Disk side)) merged = Unit {0}
+OkOrFailed (Err faults.NoMemory) merged = Unit {0}
+OkOrFailed (Err fault) merged = ⊥
+
+-- It is this refusal, unless the disk failed or memory ran out.
+abbrev pub ErrOrFailed : Result Recovered RecoverFault → RecoverFault → Type 0
+ErrOrFailed (Ok found) refusal = ⊥
+ErrOrFailed (Err (faults.Disk side)) refusal = Unit {0}
+ErrOrFailed (Err faults.NoMemory) refusal = Unit {0}
+ErrOrFailed (Err fault) refusal = fault ≡ refusal
+
+-- The directories are refused: the fault is neither a side's nor want of memory.
+abbrev pub IsRefusal : RecoverFault → Type 0
+IsRefusal (faults.Disk side) = ⊥
+IsRefusal faults.NoMemory = ⊥
+IsRefusal fault = Unit {0}

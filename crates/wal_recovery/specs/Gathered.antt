@@ -1,0 +1,128 @@
+-- What recovery gathers while it reads segments one after another (docs/FORMATS.md, "Recovery").
+use Rattle.std.specs.Prelude.{◌≡◌, ℕ, ◌<◌, Bool, List, [], ◌∷◌, ◌++◌, length, get_or, map, All, IsTrue}
+use Rattle.std.specs.List.{AllZip}
+use Rattle.batch_repr.specs.declared.batch.Batch.{Batch}
+use Rattle.block_record.specs.declared.records.Rec.{Rec}
+use Rattle.block_record.specs.ReadOut.{ReadsOut}
+use Rattle.segment_merge.specs.declared.segment.SegmentRead.{SegmentRead}
+use Rattle.segment_merge.specs.declared.fault.MergeFault.{MergeFault}
+use Rattle.segment_merge.specs.declared.fault.MergeFault.TheVariants as merges
+use Rattle.segment_merge.specs.Rows.{IsNumbered}
+use Rattle.disk_face.specs.View.{Files}
+use Rattle.disk_face.specs.Image.{dirs_as_read}
+use Rattle.disk_face.specs.Listing.{HasLength}
+use Rattle.wal_recovery.specs.declared.fault.RecoverFault.{RecoverFault}
+use Rattle.wal_recovery.specs.declared.fault.RecoverFault.TheVariants as faults
+use Rattle.wal_recovery.specs.declared.listing.Found.{Found}
+use Rattle.wal_recovery.specs.declared.reports.SegReport.{SegReport}
+use Rattle.wal_recovery.specs.declared.wals.FoundWal.{FoundWal}
+use Rattle.wal_recovery.specs.Listing.{IsListingOf}
+use Rattle.wal_recovery.specs.Recovering.{log_number, counted, Spell}
+use Rattle.wal_recovery.specs.Refused.{IsBadRecord, by_index, by_place}
+use Rattle.wal_recovery.specs.Rows.{place_of, bytes_at, stored_in, wals_in}
+
+-- The segment has as many bytes as it was listed with.
+abbrev pub IsAsListed : Files → Found → Type 0
+IsAsListed files segment = HasLength files (place_of segment) segment.len
+
+-- each of them does
+abbrev pub AreAsListed : Files → List Found → Type 0
+AreAsListed files segments = All (IsAsListed files) segments
+
+-- The report says how these bytes of a listed segment read.
+pub record IsReportOf (segment : Found) (bytes : List ℕ) (report : SegReport) : Type 0 where
+  pub side : report.side ≡ segment.side
+  pub name : report.name ≡ segment.name
+  pub len : report.len ≡ segment.len
+  pub records : List Rec
+  pub read : ReadsOut bytes (log_number segment.name.wal) records report.ends_at report.torn
+  pub batches : Spell records report.batches
+
+-- The fault is the first bad record of these bytes of a listed segment.
+abbrev pub IsBadIn : Found → List ℕ → RecoverFault → Type 0
+IsBadIn segment bytes (faults.BadBatch wal index place fault) =
+    (wal ≡ segment.name.wal) × (index ≡ segment.name.index)
+    × (records : List Rec) × (ends_at : ℕ) × (torn : Bool) × ReadsOut bytes (log_number segment.name.wal) records ends_at torn × IsBadRecord records place fault
+IsBadIn segment bytes fault = ⊥
+
+-- the batches of a report that take a number, under an index
+abbrev pub read_as : ℕ → SegReport → SegmentRead
+read_as index report = record { index = index; batches = counted report.batches }
+
+-- Each batch of the report that takes a number ends within the numbers.
+abbrev pub IsNumberedReport : SegReport → Type 0
+IsNumberedReport report = All IsNumbered (counted report.batches)
+
+-- One segment more: its report is added, and the batches of it that take a number.
+pub record AddsSegment (tells : Bool) (files : Files) (segment : Found) (index : ℕ) (old new : List SegReport) (row longer : List SegmentRead) : Type 0 where
+  pub report : SegReport
+  pub reports : new ≡ old ++ report ∷ []
+  pub rows : longer ≡ row ++ read_as index report ∷ []
+  pub numbered : IsNumberedReport report
+  pub holds : IsTrue tells → IsAsListed files segment → IsReportOf segment (bytes_at files (place_of segment)) report
+
+-- the batches of reports that take a number
+abbrev pub counted_in : List SegReport → List (List Batch)
+counted_in reports = map (λ (r : SegReport). counted r.batches) reports
+
+-- Segments more, in their order.
+pub record AddsSegments (tells : Bool) (files : Files) (segments : List Found) (old new : List SegReport) : Type 0 where
+  pub own : List SegReport
+  pub reports : new ≡ old ++ own
+  pub as_many : length own ≡ length segments
+  pub numbered : All IsNumberedReport own
+  pub holds : IsTrue tells → AreAsListed files segments → AllZip (λ (f : Found) (r : SegReport). IsReportOf f (bytes_at files (place_of f)) r) segments own
+
+-- The row of a WAL, each segment under its own index.
+pub record GathersWal (tells : Bool) (files : Files) (segments : List Found) (old new : List SegReport) (row : List SegmentRead) : Type 0 where
+  pub added : AddsSegments tells files segments old new
+  pub rows : row ≡ by_index (map (stored_in files) segments) (counted_in added.own)
+
+-- The row of all WALs, each segment under its place.
+pub record GathersAll (tells : Bool) (files : Files) (segments : List Found) (old new : List SegReport) (row : List SegmentRead) : Type 0 where
+  pub added : AddsSegments tells files segments old new
+  pub rows : row ≡ by_place 0 (counted_in added.own)
+
+-- The first bad record of the segments: those before its segment read well.
+pub record IsFirstBadOf (files : Files) (segments : List Found) (fault : RecoverFault) : Type 0 where
+  pub before : List Found
+  pub here : Found
+  pub after : List Found
+  pub cut : segments ≡ before ++ here ∷ after
+  pub reports : List SegReport
+  pub right : AllZip (λ (f : Found) (r : SegReport). IsReportOf f (bytes_at files (place_of f)) r) before reports
+  pub bad : IsBadIn here (bytes_at files (place_of here)) fault
+
+-- Each segment is of the WAL.
+abbrev pub IsOwnWal : FoundWal → Type 0
+IsOwnWal wal = All (λ (f : Found). f.name.wal ≡ wal.number) wal.segments.items
+
+-- The WALs are those of the directories as they read, each segment with as many bytes as it was listed with.
+pub record AreListedWals (files : Files) (wals : List FoundWal) : Type 0 where
+  pub as_listed : All (λ (w : FoundWal). AreAsListed files w.segments.items) wals
+  pub listed : IsListingOf (dirs_as_read files) (wals_in files wals)
+
+-- ---- refusals of a merge, by the names of segments
+
+-- the refusal, in the WAL whose row it is
+abbrev pub named_in_wal : ℕ → MergeFault → RecoverFault
+named_in_wal wal (merges.Gap index expected found) = faults.Gap wal index expected found
+named_in_wal wal (merges.Conflict index first) = faults.Conflict wal index first
+named_in_wal wal merges.NoMemory = faults.NoMemory
+
+-- The place that is refused, if any, is one of so many.
+abbrev pub IsPlaceBelow : ℕ → MergeFault → Type 0
+IsPlaceBelow len (merges.Gap index expected found) = index < len
+IsPlaceBelow len (merges.Conflict index first) = index < len
+IsPlaceBelow len merges.NoMemory = Unit {0}
+
+-- The refusal names the segment that stands at the place.
+abbrev pub IsNamedAs : List Found → MergeFault → RecoverFault → Type 0
+IsNamedAs segments (merges.Conflict index first) refusal =
+    (f : Found) × (index < length segments) × (get_or segments index f ≡ f) × (refusal ≡ faults.Conflict f.name.wal f.name.index first)
+IsNamedAs segments fault refusal = refusal ≡ faults.NoMemory
+
+-- No side failed.
+abbrev pub IsNoDisk : RecoverFault → Type 0
+IsNoDisk (faults.Disk side) = ⊥
+IsNoDisk fault = Unit {0}

@@ -1,0 +1,10 @@
+pub mod Listing
+pub mod Recovering
+pub mod Refused
+pub mod Reports
+pub mod Resting
+pub mod Answers
+pub mod Rows
+pub mod Decoded
+pub mod Gathered
+pub mod OneWal

@@ -1,0 +1,29 @@
+-- One WAL as it is read and merged, from the end of those before it (docs/FORMATS.md, "Recovery").
+use Rattle.std.specs.Prelude.{◌≡◌, ℕ, List, ◌++◌}
+use Rattle.batch_repr.specs.declared.batch.Batch.{Batch}
+use Rattle.segment_merge.specs.Refusals.{IsGap, IsConflict}
+use Rattle.wal_recovery.specs.declared.fault.RecoverFault.{RecoverFault}
+use Rattle.wal_recovery.specs.declared.fault.RecoverFault.TheVariants as faults
+use Rattle.wal_recovery.specs.declared.reports.SegReport.{SegReport}
+use Rattle.wal_recovery.specs.Listing.{Wal}
+use Rattle.wal_recovery.specs.Recovering.{log_number, HoldRow}
+use Rattle.wal_recovery.specs.Refused.{IsBadBatch, by_index}
+use Rattle.wal_recovery.specs.Reports.{ReportOn}
+
+-- The reports on the segments of the WAL are added.
+pub record AddsReports (wal : Wal) (old new : List SegReport) : Type 0 where
+  pub own : List SegReport
+  pub reports : new ≡ old ++ own
+  pub on : ReportOn wal own
+
+-- Each segment of the WAL holds batches.
+pub record HoldsRow (wal : Wal) : Type 0 where
+  pub row : List (List Batch)
+  pub holds : HoldRow (log_number wal.number) wal.segments row
+
+-- Why the WAL is refused where this number comes next.
+abbrev pub IsRefusedWal : ℕ → Wal → RecoverFault → Type 0
+IsRefusedWal next wal (faults.BadBatch number index place fault) = (number ≡ wal.number) × IsBadBatch (log_number wal.number) wal.segments index place fault
+IsRefusedWal next wal (faults.Gap number index expected found) = (number ≡ wal.number) × (h : HoldsRow wal) × IsGap next (by_index wal.segments h.row) index expected found
+IsRefusedWal next wal (faults.Conflict number index first) = (number ≡ wal.number) × (h : HoldsRow wal) × IsConflict next (by_index wal.segments h.row) index first
+IsRefusedWal next wal fault = ⊥

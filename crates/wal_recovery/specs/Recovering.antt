@@ -1,0 +1,79 @@
+-- What the directories recover to (docs/FORMATS.md, "Recovery").
+use Rattle.std.specs.Prelude.{◌≡◌, ℕ, ◌%◌, ◌^◌, Bool, List, [], ◌∷◌, ◌++◌, nat_lt}
+use Rattle.std.specs.List.{filter, AllZip}
+use Rattle.batch_repr.specs.declared.batch.Batch.{Batch}
+use Rattle.batch_repr.specs.Batches.{count_of, end_after}
+use Rattle.batch_repr.specs.Spelling.{SpellsBatch}
+use Rattle.block_record.specs.declared.records.Rec.{Rec}
+use Rattle.block_record.specs.ReadOut.{ReadsOut}
+use Rattle.segment_merge.specs.Merging.{Merged}
+use Rattle.segment_merge.specs.Lenient.{MergedLenient}
+use Rattle.disk_face.specs.View.{Dirs}
+use Rattle.wal_recovery.specs.Listing.{Stored, Wal, IsListingOf}
+
+-- the number at which the first WAL begins
+abbrev pub FIRST_NUMBER : ℕ
+FIRST_NUMBER = 10
+
+-- the number that the chunks of a WAL carry
+abbrev pub log_number : ℕ → ℕ
+log_number wal = wal % 2 ^ 32
+
+abbrev pub takes_number : Batch → Bool
+takes_number batch = nat_lt 0 (count_of batch.entries)
+
+-- the batches that take a number
+abbrev pub counted : List Batch → List Batch
+counted batches = filter takes_number batches
+
+-- Each record spells a batch.
+abbrev pub Spell : List Rec → List Batch → Type 0
+Spell records batches = AllZip (λ (r : Rec) (b : Batch). SpellsBatch r.bytes b) records batches
+
+-- The segment reads as records that spell batches, and these are those of them that take a number.
+pub record HoldsBatches (log : ℕ) (content : List ℕ) (batches : List Batch) : Type 0 where
+  pub records : List Rec
+  pub ends_at : ℕ
+  pub torn : Bool
+  pub read : ReadsOut content log records ends_at torn
+  pub all : List Batch
+  pub spelled : Spell records all
+  pub counted_are : batches ≡ counted all
+
+-- Each segment holds a list of batches.
+abbrev pub HoldRow : ℕ → List Stored → List (List Batch) → Type 0
+HoldRow log segments row = AllZip (λ (s : Stored) (batches : List Batch). HoldsBatches log s.content batches) segments row
+
+-- The segments of a WAL merge to these batches, from this number on.
+pub record WalMerges (first : ℕ) (wal : Wal) (merged : List Batch) : Type 0 where
+  pub row : List (List Batch)
+  pub holds : HoldRow (log_number wal.number) wal.segments row
+  pub merges : Merged first row merged
+
+-- WAL by WAL, each from the end of what was merged before it.
+unfoldable pub WalsMerge : ℕ → List Wal → List Batch → Type 0
+WalsMerge first [] merged = merged ≡ []
+WalsMerge first (wal ∷ wals) merged =
+    (own : List Batch) × (later : List Batch) × WalMerges first wal own × WalsMerge (end_after first own) wals later × (merged ≡ own ++ later)
+
+-- The directories recover, with no gap, to these batches.
+pub record Recovers (dirs : Dirs) (merged : List Batch) : Type 0 where
+  pub wals : List Wal
+  pub listed : IsListingOf dirs wals
+  pub merges : WalsMerge FIRST_NUMBER wals merged
+
+-- ---- where gaps are accepted
+
+-- Each WAL's segments hold these rows, one row after another.
+unfoldable pub HoldAll : List Wal → List (List Batch) → Type 0
+HoldAll [] rows = rows ≡ []
+HoldAll (wal ∷ wals) rows =
+    (own : List (List Batch)) × (later : List (List Batch)) × HoldRow (log_number wal.number) wal.segments own × HoldAll wals later × (rows ≡ own ++ later)
+
+-- The directories recover, with gaps, to these batches: the segments of all WALs are merged as one row.
+pub record RecoversLenient (dirs : Dirs) (merged : List Batch) : Type 0 where
+  pub wals : List Wal
+  pub listed : IsListingOf dirs wals
+  pub rows : List (List Batch)
+  pub hold : HoldAll wals rows
+  pub merges : MergedLenient rows merged

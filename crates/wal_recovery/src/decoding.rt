@@ -1,0 +1,122 @@
+//! The batches of records, and copies of those that take a number.
+
+ghost use Rattle.std.specs.Prelude.{◌≡◌, IfOk, IfErr};
+ghost use Rattle.batch_repr.specs.Batches.{count_of};
+ghost use Rattle.batch_repr.specs.Spelling.{SpellsBatch};
+ghost use Rattle.wal_recovery.specs.Recovering.{counted, Spell};
+ghost use Rattle.wal_recovery.specs.Refused.{IsBadRecord};
+ghost use Rattle.wal_recovery.specs.Decoded.{BadOrMemory, IsBadAt};
+
+use batch_repr::{Batch, BatchFault, Batches, decode};
+use block_record::Rec;
+use std::alloc::Global;
+use thiserror::Error;
+use wal_base::{Blob, Entries, Entry, NoMemory};
+
+/// Why records were not decoded.
+#[derive(Clone, Copy, Debug, PartialEq, Eq, Error)]
+pub(crate) enum DecodeFault {
+    /// The record at this place is no batch.
+    #[error("no batch stands at {place}: {fault}")]
+    Bad { place: u64, fault: BatchFault },
+    /// Memory ran out.
+    #[error("out of memory")]
+    NoMemory,
+}
+
+/// The batch of one record.
+fn batch_of(alloc: Global, whole: &Rec) -> Result<Batch, DecodeFault>
+    ensures spelled { IfOk result (SpellsBatch whole.now.bytes) }
+    ensures bad { IfErr result (BadOrMemory (IsBadAt whole.now)) }
+{
+    match decode(alloc, whole.bytes.as_slice()) {
+        Ok(batch) => Ok(batch),
+        Err(BatchFault::NoMemory) => Err(DecodeFault::NoMemory),
+        Err(fault) => Err(DecodeFault::Bad {
+            place: whole.at,
+            fault,
+        }),
+    }
+}
+
+/// The batches that the records spell, up to the first record that spells none.
+pub(crate) fn batches_of(alloc: Global, records: &[Rec]) -> Result<Batches, DecodeFault>
+    ensures spelled { IfOk result (Spell records.now) }
+    ensures bad { IfErr result (BadOrMemory (IsBadRecord records.now)) }
+{
+    let mut batches = Batches::new(alloc);
+    for whole in records {
+        let batch = batch_of(alloc, whole)?;
+        if batches.push(batch).is_err() {
+            return Err(DecodeFault::NoMemory);
+        }
+    }
+    Ok(batches)
+}
+
+/// How many of the entries take a number.
+pub(crate) fn count(entries: &[Entry]) -> u64
+    ensures { result ≡ count_of entries.now }
+{
+    let mut found = 0u64;
+    for entry in entries {
+        match entry {
+            Entry::Note { .. } => {}
+            Entry::Set { .. } | Entry::Delete { .. } => found += 1,
+        }
+    }
+    found
+}
+
+fn copy_of_entry(alloc: Global, entry: &Entry) -> Result<Entry, NoMemory>
+    ensures { IfOk result (λ copy. copy ≡ entry.now) }
+{
+    match entry {
+        Entry::Set { key, value } => {
+            let key = Blob::copy_of(alloc, key.as_slice())?;
+            let value = Blob::copy_of(alloc, value.as_slice())?;
+            Ok(Entry::Set { key, value })
+        }
+        Entry::Delete { key } => {
+            let key = Blob::copy_of(alloc, key.as_slice())?;
+            Ok(Entry::Delete { key })
+        }
+        Entry::Note { bytes } => {
+            let bytes = Blob::copy_of(alloc, bytes.as_slice())?;
+            Ok(Entry::Note { bytes })
+        }
+    }
+}
+
+fn copy_of(alloc: Global, batch: &Batch) -> Result<Batch, NoMemory>
+    ensures { IfOk result (λ copy. copy ≡ batch.now) }
+{
+    let mut entries = Entries::new(alloc);
+    for entry in batch.entries.as_slice() {
+        let copy = copy_of_entry(alloc, entry)?;
+        if entries.push(copy).is_err() {
+            return Err(NoMemory);
+        }
+    }
+    Ok(Batch {
+        first: batch.first,
+        entries,
+    })
+}
+
+/// Copies of the batches that take a number. A merge moves batches into its list and lets repeated ones go, so it
+/// can't share them with the report.
+pub(crate) fn counted_of(alloc: Global, batches: &[Batch]) -> Result<Batches, NoMemory>
+    ensures { IfOk result (λ copies. copies ≡ counted batches.now) }
+{
+    let mut copies = Batches::new(alloc);
+    for batch in batches {
+        if count(batch.entries.as_slice()) > 0 {
+            let copy = copy_of(alloc, batch)?;
+            if copies.push(copy).is_err() {
+                return Err(NoMemory);
+            }
+        }
+    }
+    Ok(copies)
+}

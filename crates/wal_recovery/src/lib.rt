@@ -1,0 +1,26 @@
+//! Recovery: what the two directories hold, as one list of batches.
+//!
+//! Stands on `disk_face` for the directories, `block_record` and `batch_repr` for what a segment holds, and
+//! `segment_merge` for the one list that its segments give. The layers above use one contract: `recover` gives the
+//! batches that the directories recover to, with a report on each segment, and refuses them exactly where they
+//! recover to none. It changes no byte of a file.
+//!
+//! What holds of each value here: the segments of a listing stand in the order of their names, no name twice, and
+//! each is read whole into one piece of memory that is let go once its batches are decoded.
+#![tactic(auto)]
+
+mod decoding;
+mod fault;
+mod listing;
+mod merging;
+mod reading;
+mod recovering;
+mod reports;
+mod syncing;
+#[cfg(test)]
+mod tests;
+mod wals;
+
+pub use fault::RecoverFault;
+pub use recovering::recover;
+pub use reports::{Mode, Recovered, SegReport, SegReports};

@@ -1,0 +1,289 @@
+//! The segments of WALs as rows of batches, and the rows as one list.
+
+ghost use Rattle.std.specs.Prelude.{◌≡◌, ◌<◌, ◌≤◌, ◌++◌, [], List, All, IfOk, IfErr, OnOk, IsTrue, length, map};
+ghost use Rattle.batch_repr.specs.declared.batch.Batch.{Batch};
+ghost use Rattle.batch_repr.specs.declared.limits.TheConstants.{NUMBER_MAX};
+ghost use Rattle.batch_repr.specs.Batches.{end_after, IsContiguous};
+ghost use Rattle.segment_merge.specs.Rows.{IsNumbered, IsRow};
+ghost use Rattle.segment_merge.specs.Returned.{IsNoGap};
+ghost use Rattle.disk_face.specs.View.{files};
+ghost use Rattle.disk_face.specs.Image.{dirs_as_read};
+ghost use Rattle.disk_face.specs.Calls.{GoesOn, SameDisk};
+ghost use Rattle.wal_recovery.specs.Listing.{AreByIndex, AreByNumber};
+ghost use Rattle.wal_recovery.specs.Recovering.{FIRST_NUMBER, WalMerges, WalsMerge, RecoversLenient};
+ghost use Rattle.wal_recovery.specs.Refused.{IsRefused, IsLenientlyRefused};
+ghost use Rattle.wal_recovery.specs.Reports.{ReportOnAll, AreReports};
+ghost use Rattle.wal_recovery.specs.Answers.{FaultRose, DiskMemoryOr};
+ghost use Rattle.wal_recovery.specs.Rows.{Ascends, IsRowOf, place_of, bytes_at, stored_in, wal_in, wals_in};
+ghost use Rattle.wal_recovery.specs.Gathered.{IsAsListed, AreAsListed, IsReportOf, IsBadIn, AddsSegment, GathersWal, GathersAll, IsFirstBadOf, IsOwnWal, AreListedWals, named_in_wal, IsPlaceBelow, IsNamedAs, IsNoDisk};
+ghost use Rattle.wal_recovery.specs.OneWal.{AddsReports, IsRefusedWal};
+
+use crate::decoding::{DecodeFault, batches_of, count, counted_of};
+use crate::fault::RecoverFault;
+use crate::listing::Found;
+use crate::reading::read_bytes;
+use crate::reports::{SegReport, SegReports};
+use crate::wals::{FoundWal, FoundWals};
+use batch_repr::{Batch, Batches};
+use block_record::read_out;
+use disk_face::Disk;
+use segment_merge::{MergeFault, SegmentRead, Segments, merge, merge_lenient};
+use std::alloc::Global;
+
+/// The number of the first batch.
+pub(crate) const FIRST_NUMBER: u64 = 10;
+
+/// The report on a segment with these bytes.
+fn report_of(alloc: Global, segment: Found, bytes: &[u8]) -> Result<SegReport, RecoverFault>
+    ensures report { IfOk result (IsReportOf segment bytes.now) }
+    ensures bad { IfErr result (DiskMemoryOr (IsBadIn segment bytes.now)) }
+    ensures rose { IfErr result IsNoDisk }
+{
+    let Found { side, name, len } = segment;
+    let log = (name.wal % (1 << 32)) as u32;
+    let out = read_out(alloc, log, bytes)?;
+    match batches_of(alloc, out.records.as_slice()) {
+        Ok(batches) => Ok(SegReport {
+            side,
+            name,
+            len,
+            ends_at: out.ends_at,
+            torn: out.torn,
+            batches,
+        }),
+        Err(DecodeFault::Bad { place, fault }) => Err(RecoverFault::BadBatch {
+            wal: name.wal,
+            index: name.index,
+            place,
+            fault,
+        }),
+        Err(DecodeFault::NoMemory) => Err(RecoverFault::NoMemory),
+    }
+}
+
+/// Reads one segment more: adds its report, and its batches to the row under this index.
+fn read_segment<D: Disk>(
+    alloc: Global,
+    disk: &mut D,
+    segment: Found,
+    index: u32,
+    reports: &mut SegReports,
+    row: &mut Segments,
+) -> Result<(), RecoverFault>
+    ensures goes_on { GoesOn (D.view disk.old) (D.view disk.new) }
+    ensures same { SameDisk (D.view disk.old) (D.view disk.new) }
+    ensures rose { IfErr result (FaultRose (D.view disk.old) (D.view disk.new)) }
+    ensures added { OnOk result (AddsSegment D.tells (files (D.view disk.old)) segment index reports.old reports.new row.old row.new) }
+    ensures bad { IfErr result (λ fault. IsTrue D.tells → IsAsListed (files (D.view disk.old)) segment → DiskMemoryOr (IsBadIn segment (bytes_at (files (D.view disk.old)) (place_of segment))) fault) }
+{
+    let bytes = read_bytes(alloc, disk, segment)?;
+    let report = report_of(alloc, segment, bytes.as_slice())?;
+    let batches = counted_of(alloc, report.batches.as_slice())?;
+    if reports.push(report).is_err() {
+        return Err(RecoverFault::NoMemory);
+    }
+    if row.push(SegmentRead { index, batches }).is_err() {
+        return Err(RecoverFault::NoMemory);
+    }
+    Ok(())
+}
+
+/// Reads the segments of one WAL. In the row each has its own index.
+fn read_wal<D: Disk>(
+    alloc: Global,
+    disk: &mut D,
+    wal: &FoundWal,
+    reports: &mut SegReports,
+) -> Result<Segments, RecoverFault>
+    requires { AreByIndex 0 (map (stored_in (files (D.view disk.old))) wal.now.segments.items) }
+    ensures goes_on { GoesOn (D.view disk.old) (D.view disk.new) }
+    ensures same { SameDisk (D.view disk.old) (D.view disk.new) }
+    ensures rose { IfErr result (FaultRose (D.view disk.old) (D.view disk.new)) }
+    ensures row { IfOk result IsRow }
+    ensures gathered { IfOk result (GathersWal D.tells (files (D.view disk.old)) wal.now.segments.items reports.old reports.new) }
+    ensures bad { IfErr result (λ fault. IsTrue D.tells → AreAsListed (files (D.view disk.old)) wal.now.segments.items → DiskMemoryOr (IsFirstBadOf (files (D.view disk.old)) wal.now.segments.items) fault) }
+{
+    let mut row = Segments::new(alloc);
+    for segment in &wal.segments {
+        read_segment(alloc, disk, *segment, segment.name.index, reports, &mut row)?;
+    }
+    Ok(row)
+}
+
+/// The refusal of a segment of this WAL.
+fn refusal(wal: u64, fault: MergeFault) -> RecoverFault
+    ensures { result ≡ named_in_wal wal fault }
+{
+    match fault {
+        MergeFault::Gap {
+            index,
+            expected,
+            found,
+        } => RecoverFault::Gap {
+            wal,
+            index,
+            expected,
+            found,
+        },
+        MergeFault::Conflict { index, first } => RecoverFault::Conflict { wal, index, first },
+        MergeFault::NoMemory => RecoverFault::NoMemory,
+    }
+}
+
+/// Reads one WAL and merges it from this number on.
+fn merge_wal<D: Disk>(
+    alloc: Global,
+    disk: &mut D,
+    next: u64,
+    wal: &FoundWal,
+    reports: &mut SegReports,
+) -> Result<Batches, RecoverFault>
+    requires order { AreByIndex 0 (map (stored_in (files (D.view disk.old))) wal.now.segments.items) }
+    requires own { IsOwnWal wal.now }
+    ensures goes_on { GoesOn (D.view disk.old) (D.view disk.new) }
+    ensures same { SameDisk (D.view disk.old) (D.view disk.new) }
+    ensures rose { IfErr result (FaultRose (D.view disk.old) (D.view disk.new)) }
+    ensures numbered { IfOk result (All IsNumbered) }
+    ensures contiguous { IfOk result (IsContiguous next) }
+    ensures merged { IfOk result (λ own. IsTrue D.tells → AreAsListed (files (D.view disk.old)) wal.now.segments.items → WalMerges next (wal_in (files (D.view disk.old)) wal.now) own) }
+    ensures reports { OnOk result (IsTrue D.tells → AreAsListed (files (D.view disk.old)) wal.now.segments.items → AddsReports (wal_in (files (D.view disk.old)) wal.now) reports.old reports.new) }
+    ensures refused { IfErr result (λ fault. IsTrue D.tells → AreAsListed (files (D.view disk.old)) wal.now.segments.items → DiskMemoryOr (IsRefusedWal next (wal_in (files (D.view disk.old)) wal.now)) fault) }
+{
+    let row = read_wal(alloc, disk, wal, reports)?;
+    match merge(alloc, next, row) {
+        Ok(own) => Ok(own),
+        Err(fault) => Err(refusal(wal.number, fault)),
+    }
+}
+
+/// Adds batches behind others, and moves them there.
+fn append(batches: &mut Batches, more: Batches) -> Result<(), RecoverFault>
+    ensures added { OnOk result (batches.new ≡ batches.old ++ more) }
+    ensures memory { IfErr result (λ fault. fault ≡ RecoverFault.NoMemory) }
+{
+    for batch in more.into_vec() {
+        if batches.push(batch).is_err() {
+            return Err(RecoverFault::NoMemory);
+        }
+    }
+    Ok(())
+}
+
+/// The number behind the last of the batches, or this one where there is none.
+fn end_behind(from: u64, batches: &[Batch]) -> u64
+    requires { All IsNumbered batches.now }
+    ensures { result ≡ end_after from batches.now }
+{
+    match batches.last() {
+        Some(last) => last.first + count(last.entries.as_slice()),
+        None => from,
+    }
+}
+
+/// What was merged, and the number that comes next.
+#[derive(Debug, Drop)]
+pub(crate) struct Merged {
+    pub(crate) batches: Batches,
+    pub(crate) next: u64,
+}
+
+/// Merges WAL by WAL, each from the end of those before it.
+pub(crate) fn merge_strict<D: Disk>(
+    alloc: Global,
+    disk: &mut D,
+    wals: &FoundWals,
+    reports: &mut SegReports,
+) -> Result<Merged, RecoverFault>
+    requires order { AreByNumber 0 (wals_in (files (D.view disk.old)) wals.now) }
+    requires own { All IsOwnWal wals.now }
+    requires none { reports.old ≡ [] }
+    ensures goes_on { GoesOn (D.view disk.old) (D.view disk.new) }
+    ensures same { SameDisk (D.view disk.old) (D.view disk.new) }
+    ensures rose { IfErr result (FaultRose (D.view disk.old) (D.view disk.new)) }
+    ensures contiguous { IfOk result (λ merged. IsContiguous FIRST_NUMBER merged.batches) }
+    ensures next { IfOk result (λ merged. merged.next ≡ end_after FIRST_NUMBER merged.batches) }
+    ensures within { IfOk result (λ merged. merged.next ≤ NUMBER_MAX) }
+    ensures merged { IfOk result (λ merged. IsTrue D.tells → AreListedWals (files (D.view disk.old)) wals.now → WalsMerge FIRST_NUMBER (wals_in (files (D.view disk.old)) wals.now) merged.batches) }
+    ensures reports { OnOk result (IsTrue D.tells → AreListedWals (files (D.view disk.old)) wals.now → ReportOnAll (wals_in (files (D.view disk.old)) wals.now) reports.new) }
+    ensures refused { IfErr result (λ fault. IsTrue D.tells → AreListedWals (files (D.view disk.old)) wals.now → DiskMemoryOr (IsRefused (dirs_as_read (files (D.view disk.old)))) fault) }
+{
+    let mut batches = Batches::new(alloc);
+    let mut next = FIRST_NUMBER;
+    for wal in wals.as_slice() {
+        let own = merge_wal(alloc, disk, next, wal, reports)?;
+        next = end_behind(next, own.as_slice());
+        append(&mut batches, own)?;
+    }
+    Ok(Merged { batches, next })
+}
+
+/// Reads the segments of all WALs as one row. In the row each has its place as its index.
+fn read_all<D: Disk>(
+    alloc: Global,
+    disk: &mut D,
+    segments: &[Found],
+    reports: &mut SegReports,
+) -> Result<Segments, RecoverFault>
+    ensures goes_on { GoesOn (D.view disk.old) (D.view disk.new) }
+    ensures same { SameDisk (D.view disk.old) (D.view disk.new) }
+    ensures rose { IfErr result (FaultRose (D.view disk.old) (D.view disk.new)) }
+    ensures row { IfOk result IsRow }
+    ensures gathered { IfOk result (GathersAll D.tells (files (D.view disk.old)) segments.now reports.old reports.new) }
+    ensures bad { IfErr result (λ fault. IsTrue D.tells → AreAsListed (files (D.view disk.old)) segments.now → DiskMemoryOr (IsFirstBadOf (files (D.view disk.old)) segments.now) fault) }
+{
+    let mut row = Segments::new(alloc);
+    for segment in segments {
+        let Ok(place) = u32::try_from(row.len()) else {
+            return Err(RecoverFault::NoMemory);
+        };
+        read_segment(alloc, disk, *segment, place, reports, &mut row)?;
+    }
+    Ok(row)
+}
+
+/// The refusal of the segment at a place of the row.
+fn refusal_at(segments: &[Found], fault: MergeFault) -> RecoverFault
+    requires no_gap { IsNoGap fault }
+    requires within { IsPlaceBelow (length segments.now) fault }
+    ensures { IsNamedAs segments.now fault result }
+{
+    match fault {
+        MergeFault::Gap { .. } => unreachable!(),
+        MergeFault::Conflict { index, first } => {
+            let name = segments[index as usize].name;
+            RecoverFault::Conflict {
+                wal: name.wal,
+                index: name.index,
+                first,
+            }
+        }
+        MergeFault::NoMemory => RecoverFault::NoMemory,
+    }
+}
+
+/// Merges all WALs as one row, with gaps.
+pub(crate) fn merge_all<D: Disk>(
+    alloc: Global,
+    disk: &mut D,
+    segments: &[Found],
+    reports: &mut SegReports,
+) -> Result<Merged, RecoverFault>
+    requires none { reports.old ≡ [] }
+    ensures goes_on { GoesOn (D.view disk.old) (D.view disk.new) }
+    ensures same { SameDisk (D.view disk.old) (D.view disk.new) }
+    ensures rose { IfErr result (FaultRose (D.view disk.old) (D.view disk.new)) }
+    ensures next { IfOk result (λ merged. merged.next ≡ end_after FIRST_NUMBER merged.batches) }
+    ensures within { IfOk result (λ merged. merged.next ≤ NUMBER_MAX) }
+    ensures merged { IfOk result (λ merged. IsTrue D.tells → IsRowOf (files (D.view disk.old)) segments.now → Ascends segments.now → RecoversLenient (dirs_as_read (files (D.view disk.old))) merged.batches) }
+    ensures reports { OnOk result (IsTrue D.tells → IsRowOf (files (D.view disk.old)) segments.now → Ascends segments.now → AreReports (dirs_as_read (files (D.view disk.old))) reports.new) }
+    ensures refused { IfErr result (λ fault. IsTrue D.tells → IsRowOf (files (D.view disk.old)) segments.now → Ascends segments.now → DiskMemoryOr (IsLenientlyRefused (dirs_as_read (files (D.view disk.old)))) fault) }
+{
+    let row = read_all(alloc, disk, segments, reports)?;
+    match merge_lenient(alloc, row) {
+        Ok(batches) => {
+            let next = end_behind(FIRST_NUMBER, batches.as_slice());
+            Ok(Merged { batches, next })
+        }
+        Err(fault) => Err(refusal_at(segments, fault)),
+    }
+}

@@ -1,0 +1,67 @@
+//! The bytes of one segment.
+
+ghost use Rattle.std.specs.Prelude.{◌≡◌, ◌≤◌, length, take, IfOk, IfErr, IsErrOf, IsTrue};
+ghost use Rattle.wal_base.specs.Faults.{Rose};
+ghost use Rattle.disk_face.specs.View.{files};
+ghost use Rattle.disk_face.specs.Listing.{HasLength};
+ghost use Rattle.disk_face.specs.Calls.{GoesOn, SameDisk};
+ghost use Rattle.wal_recovery.specs.Answers.{FaultRose};
+ghost use Rattle.wal_recovery.specs.Rows.{place_of, bytes_at, IsDiskOrMemory};
+
+use crate::fault::RecoverFault;
+use crate::listing::Found;
+use disk_face::{Disk, DiskErr};
+use std::alloc::{AllocError, Global};
+
+/// A buffer of so many bytes.
+fn buffer_of(alloc: Global, len: usize) -> Result<Vec<u8>, AllocError>
+    ensures { IfOk result (λ buffer. length buffer.items ≡ len) }
+{
+    vec![in alloc; 0u8; len]
+}
+
+/// Reads into the buffer until it is full or the file ends, and answers how many bytes it read.
+fn fill<D: Disk>(disk: &mut D, segment: Found, buffer: &mut [u8]) -> Result<usize, DiskErr>
+    ensures goes_on { GoesOn (D.view disk.old) (D.view disk.new) }
+    ensures same { SameDisk (D.view disk.old) (D.view disk.new) }
+    ensures failed { IsErrOf result DiskErr.Failed → Rose ((D.view disk.old).faults segment.side) ((D.view disk.new).faults segment.side) }
+    ensures bytes { IfOk result (λ n. IsTrue D.tells → HasLength (files (D.view disk.old)) (place_of segment) (length buffer.old) → take n buffer.new ≡ bytes_at (files (D.view disk.old)) (place_of segment)) }
+{
+    let mut at = 0;
+    while at < buffer.len() {
+        let count = disk.read(segment.side, segment.name, at as u64, &mut buffer[at..])?;
+        if count == 0 {
+            break;
+        }
+        at += count;
+    }
+    Ok(at)
+}
+
+/// Reads a segment: at most as many bytes as were listed, in one piece of memory.
+pub(crate) fn read_bytes<D: Disk>(
+    alloc: Global,
+    disk: &mut D,
+    segment: Found,
+) -> Result<Vec<u8>, RecoverFault>
+    ensures goes_on { GoesOn (D.view disk.old) (D.view disk.new) }
+    ensures same { SameDisk (D.view disk.old) (D.view disk.new) }
+    ensures fault { IfErr result IsDiskOrMemory }
+    ensures rose { IfErr result (FaultRose (D.view disk.old) (D.view disk.new)) }
+    ensures bytes { IfOk result (λ bytes. IsTrue D.tells → HasLength (files (D.view disk.old)) (place_of segment) segment.len → bytes.items ≡ bytes_at (files (D.view disk.old)) (place_of segment)) }
+{
+    let Ok(len) = usize::try_from(segment.len) else {
+        return Err(RecoverFault::NoMemory);
+    };
+    let Ok(mut buffer) = buffer_of(alloc, len) else {
+        return Err(RecoverFault::NoMemory);
+    };
+    match fill(disk, segment, buffer.as_mut_slice()) {
+        Ok(count) => {
+            buffer.truncate(count);
+            Ok(buffer)
+        }
+        Err(DiskErr::Failed) => Err(RecoverFault::Disk { side: segment.side }),
+        Err(DiskErr::NoMemory) => Err(RecoverFault::NoMemory),
+    }
+}

@@ -1,0 +1,145 @@
+//! Recovery as a whole.
+
+ghost use Rattle.std.specs.Prelude.{◌≡◌, ◌≤◌, ℕ, List, All, IfOk, IfErr, OnOk, IsTrue};
+ghost use Rattle.batch_repr.specs.declared.batch.Batch.{Batch};
+ghost use Rattle.batch_repr.specs.declared.limits.TheConstants.{NUMBER_MAX};
+ghost use Rattle.batch_repr.specs.Batches.{end_after, IsContiguous};
+ghost use Rattle.disk_face.specs.View.{files, NothingInFlight, AtEachMoment};
+ghost use Rattle.disk_face.specs.Image.{dirs_as_read, IsRested};
+ghost use Rattle.disk_face.specs.Listing.{IsSegmentName};
+ghost use Rattle.disk_face.specs.Calls.{GoesOn, SameDisk};
+ghost use Rattle.wal_recovery.specs.declared.fault.RecoverFault.{RecoverFault};
+ghost use Rattle.wal_recovery.specs.declared.listing.Found.{Found};
+ghost use Rattle.wal_recovery.specs.declared.reports.Mode.TheVariants.{Strict, Lenient};
+ghost use Rattle.wal_recovery.specs.Listing.{IsNextWal};
+ghost use Rattle.wal_recovery.specs.Recovering.{FIRST_NUMBER};
+ghost use Rattle.wal_recovery.specs.Reports.{AreReports};
+ghost use Rattle.wal_recovery.specs.Resting.{AreSegmentsStable, OnlySynced, AddsNoImage};
+ghost use Rattle.wal_recovery.specs.Answers.{RecoversBy, IsRefusedBy, IsRefusal, FaultRose, DiskMemoryOr, OkOrFailed, ErrOrFailed};
+ghost use Rattle.wal_recovery.specs.Rows.{Ascends, IsRowOf, IsNextBehind};
+
+use crate::fault::RecoverFault;
+use crate::listing::{Found, list_all};
+use crate::merging::{merge_all, merge_strict};
+use crate::reports::{Mode, Recovered, SegReports};
+use crate::syncing::sync_all;
+use crate::wals::by_wal;
+use disk_face::Disk;
+use std::alloc::Global;
+
+/// The number of the WAL that may be begun behind these segments.
+fn next_wal(segments: &[Found]) -> u64
+    requires { All (λ (f : Found). IsSegmentName f.name) segments.now }
+    ensures { IsNextBehind segments.now result }
+{
+    match segments.last() {
+        Some(last) => last.name.wal + 1,
+        None => 1,
+    }
+}
+
+/// Recovers with no gap, and syncs each segment.
+fn recover_strict<D: Disk>(
+    alloc: Global,
+    disk: &mut D,
+    segments: &[Found],
+) -> Result<Recovered, RecoverFault>
+    requires idle { NothingInFlight (D.view disk.old) }
+    requires ascends { Ascends segments.now }
+    requires numbers { All (λ (f : Found). IsSegmentName f.name) segments.now }
+    requires listed { IsTrue D.tells → IsRowOf (files (D.view disk.old)) segments.now }
+    ensures goes_on { GoesOn (D.view disk.old) (D.view disk.new) }
+    ensures idle { NothingInFlight (D.view disk.new) }
+    ensures disk { IfErr result (FaultRose (D.view disk.old) (D.view disk.new)) }
+    ensures recovered { IfOk result (λ found. IsTrue D.tells → RecoversBy Strict (dirs_as_read (files (D.view disk.old))) found.batches) }
+    ensures refused { IfErr result (λ fault. IsTrue D.tells → DiskMemoryOr (IsRefusedBy Strict (dirs_as_read (files (D.view disk.old)))) fault) }
+    ensures reports { IfOk result (λ found. IsTrue D.tells → AreReports (dirs_as_read (files (D.view disk.old))) found.segments) }
+    ensures contiguous { IfOk result (λ found. IsContiguous FIRST_NUMBER found.batches) }
+    ensures within { IfOk result (λ found. found.next ≤ NUMBER_MAX) }
+    ensures next { IfOk result (λ found. found.next ≡ end_after FIRST_NUMBER found.batches) }
+    ensures next_wal { IfOk result (λ found. IsNextBehind segments.now found.next_wal) }
+    ensures each_moment { IsTrue D.tells → AtEachMoment ((D.view disk.old).clock) (D.view disk.new) (OnlySynced (files (D.view disk.old))) }
+    ensures untouched { IfErr result (λ fault. IsRefusal fault → SameDisk (D.view disk.old) (D.view disk.new)) }
+    ensures stable { OnOk result (IsTrue D.tells → IsRested (files (D.view disk.old)) → AreSegmentsStable (files (D.view disk.new))) }
+{
+    let wals = by_wal(alloc, segments)?;
+    let mut reports = SegReports::new(alloc);
+    let merged = merge_strict(alloc, disk, &wals, &mut reports)?;
+    sync_all(disk, segments)?;
+    Ok(Recovered {
+        batches: merged.batches,
+        next: merged.next,
+        next_wal: next_wal(segments),
+        segments: reports,
+    })
+}
+
+/// Recovers with gaps.
+fn recover_lenient<D: Disk>(
+    alloc: Global,
+    disk: &mut D,
+    segments: &[Found],
+) -> Result<Recovered, RecoverFault>
+    requires idle { NothingInFlight (D.view disk.old) }
+    requires ascends { Ascends segments.now }
+    requires numbers { All (λ (f : Found). IsSegmentName f.name) segments.now }
+    ensures goes_on { GoesOn (D.view disk.old) (D.view disk.new) }
+    ensures idle { NothingInFlight (D.view disk.new) }
+    ensures disk { IfErr result (FaultRose (D.view disk.old) (D.view disk.new)) }
+    ensures recovered { IfOk result (λ found. IsTrue D.tells → IsRowOf (files (D.view disk.old)) segments.now → RecoversBy Lenient (dirs_as_read (files (D.view disk.old))) found.batches) }
+    ensures refused { IfErr result (λ fault. IsTrue D.tells → IsRowOf (files (D.view disk.old)) segments.now → DiskMemoryOr (IsRefusedBy Lenient (dirs_as_read (files (D.view disk.old)))) fault) }
+    ensures reports { IfOk result (λ found. IsTrue D.tells → IsRowOf (files (D.view disk.old)) segments.now → AreReports (dirs_as_read (files (D.view disk.old))) found.segments) }
+    ensures within { IfOk result (λ found. found.next ≤ NUMBER_MAX) }
+    ensures next { IfOk result (λ found. found.next ≡ end_after FIRST_NUMBER found.batches) }
+    ensures next_wal { IfOk result (λ found. IsNextBehind segments.now found.next_wal) }
+    ensures same { SameDisk (D.view disk.old) (D.view disk.new) }
+{
+    let mut reports = SegReports::new(alloc);
+    let merged = merge_all(alloc, disk, segments, &mut reports)?;
+    Ok(Recovered {
+        batches: merged.batches,
+        next: merged.next,
+        next_wal: next_wal(segments),
+        segments: reports,
+    })
+}
+
+/// Recovers the batches that the two directories hold, and reports on each segment.
+///
+/// Each side is listed once, the primary one first. `DuplicateSegment` is looked for over all names, before any
+/// segment is read. `Strict` then reads, decodes and merges WAL by WAL in ascending order, each from the end of those
+/// before it, and syncs every segment before it answers `Ok`. `Lenient` reads the segments of all WALs as one row,
+/// accepts gaps, and starts no operation. `Disk` is answered at the call that failed, and `NoMemory` may come at any
+/// time. Nothing is in flight at the end, whatever is answered.
+pub fn recover<D: Disk>(alloc: Global, disk: &mut D, mode: Mode) -> Result<Recovered, RecoverFault>
+    requires { NothingInFlight (D.view disk.old) }
+    ensures goes_on { GoesOn (D.view disk.old) (D.view disk.new) }
+    ensures idle { NothingInFlight (D.view disk.new) }
+    ensures disk { IfErr result (FaultRose (D.view disk.old) (D.view disk.new)) }
+
+    // The directories, as they read.
+    ensures recovered { IfOk result (λ found. IsTrue D.tells → RecoversBy mode (dirs_as_read (files (D.view disk.old))) found.batches) }
+    ensures complete { IsTrue D.tells → (merged : List Batch) → RecoversBy mode (dirs_as_read (files (D.view disk.old))) merged → OkOrFailed result merged }
+    ensures refused { IfErr result (λ fault. IsTrue D.tells → DiskMemoryOr (IsRefusedBy mode (dirs_as_read (files (D.view disk.old)))) fault) }
+    ensures refusal { IsTrue D.tells → (fault : RecoverFault) → IsRefusedBy mode (dirs_as_read (files (D.view disk.old))) fault → ErrOrFailed result fault }
+    ensures reports { IfOk result (λ found. IsTrue D.tells → AreReports (dirs_as_read (files (D.view disk.old))) found.segments) }
+    ensures next { IfOk result (λ found. found.next ≡ end_after FIRST_NUMBER found.batches) }
+    ensures next_wal { IfOk result (λ found. IsTrue D.tells → IsNextWal (dirs_as_read (files (D.view disk.old))) found.next_wal) }
+
+    // The numbers, also where the disk does not tell its files.
+    ensures contiguous { mode ≡ Strict → IfOk result (λ found. IsContiguous FIRST_NUMBER found.batches) }
+    ensures within { IfOk result (λ found. found.next ≤ NUMBER_MAX) }
+
+    // The files: nothing happens to any but a sync, so a crash may leave nothing new; refused directories are not touched, and what was read is stable where no gap is accepted.
+    ensures each_moment { IsTrue D.tells → AtEachMoment ((D.view disk.old).clock) (D.view disk.new) (AddsNoImage (files (D.view disk.old))) }
+    ensures files { IsTrue D.tells → OnlySynced (files (D.view disk.old)) (files (D.view disk.new)) }
+    ensures stable { OnOk result (IsTrue D.tells → mode ≡ Strict → IsRested (files (D.view disk.old)) → AreSegmentsStable (files (D.view disk.new))) }
+    ensures untouched { IfErr result (λ fault. IsRefusal fault → SameDisk (D.view disk.old) (D.view disk.new)) }
+    ensures starts_nothing { mode ≡ Lenient → SameDisk (D.view disk.old) (D.view disk.new) }
+{
+    let segments = list_all(alloc, disk)?;
+    match mode {
+        Mode::Strict => recover_strict(alloc, disk, segments.as_slice()),
+        Mode::Lenient => recover_lenient(alloc, disk, segments.as_slice()),
+    }
+}

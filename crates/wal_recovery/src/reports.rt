@@ -1,0 +1,45 @@
+use batch_repr::Batches;
+use disk_face::{SegName, Side};
+use wal_base::ListOf;
+
+/// Whether gaps between the numbers are accepted.
+#[derive(Clone, Copy, Debug, PartialEq, Eq)]
+pub enum Mode {
+    /// No gap is accepted, and what is read is synced.
+    Strict,
+    /// Gaps are accepted, and nothing is synced.
+    Lenient,
+}
+
+/// What one segment holds.
+#[derive(Debug, Drop)]
+pub struct SegReport {
+    /// The directory in which it stands.
+    pub side: Side,
+    /// Its name.
+    pub name: SegName,
+    /// How many bytes it has.
+    pub len: u64,
+    /// The place behind its last whole record, counted from its front.
+    pub ends_at: u64,
+    /// Whether a byte from there on is not zero.
+    pub torn: bool,
+    /// Its batches, those that take no number included.
+    pub batches: Batches,
+}
+
+/// Reports, by WAL and index.
+pub type SegReports = ListOf<SegReport>;
+
+/// What the directories recover to.
+#[derive(Debug, Drop)]
+pub struct Recovered {
+    /// The batches, merged.
+    pub batches: Batches,
+    /// The number behind the last batch; 10 where there is none.
+    pub next: u64,
+    /// 1 more than the greatest number of a WAL that is listed; 1 where none is.
+    pub next_wal: u64,
+    /// A report on each segment.
+    pub segments: SegReports,
+}
