@@ -44,7 +44,9 @@ pub(crate) fn batches_of(alloc: Global, records: &[Rec]) -> Result<Batches, Deco
     ensures spelled { IfOk result (Spell records.now) }
     ensures bad { IfErr result (BadOrMemory (IsBadRecord records.now)) }
 {
-    let mut batches = Batches::new(alloc);
+    let Ok(mut batches) = Batches::with_capacity(alloc, records.len()) else {
+        return Err(DecodeFault::NoMemory);
+    };
     for whole in records {
         let batch = batch_of(alloc, whole)?;
         if batches.push(batch).is_err() {
@@ -91,7 +93,7 @@ fn copy_of_entry(alloc: Global, entry: &Entry) -> Result<Entry, NoMemory>
 fn copy_of(alloc: Global, batch: &Batch) -> Result<Batch, NoMemory>
     ensures { IfOk result (λ copy. copy ≡ batch.now) }
 {
-    let mut entries = Entries::new(alloc);
+    let mut entries = Entries::with_capacity(alloc, batch.entries.len())?;
     for entry in batch.entries.as_slice() {
         let copy = copy_of_entry(alloc, entry)?;
         if entries.push(copy).is_err() {

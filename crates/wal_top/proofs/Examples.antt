@@ -8,8 +8,8 @@ use Rattle.batch_repr.specs.Batches.{answer, end_after, IsContiguous}
 use Rattle.wal_top.specs.declared.script.Act.{Act}
 use Rattle.wal_top.specs.declared.script.Act.TheVariants.{Commit, Get}
 use Rattle.wal_top.specs.Cutting.{pieces, lines_of, words_of}
-use Rattle.wal_top.specs.Printing.{printed, commit_line, get_line, end_line}
-use Rattle.wal_top.specs.Replay.{reply_lines, IsReplayText}
+use Rattle.wal_top.specs.Printing.{commit_line, limit_line, get_line, end_line}
+use Rattle.wal_top.specs.Replay.{numbered, limited, read, AnswersAll, IsReplayText}
 
 -- key `a` to `1`, and a read of it
 abbrev set_and_read : List Act
@@ -18,13 +18,27 @@ set_and_read = Commit (Set (codes "a") (codes "1") ∷ []) ∷ Get (codes "a") �
 abbrev its_batches : List Batch
 its_batches = record { first = 10; entries = Set (codes "a") (codes "1") ∷ [] } ∷ []
 
-its_text : IsReplayText set_and_read its_batches (codes "s0 commit 10 1\ns0 get a = 1 @11\nend visible 11 batches 1\n")
-unfolding reply_lines commit_line get_line end_line answer end_after IsContiguous digits
-its_text = record { history = record { numbered = (refl, omega arith, tt); committed_are = refl }; text_is = refl }
+its_text : IsReplayText [] set_and_read its_batches (codes "s0 commit 10 1\ns0 get a = 1 @11\nend visible 11 batches 1\n")
+unfolding AnswersAll commit_line get_line end_line answer end_after IsContiguous digits
+its_text = record {
+  numbered = (refl, omega arith, tt);
+  within = omega arith;
+  lines = codes "s0 commit 10 1\ns0 get a = 1 @11\n";
+  answers = (1, codes "s0 commit 10 1\n", codes "s0 get a = 1 @11\n", numbered (record { first = 10; entries = Set (codes "a") (codes "1") ∷ [] }) refl, (1, codes "s0 get a = 1 @11\n", [], read (codes "a"), (refl, refl), refl), refl);
+  text_is = refl;
+}
 
-nothing_to_do : IsReplayText [] [] (codes "end visible 10 batches 0\n")
-unfolding reply_lines end_line end_after IsContiguous digits
-nothing_to_do = record { history = record { numbered = tt; committed_are = refl }; text_is = refl }
+nothing_to_do : IsReplayText [] [] [] (codes "end visible 10 batches 0\n")
+unfolding AnswersAll end_line end_after IsContiguous digits
+nothing_to_do = record { numbered = tt; within = omega arith; lines = []; answers = (refl, refl); text_is = refl }
+
+-- the last number is taken: a batch that ends at the greatest number was recovered
+abbrev full : List Batch
+full = record { first = 72057594037927934; entries = Set (codes "a") (codes "1") ∷ [] } ∷ []
+
+no_room : AnswersAll full 1 (Commit (Set (codes "b") (codes "2") ∷ []) ∷ []) 1 (codes "s0 commit limit\n")
+unfolding AnswersAll limit_line end_after digits
+no_room = (1, codes "s0 commit limit\n", [], limited (Set (codes "b") (codes "2") ∷ []) (omega arith), (refl, refl), refl)
 
 two_lines : lines_of (codes "commit 0 nosync set a 1\nget 0 a") ≡ codes "commit 0 nosync set a 1" ∷ codes "get 0 a" ∷ []
 unfolding pieces
@@ -34,9 +48,3 @@ two_lines = refl
 an_empty_word : words_of (codes "get 0  a") ≡ codes "get" ∷ codes "0" ∷ [] ∷ codes "a" ∷ []
 unfolding pieces
 an_empty_word = refl
-
-a_backslash : printed (codes "a\\") ≡ codes "a\\x5c"
-a_backslash = refl
-
-no_bytes : printed [] ≡ codes "\\e"
-no_bytes = refl

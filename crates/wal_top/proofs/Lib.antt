@@ -1,13 +1,15 @@
 mod Examples
-pub mod Listed
 pub mod OneScript
-pub mod OneAct
-pub mod Coming
 pub mod Logging
 pub mod Saying
+pub mod Unrecovering
+pub mod Shown
+pub mod Coming
+pub mod HavingSaid
+pub mod Counting
 pub mod Endings
-pub mod Taking
 pub mod Going
+pub mod Taking
 pub mod LinesSoFar
 pub mod Answering
 pub mod Numbering

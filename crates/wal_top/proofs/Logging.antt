@@ -26,8 +26,9 @@ use Rattle.log_writer.specs.Fits.{file_of, file_with, IsBusy, Fits, HasFile, Has
 use Rattle.log_writer.specs.Kept.{SegmentKept, IsKeptAs, IsFirstOf}
 use Rattle.log_writer.specs.Steps.{next_operation, sent_with, after_answer, BeginsJust}
 use Rattle.log_writer.proofs.Fitting.{fits_kept}
-use Rattle.wal_top.specs.Log.{LOG, LOG_NAME, log_place, log_bytes, EachImageReads, OthersStay}
-use Rattle.wal_top.specs.Storing.{IsLogWriter, HasEnded, HasStepped, OthersAsBefore, all_of}
+use Rattle.wal_recovery.specs.Recovering.{log_number}
+use Rattle.wal_top.specs.Log.{log_name, log_place, log_bytes, EachImageReads}
+use Rattle.wal_top.specs.Storing.{IsLogWriter, HasEnded, HasStepped, OthersAsBefore, OthersSame, HasNoLog, all_of}
 
 -- a busy writer has an operation in flight
 pub in_flight_of : (phase : Phase) → IsBusy phase → (operation : Operation) × (id : OpId) × (phase ≡ InFlight operation id)
@@ -57,16 +58,16 @@ same_file_later tells place old mid new first second = record {
   file = λ told. second.file told ∙ first.file told;
 }
 
-pub others_later : (tells : Bool) (old mid new : DiskView) → OthersAsBefore tells old mid → OthersAsBefore tells mid new → OthersAsBefore tells old new
-others_later tells old mid new first second p elsewhere = same_file_later tells p old mid new (first p elsewhere) (second p elsewhere)
+pub others_later : (wal : ℕ) (tells : Bool) (old mid new : DiskView) → OthersAsBefore wal tells old mid → OthersAsBefore wal tells mid new → OthersAsBefore wal tells old new
+others_later wal tells old mid new first second p elsewhere = same_file_later tells p old mid new (first p elsewhere) (second p elsewhere)
 
 -- Nothing is in flight where nothing was, and nothing is on the log.
-pub idle_again : (tells : Bool) (old new : DiskView) → NothingInFlight old → OthersAsBefore tells old new → IsFree new log_place → NothingInFlight new
-idle_again tells old new idle others free id = go (new.in_flight id) refl
+pub idle_again : (wal : ℕ) (tells : Bool) (old new : DiskView) → NothingInFlight old → OthersAsBefore wal tells old new → IsFree new (log_place wal) → NothingInFlight new
+idle_again wal tells old new idle others free id = go (new.in_flight id) refl
   where
     go : (o : Option Flight) → new.in_flight id ≡ o → o ≡ None
     go None is = refl
-    go (Some f) is = elim (same_place f.place log_place) [
+    go (Some f) is = elim (same_place f.place (log_place wal)) [
       | inl here ↦ absurd (free id f is here)
       | inr elsewhere ↦ let was : Some f ≡ None = sym ((others f.place elsewhere).no_more id f refl is) ∙ idle id in absurd cc
     ]
@@ -74,9 +75,17 @@ idle_again tells old new idle others free id = go (new.in_flight id) refl
 pub free_at_rest : (v : DiskView) (place : Place) → NothingInFlight v → IsFree v place
 free_at_rest v place idle id f is = let clash : Some f ≡ None = sym is ∙ idle id in absurd cc
 
--- where no segment stands nothing was sent to the log
-pub unsent : (fs : Files) → ((p : Place) (f : File) → fs p ≡ Some f → IsSound p f) → MayStart creating (fs log_place) → IsUnsent (fs log_place)
-unsent fs sound may = (may, λ g is. (sound log_place g is).1 (subst (MayStart creating) is may))
+-- a log may be created where none stands
+pub may_create : (wal : ℕ) (fs : Files) → HasNoLog wal fs → MayStart creating (fs (log_place wal))
+may_create wal fs none = at (fs (log_place wal)) refl
+  where
+    at : (f : Option File) → fs (log_place wal) ≡ f → MayStart creating f
+    at None here = tt
+    at (Some file) here = none file here
+
+-- where none stands nothing was sent to it
+pub unsent : (wal : ℕ) (fs : Files) → ((p : Place) (f : File) → fs p ≡ Some f → IsSound p f) → HasNoLog wal fs → IsUnsent (fs (log_place wal))
+unsent wal fs sound none = let may = may_create wal fs none in (may, λ g is. (sound (log_place wal) g is).1 (subst (MayStart creating) is may))
 
 -- a writer that is not busy has nothing in flight
 pub rests : (phase : Phase) (place : Place) (v : DiskView) → ¬ IsBusy phase → HasFlight phase place v → IsFree v place
@@ -85,8 +94,12 @@ rests (InFlight operation id) place v not_busy flight = absurd (not_busy tt)
 rests Idle place v not_busy flight = flight
 rests Broken place v not_busy flight = flight
 
-pub log_file : (w : Writer) → IsLogWriter w → file_of w ≡ log_place
-log_file w is = λ i. segment (is.side i) (is.name i)
+pub log_file : (wal : ℕ) (w : Writer) → IsLogWriter wal w → file_of w ≡ log_place wal
+log_file wal w is = λ i. segment (is.side i) (is.name i)
+
+-- a new writer is the log's
+pub made_log : (wal : ℕ) (w : Writer) (log : ℕ) → w ≡ record { side = Primary; name = log_name wal; log = log; from = 0; sent = 0; written = 0; synced = 0; place = 0; waiting = 0; phase = New } → log ≡ log_number wal → IsLogWriter wal w
+made_log wal w log made is = subst (IsLogWriter wal) (sym made) (record { side = refl; name = refl; log = is; from = refl })
 
 -- A pending poll leaves fewer.
 pub fewer_polls : (tells : Bool) (w w' : Writer) (old new : DiskView) → IsBusy w.phase → ((operation : Operation) (id : OpId) → w.phase ≡ InFlight operation id → Polled tells id old new Pending)
@@ -130,14 +143,14 @@ module _ (operation : Option Operation) (len : ℕ) (old mid new : Writer) (begu
   pub begun_busy : IsBusy mid.phase
   begun_busy = subst IsBusy (sym in_flight) tt
 
-  pub begun_log : IsLogWriter old → IsLogWriter mid
-  begun_log is = subst IsLogWriter (sym begun.moved) (record { side = is.side; name = is.name; log = is.log; from = is.from })
+  pub begun_log : (wal : ℕ) → IsLogWriter wal old → IsLogWriter wal mid
+  begun_log wal is = subst (IsLogWriter wal) (sym begun.moved) (record { side = is.side; name = is.name; log = is.log; from = is.from })
 
-  pub done_log : IsLogWriter old → HasEnded true begun.which mid new → IsLogWriter new
-  done_log is ended = subst IsLogWriter (sym ended) (let now = begun_log is in record { side = now.side; name = now.name; log = now.log; from = now.from })
+  pub done_log : (wal : ℕ) → IsLogWriter wal old → HasEnded true begun.which mid new → IsLogWriter wal new
+  done_log wal is ended = subst (IsLogWriter wal) (sym ended) (let now = begun_log wal is in record { side = now.side; name = now.name; log = now.log; from = now.from })
 
-  pub failed_log : IsLogWriter old → HasEnded false begun.which mid new → IsLogWriter new
-  failed_log is ended = subst IsLogWriter (sym ended.1) (let now = begun_log is in record { side = now.side; name = now.name; log = now.log; from = now.from })
+  pub failed_log : (wal : ℕ) → IsLogWriter wal old → HasEnded false begun.which mid new → IsLogWriter wal new
+  failed_log wal is ended = subst (IsLogWriter wal) (sym ended.1) (let now = begun_log wal is in record { side = now.side; name = now.name; log = now.log; from = now.from })
 
   pub done_rests : HasEnded true begun.which mid new → ¬ IsBusy new.phase
   done_rests ended = subst (λ (w : Writer). ¬ IsBusy w.phase) (sym ended) (λ busy. busy)
@@ -156,16 +169,16 @@ module _ (operation : Option Operation) (len : ℕ) (old mid new : Writer) (begu
       by_operation Sync = (refl, refl, refl, refl)
 
 -- What the writer's file does not touch, once the log's writer is known.
-pub beside_log : (tells : Bool) (w : Writer) (old new : DiskView) → IsLogWriter w → ((p : Place) → p ≢ file_of w → SameFile tells p old new) → OthersAsBefore tells old new
-beside_log tells w old new is others p elsewhere = others p (λ e. elsewhere (e ∙ log_file w is))
+pub beside_log : (wal : ℕ) (tells : Bool) (w : Writer) (old new : DiskView) → IsLogWriter wal w → ((p : Place) → p ≢ file_of w → SameFile tells p old new) → OthersAsBefore wal tells old new
+beside_log wal tells w old new is others p elsewhere = others p (λ e. elsewhere (e ∙ log_file wal w is))
 
 -- Where the log's writer rests after other files stayed as they were, nothing is in flight and no other file changed.
-pub idle_after : (tells : Bool) (records : List Batch) (w : Writer) (old new : DiskView) → NothingInFlight old → OthersAsBefore tells old new → IsLogWriter w → ¬ IsBusy w.phase → Fits tells records w new → NothingInFlight new
-idle_after tells records w old new idle others is not_busy fits =
-    idle_again tells old new idle others (subst (IsFree new) (log_file w is) (rests w.phase (file_of w) new not_busy fits.flight))
+pub idle_after : (wal : ℕ) (tells : Bool) (records : List Batch) (w : Writer) (old new : DiskView) → NothingInFlight old → OthersAsBefore wal tells old new → IsLogWriter wal w → ¬ IsBusy w.phase → Fits tells records w new → NothingInFlight new
+idle_after wal tells records w old new idle others is not_busy fits =
+    idle_again wal tells old new idle others (subst (IsFree new) (log_file wal w is) (rests w.phase (file_of w) new not_busy fits.flight))
 
-pub others_after : (tells : Bool) (old new : DiskView) → OthersAsBefore tells old new → IsTrue tells → OthersStay (files old) (files new)
-others_after tells old new others told p elsewhere = (others p elsewhere).file told
+pub others_after : (wal : ℕ) (tells : Bool) (old new : DiskView) → OthersAsBefore wal tells old new → IsTrue tells → OthersSame wal (files old) (files new)
+others_after wal tells old new others told p elsewhere = (others p elsewhere).file told
 
 -- A new writer of the log, and then a creation, a write and a sync: all records are synced.
 pub record HasAll (len : ℕ) (w : Writer) : Type 0 where
@@ -174,7 +187,7 @@ pub record HasAll (len : ℕ) (w : Writer) : Type 0 where
   pub written : w.written ≡ len
   pub synced : w.synced ≡ len
 
-module _ (len : ℕ) (some : 0 < len) (new first second third : Writer) where
+module _ (wal len : ℕ) (some : 0 < len) (new first second third : Writer) where
   abbrev Steps : Writer → Writer → Type 0
   Steps old now = HasStepped (next_operation old.phase old.written (all_of len old)) len old now
 
@@ -184,7 +197,7 @@ module _ (len : ℕ) (some : 0 < len) (new first second third : Writer) where
   no_more : nat_lt len len ≡ false
   no_more = grind (arith, nat_tests)
 
-  created : new ≡ record { side = Primary; name = LOG_NAME; log = LOG; from = 0; sent = 0; written = 0; synced = 0; place = 0; waiting = 0; phase = New } → Steps new first → (first.phase ≡ Idle) × (first.sent ≡ 0) × (first.written ≡ 0) × (first.synced ≡ 0)
+  created : new ≡ record { side = Primary; name = log_name wal; log = log_number wal; from = 0; sent = 0; written = 0; synced = 0; place = 0; waiting = 0; phase = New } → Steps new first → (first.phase ≡ Idle) × (first.sent ≡ 0) × (first.written ≡ 0) × (first.synced ≡ 0)
   created is steps = subst (λ (w : Writer). Steps w first) is steps
 
   wrote : (first.phase ≡ Idle) × (first.sent ≡ 0) × (first.written ≡ 0) × (first.synced ≡ 0) → Steps first second → (second.phase ≡ Idle) × (second.sent ≡ len) × (second.written ≡ len) × (second.synced ≡ 0)
@@ -199,32 +212,32 @@ module _ (len : ℕ) (some : 0 < len) (new first second third : Writer) where
       let s : HasStepped (Some Sync) len second third = subst (λ (o : Option Operation). HasStepped o len second third) next steps in
       record { phase = s.0; sent = s.1 ∙ is.1; written = s.2 ∙ is.2; synced = s.3 ∙ is.2 }
 
-  pub all_synced : new ≡ record { side = Primary; name = LOG_NAME; log = LOG; from = 0; sent = 0; written = 0; synced = 0; place = 0; waiting = 0; phase = New } → Steps new first → Steps first second → Steps second third → HasAll len third
+  pub all_synced : new ≡ record { side = Primary; name = log_name wal; log = log_number wal; from = 0; sent = 0; written = 0; synced = 0; place = 0; waiting = 0; phase = New } → Steps new first → Steps first second → Steps second third → HasAll len third
   all_synced is one two three = synced (wrote (created is one) two) three
 
 -- the bytes of a segment that has all records are those of the log
-whole_bytes : (records : List Batch) → segment_bytes LOG 0 (length records) records ≡ log_bytes records
+whole_bytes : (wal : ℕ) (records : List Batch) → segment_bytes (log_number wal) 0 (length records) records ≡ log_bytes wal records
 unfolding segment_bytes log_bytes
-whole_bytes records =
+whole_bytes wal records =
     let none : length records - 0 ≡ length records = omega arith in
-    ap (λ (n : ℕ). laid LOG 0 (map written (take n records))) none ∙ ap (λ (bs : List Batch). laid LOG 0 (map written bs)) (take_all (length records) records (omega arith))
+    ap (λ (n : ℕ). laid (log_number wal) 0 (map written (take n records))) none ∙ ap (λ (bs : List Batch). laid (log_number wal) 0 (map written bs)) (take_all (length records) records (omega arith))
 
-module _ (tells : Bool) (records : List Batch) (w : Writer) (v : DiskView) (is : IsLogWriter w) (all : HasAll (length records) w) (fits : Fits tells records w v) (told : IsTrue tells) where
-  pub log_stands : files v log_place ≡ Some (whole (log_bytes records))
+module _ (wal : ℕ) (tells : Bool) (records : List Batch) (w : Writer) (v : DiskView) (is : IsLogWriter wal w) (all : HasAll (length records) w) (fits : Fits tells records w v) (told : IsTrue tells) where
+  pub log_stands : files v (log_place wal) ≡ Some (whole (log_bytes wal records))
   log_stands =
       let holds : files v (file_of w) ≡ Some (file_with records w (segment_bytes w.log w.from w.written records)) = subst (λ (p : Phase). HasFile p records w (files v (file_of w))) all.phase (fits.file told) in
-      ap (files v) (sym (log_file w is)) ∙ holds ∙ rw (is.log, is.from, all.sent, all.written, all.synced, whole_bytes records) refl
+      ap (files v) (sym (log_file wal w is)) ∙ holds ∙ rw (is.log, is.from, all.sent, all.written, all.synced, whole_bytes wal records) refl
 
-  kept_all : SegmentKept log_place LOG 0 (length records) records (files v)
-  kept_all = subst (λ (p : Place). SegmentKept p LOG 0 (length records) records (files v)) (log_file w is) (rw (← is.log, ← is.from, ← all.synced) (fits_kept tells records w v fits told))
+  kept_all : SegmentKept (log_place wal) (log_number wal) 0 (length records) records (files v)
+  kept_all = subst (λ (p : Place). SegmentKept p (log_number wal) 0 (length records) records (files v)) (log_file wal w is) (rw (← is.log, ← is.from, ← all.synced) (fits_kept tells records w v fits told))
 
-  pub log_reads : 0 < length records → EachImageReads records (files v)
-  log_reads some dirs image chance_free = go (dirs log_place) refl (kept_all dirs image chance_free)
+  pub log_reads : 0 < length records → EachImageReads wal records (files v)
+  log_reads some dirs image chance_free = go (dirs (log_place wal)) refl (kept_all dirs image chance_free)
     where
       whole_read : (read : List (List ℕ)) → IsFirstOf 0 (length records) records read → read ≡ map written records
       whole_read read f = f.first ∙ ap (map written) (take_all f.count records (omega (arith, f.has_synced)))
 
-      go : (o : Option (List ℕ)) → dirs log_place ≡ o → IsKeptAs LOG 0 (length records) records o
-          → (content : List ℕ) × (dirs log_place ≡ Some content) × ((found : List Rec) (ends_at : ℕ) (torn : Bool) → ReadsOut content LOG found ends_at torn → bytes_of found ≡ map written records)
+      go : (o : Option (List ℕ)) → dirs (log_place wal) ≡ o → IsKeptAs (log_number wal) 0 (length records) records o
+          → (content : List ℕ) × (dirs (log_place wal) ≡ Some content) × ((found : List Rec) (ends_at : ℕ) (torn : Bool) → ReadsOut content (log_number wal) found ends_at torn → bytes_of found ≡ map written records)
       go None here none = let e : length records ≡ 0 = none in absurd (omega (arith, some, e))
       go (Some content) here kept = (content, here, λ found ends_at torn out. whole_read (bytes_of found) (kept found ends_at torn out))

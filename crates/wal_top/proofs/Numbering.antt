@@ -21,10 +21,6 @@ unfolding IsContiguous end_after
 IsContiguous-push from [] x h e some = (e, some, tt)
 IsContiguous-push from (y ∷ xs) x h e some = (h.0, h.1, IsContiguous-push (end_of y) xs x h.2 e some)
 
-pub kept_none : IsKept [] FIRST
-unfolding IsContiguous end_after
-kept_none = record { numbered = tt; next_is = refl; small = omega arith }
-
 kept_more : (batches batches' : List Batch) (next next' : ℕ) (batch : Batch) → IsKept batches next → batches' ≡ batches ++ batch ∷ [] → batch.first ≡ next → 0 < count_of batch.entries
     → next' ≡ end_of batch → next' ≤ NUMBER_MAX → IsKept batches' next'
 kept_more batches batches' next next' batch kept e first some end small =

@@ -1,4 +1,5 @@
 pub mod Words
+pub mod Commands
 pub mod Statuses
 pub mod Cutting
 pub mod Script
@@ -7,6 +8,8 @@ pub mod Replay
 pub mod Log
 pub mod Kept
 pub mod Storing
-pub mod Doing
 pub mod Reading
 pub mod Outcomes
+pub mod Doing
+pub mod Faults
+pub mod Showing

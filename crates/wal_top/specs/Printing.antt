@@ -1,26 +1,24 @@
--- Printed keys and values, and the lines of the text (docs/FORMATS.md, "The text of a replay").
-use Rattle.std.specs.Prelude.{ℕ, ◌+◌, ◌/◌, ◌%◌, ◌&&◌, not, ◌==◌, List, [], ◌∷◌, ◌++◌, Option, Some, None, codes, nat_le, nat_lt, if◌then◌else◌}
+-- The lines of the texts (docs/FORMATS.md, "The text of a replay").
+use Rattle.std.specs.Prelude.{ℕ, List, [], ◌∷◌, ◌++◌, length, Option, Some, None, codes}
 use Rattle.std.specs.List.{flat_map}
 use Rattle.std.specs.Fmt.{decimal}
 use Rattle.disk_face.specs.declared.Side.{Side}
 use Rattle.disk_face.specs.declared.Side.TheVariants.{Primary, Secondary}
-
--- a digit from 0 to f
-abbrev pub hex_digit : ℕ → ℕ
-hex_digit d = if nat_lt d 10 then 48 + d else 87 + d
-
--- A byte from 0x21 to 0x7E but the backslash as itself, every other one as \x and two digits.
-abbrev pub printed_byte : ℕ → List ℕ
-printed_byte b = if nat_le 33 b && nat_le b 126 && not (b == 92) then b ∷ [] else 92 ∷ 120 ∷ hex_digit (b / 16) ∷ hex_digit (b % 16) ∷ []
-
--- how a key or a value is printed; no bytes as \e
-abbrev pub printed : List ℕ → List ℕ
-printed [] = 92 ∷ 101 ∷ []
-printed (b ∷ bytes) = flat_map printed_byte (b ∷ bytes)
+use Rattle.text_lines.specs.Printed.{printed}
+use Rattle.text_lines.specs.Lines.{segment_line, batch_lines}
+use Rattle.text_lines.specs.Refusals.{duplicate_line, bad_batch_line, gap_line, conflict_line}
+use Rattle.wal_recovery.specs.declared.reports.SegReport.{SegReport}
+use Rattle.wal_recovery.specs.declared.fault.RecoverFault.{RecoverFault}
+use Rattle.wal_recovery.specs.declared.fault.RecoverFault.TheVariants as faults
+use Rattle.wal_recovery.specs.Listing.{name_in}
 
 -- `sS commit FIRST COUNT`
 unfoldable pub commit_line : ℕ → ℕ → ℕ → List ℕ
 commit_line session first count = codes "s" ++ decimal session ++ codes " commit " ++ decimal first ++ codes " " ++ decimal count ++ 10 ∷ []
+
+-- `sS commit limit`
+unfoldable pub limit_line : ℕ → List ℕ
+limit_line session = codes "s" ++ decimal session ++ codes " commit limit" ++ 10 ∷ []
 
 -- ` = V`, or ` none`
 abbrev pub printed_answer : Option (List ℕ) → List ℕ
@@ -35,6 +33,15 @@ get_line session key value visible = codes "s" ++ decimal session ++ codes " get
 unfoldable pub end_line : ℕ → ℕ → List ℕ
 end_line visible batches = codes "end visible " ++ decimal visible ++ codes " batches " ++ decimal batches ++ 10 ∷ []
 
+-- what is said of a segment and its batches
+abbrev pub report_lines : SegReport → List ℕ
+report_lines report =
+    segment_line (record { side = report.side; name = report.name; len = report.len; ends_at = report.ends_at; torn = report.torn }) (length report.batches) ++ flat_map batch_lines report.batches
+
+-- what is said of all segments
+abbrev pub segments_text : List SegReport → List ℕ
+segments_text reports = flat_map report_lines reports
+
 -- the whole text where the words are no command
 abbrev pub usage_text : List ℕ
 usage_text = codes "usage: replay [--threshold N] | recover | dump | load SEED COUNT\n"
@@ -47,14 +54,23 @@ read_fault_text = codes "read fault\n"
 abbrev pub too_long_text : List ℕ
 too_long_text = codes "script too long\n"
 
--- the whole text where a segment stands in the directories
-abbrev pub refused_text : List ℕ
-refused_text = codes "refused directories\n"
-
--- the whole text where one of the directories could not be listed
+-- the whole text where one of the directories could not be listed, read or synced
 abbrev pub disk_fault_text : Side → List ℕ
 disk_fault_text Primary = codes "disk fault primary\n"
 disk_fault_text Secondary = codes "disk fault secondary\n"
+
+-- the whole text where the directories are refused (a fault of a side and want of memory are no refusals)
+abbrev pub refusal_text : RecoverFault → List ℕ
+refusal_text (faults.Disk side) = []
+refusal_text (faults.DuplicateSegment wal index) = duplicate_line (name_in wal index)
+refusal_text (faults.BadBatch wal index place fault) = bad_batch_line (name_in wal index) place fault
+refusal_text (faults.Gap wal index expected found) = gap_line (name_in wal index) expected found
+refusal_text (faults.Conflict wal index first) = conflict_line (name_in wal index) first
+refusal_text faults.NoMemory = []
+
+-- the whole text where the last WAL is taken
+abbrev pub limit_wal_text : List ℕ
+limit_wal_text = codes "limit wal\n"
 
 -- the whole text where the line of this number is the first bad one
 unfoldable pub bad_line_text : ℕ → List ℕ

@@ -1,12 +1,13 @@
 -- What a replay makes and answers (docs/FORMATS.md, "The text of a replay").
-use Rattle.std.specs.Prelude.{◌≡◌, ℕ, ◌+◌, List, [], ◌∷◌, ◌++◌, length, map, take, Option, Some, None}
+use Rattle.std.specs.Prelude.{◌≡◌, ℕ, ◌+◌, ◌<◌, ◌≤◌, List, [], ◌∷◌, ◌++◌, length, map, take, Option, Some, None, slice_get}
 use Rattle.std.specs.List.{filter_map}
 use Rattle.wal_base.specs.declared.entry.Entry.{Entry}
 use Rattle.batch_repr.specs.declared.batch.Batch.{Batch}
+use Rattle.batch_repr.specs.declared.limits.TheConstants.{NUMBER_MAX}
 use Rattle.batch_repr.specs.Batches.{count_of, IsContiguous, end_after, answer}
 use Rattle.wal_top.specs.declared.script.Act.{Act}
 use Rattle.wal_top.specs.declared.script.Act.TheVariants.{Commit, Get}
-use Rattle.wal_top.specs.Printing.{commit_line, get_line, end_line}
+use Rattle.wal_top.specs.Printing.{commit_line, limit_line, get_line, end_line}
 
 -- the first number ever given
 abbrev pub FIRST : ℕ
@@ -22,31 +23,35 @@ abbrev pub numbers_taken : Act → ℕ
 numbers_taken (Commit entries) = count_of entries
 numbers_taken (Get key) = 0
 
--- The batches are those that the acts commit, in their order, and are numbered from the first number on.
-pub record IsHistory (acts : List Act) (batches : List Batch) : Type 0 where
-  pub numbered : IsContiguous FIRST batches
-  pub committed_are : map (λ (batch : Batch). batch.entries) batches ≡ filter_map committed acts
-
 -- the number that is visible after the first n batches
 abbrev pub visible_after : List Batch → ℕ → ℕ
-visible_after batches n = end_after FIRST (take n batches)
+visible_after store n = end_after FIRST (take n store)
 
--- how many batches an act adds
-abbrev pub batches_added : Act → ℕ
-batches_added (Commit entries) = 1
-batches_added (Get key) = 0
+-- How an act is answered behind the first n batches of the store, and how many batches then stand: a commit is the next batch, or
+-- would end past the numbers; a read answers after those n.
+pub data Answers (store : List Batch) (n : ℕ) : Act → ℕ → List ℕ → Type 0 where
+  numbered : (batch : Batch) → slice_get store n ≡ Some batch → Answers store n (Commit batch.entries) (n + 1) (commit_line 0 batch.first (count_of batch.entries))
+  limited : (entries : List Entry) → NUMBER_MAX < visible_after store n + count_of entries → Answers store n (Commit entries) n (limit_line 0)
+  read : (key : List ℕ) → Answers store n (Get key) n (get_line 0 key (answer store n key) (visible_after store n))
 
--- the line that answers an act, before which n batches were committed
-abbrev pub reply_line : List Batch → ℕ → Act → List ℕ
-reply_line batches n (Commit entries) = commit_line 0 (visible_after batches n) (count_of entries)
-reply_line batches n (Get key) = get_line 0 key (answer batches n key) (visible_after batches n)
+-- The acts are answered by these lines one after another, the first behind n batches. So many batches stand behind the last.
+unfoldable pub AnswersAll : List Batch → ℕ → List Act → ℕ → List ℕ → Type 0
+AnswersAll store n [] end lines = (end ≡ n) × (lines ≡ [])
+AnswersAll store n (act ∷ acts) end lines =
+    (next : ℕ) × (line : List ℕ) × (rest : List ℕ) × Answers store n act next line × AnswersAll store next acts end rest × (lines ≡ line ++ rest)
 
--- the lines that answer the acts in their order, the first after n batches
-unfoldable pub reply_lines : List Batch → ℕ → List Act → List ℕ
-reply_lines batches n [] = []
-reply_lines batches n (act ∷ acts) = reply_line batches n act ++ reply_lines batches (n + batches_added act) acts
+-- The text answers the acts over a store that begins with the base, adds these batches to it, and then says how the run ended.
+pub record IsReplayText (base : List Batch) (acts : List Act) (batches : List Batch) (text : List ℕ) : Type 0 where
+  pub numbered : IsContiguous FIRST (base ++ batches)
+  pub within : end_after FIRST (base ++ batches) ≤ NUMBER_MAX
+  pub lines : List ℕ
+  pub answers : AnswersAll (base ++ batches) (length base) acts (length (base ++ batches)) lines
+  pub text_is : text ≡ lines ++ end_line (end_after FIRST (base ++ batches)) (length batches)
 
--- The text answers each act after the batches that the acts before it committed, and then says how the run ended.
-pub record IsReplayText (acts : List Act) (batches : List Batch) (text : List ℕ) : Type 0 where
-  pub history : IsHistory acts batches
-  pub text_is : text ≡ reply_lines batches 0 acts ++ end_line (end_after FIRST batches) (length batches)
+-- Each commit has its batch.
+abbrev pub AllCommitted : List Act → List Batch → Type 0
+AllCommitted acts batches = map (λ (batch : Batch). batch.entries) batches ≡ filter_map committed acts
+
+-- A commit has no batch.
+abbrev pub LacksBatch : List Act → List Batch → Type 0
+LacksBatch acts batches = length batches < length (filter_map committed acts)

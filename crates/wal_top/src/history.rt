@@ -1,21 +1,19 @@
 //! The batches of a run, and what a store answers after them.
 
-ghost use Rattle.std.specs.Prelude.{◌≡◌, ◌+◌, ◌≤◌, ◌∷◌, ◌++◌, [], None, length, filter, option_map, IfOk, OnOk, OnErr};
+ghost use Rattle.std.specs.Prelude.{◌≡◌, ◌+◌, ◌<◌, ◌≤◌, ◌∷◌, ◌++◌, [], None, length, filter, option_map, MatchBool, IfOk, OnOk, OnErr};
 ghost use Rattle.std.specs.List.{last_or};
 ghost use Rattle.std.specs.Option.{option_copied};
 ghost use Rattle.batch_repr.specs.declared.limits.TheConstants.{NUMBER_MAX};
 ghost use Rattle.batch_repr.specs.Batches.{count_of, is_about, value_left, entries_in, end_after, IsContiguous, answer};
 ghost use Rattle.wal_top.specs.Replay.{FIRST};
 
-use batch_repr::{Batch, Batches, Numbered, Unnumbered};
+use batch_repr::{Batch, Batches, NUMBER_MAX, Numbered, Unnumbered};
 use std::alloc::Global;
 use std::marker::Model;
 use wal_base::{Entry, NoMemory};
 
-/// The first number ever given.
-const FIRST_NUMBER: u64 = 10;
-
-/// The batches of a run, in their order, and the number after them. Contracts see the list of the batches.
+/// All batches of the store in their order, those that were recovered and those of the run, and the number after them.
+/// Contracts see the list of the batches.
 #[derive(Debug, Drop)]
 pub(crate) struct History {
     batches: Batches,
@@ -84,14 +82,21 @@ fn value_of(entry: &Entry) -> Option<&[u8]>
 }
 
 impl History {
-    /// No batch. The first number is still to be given.
-    pub(crate) fn new(alloc: Global) -> History
-        ensures { result ≡ [] }
+    /// The recovered batches, and the number after them.
+    pub(crate) fn over(batches: Batches, next: u64) -> History
+        requires numbered { IsContiguous FIRST batches }
+        requires next { next ≡ end_after FIRST batches }
+        requires within { next ≤ NUMBER_MAX }
+        ensures { result ≡ batches }
     {
-        History {
-            batches: Batches::new(alloc),
-            next: FIRST_NUMBER,
-        }
+        History { batches, next }
+    }
+
+    /// Whether a batch that takes so many numbers may still be numbered behind the others.
+    pub(crate) fn has_room(&self, count: u32) -> bool
+        ensures { MatchBool result (end_after FIRST self.now + count ≤ NUMBER_MAX) (NUMBER_MAX < end_after FIRST self.now + count) }
+    {
+        self.next + u64::from(count) <= NUMBER_MAX
     }
 
     /// Numbers the batch behind the others, keeps it, and answers it as it is written.
@@ -116,15 +121,9 @@ impl History {
     pub(crate) fn visible(&self) -> u64
         ensures visible { result ≡ end_after FIRST self.now }
         ensures numbered { IsContiguous FIRST self.now }
+        ensures within { result ≤ NUMBER_MAX }
     {
         self.next
-    }
-
-    /// How many batches there are.
-    pub(crate) fn len(&self) -> usize
-        ensures { result ≡ length self.now }
-    {
-        self.batches.len()
     }
 
     /// The value of a key after all batches.

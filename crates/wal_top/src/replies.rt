@@ -1,45 +1,11 @@
-//! The lines of the text.
+//! The lines of the text of a replay.
 
-ghost use Rattle.std.specs.Prelude.{◌≡◌, ◌+◌, ◌<◌, ◌++◌, ◌∷◌, [], Option, OnOk, option_map};
-ghost use Rattle.wal_top.specs.Printing.{hex_digit, printed_byte, printed, printed_answer, commit_line, get_line, end_line};
+ghost use Rattle.std.specs.Prelude.{◌≡◌, ◌++◌, OnOk, option_map};
+ghost use Rattle.wal_top.specs.Printing.{printed_answer, commit_line, limit_line, get_line, end_line};
 
 use std::alloc::Global;
+use text_lines::put_printed;
 use wal_base::{Buf, NoMemory};
-
-/// A digit from 0 to f.
-fn digit(value: u8) -> u8
-    requires { value < 16 }
-    ensures { result ≡ hex_digit value }
-{
-    if value < 10 {
-        b'0' + value
-    } else {
-        b'a' + (value - 10)
-    }
-}
-
-/// Adds a byte as it is printed.
-fn put_byte(out: &mut Buf, byte: u8) -> Result<(), NoMemory>
-    ensures { OnOk result (out.new ≡ out.old ++ printed_byte byte) }
-{
-    if (0x21..=0x7E).contains(&byte) && byte != b'\\' {
-        return out.append(&[byte]);
-    }
-    out.append(&[b'\\', b'x', digit(byte / 16), digit(byte % 16)])
-}
-
-/// Adds a key or a value as it is printed.
-fn put_printed(out: &mut Buf, bytes: &[u8]) -> Result<(), NoMemory>
-    ensures { OnOk result (out.new ≡ out.old ++ printed bytes.now) }
-{
-    if bytes.is_empty() {
-        return out.append(b"\\e");
-    }
-    for byte in bytes {
-        put_byte(out, *byte)?;
-    }
-    Ok(())
-}
 
 /// Adds the answer to a read.
 fn put_answer(out: &mut Buf, value: Option<&[u8]>) -> Result<(), NoMemory>
@@ -68,6 +34,14 @@ pub(crate) fn put_commit(
     out.append(line.as_bytes())
 }
 
+/// Adds the reply to a commit that would end past the numbers. After an `Err` a part of it may stand there.
+pub(crate) fn put_limit(alloc: Global, out: &mut Buf, session: u32) -> Result<(), NoMemory>
+    ensures { OnOk result (out.new ≡ out.old ++ limit_line session) }
+{
+    let line = format!(in alloc; "s{session} commit limit\n")?;
+    out.append(line.as_bytes())
+}
+
 /// Adds the reply to a read. After an `Err` a part of it may stand there.
 pub(crate) fn put_get(
     alloc: Global,
@@ -92,7 +66,7 @@ pub(crate) fn put_end(
     alloc: Global,
     out: &mut Buf,
     visible: u64,
-    batches: usize,
+    batches: u64,
 ) -> Result<(), NoMemory>
     ensures { OnOk result (out.new ≡ out.old ++ end_line visible batches) }
 {

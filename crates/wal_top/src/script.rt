@@ -60,6 +60,7 @@ pub(crate) enum ScriptError {
     NoMemory,
 }
 
+/// Whether the bytes may stand as a word of a line.
 fn is_word(bytes: &[u8]) -> bool
     ensures { IsTrue result ↔ IsWord bytes.now }
 {

@@ -1,6 +1,6 @@
 //! The log of a run, written whole and synced by one writer. Each operation is polled until it ends.
 
-ghost use Rattle.std.specs.Prelude.{◌≡◌, ◌≢◌, ◌<◌, false, List, length, IsTrue, OnOk, IsErrOf};
+ghost use Rattle.std.specs.Prelude.{◌≡◌, ◌≢◌, ◌<◌, false, ℕ, List, length, IsTrue, OnOk, IsErrOf};
 ghost use Rattle.wal_base.specs.Faults.{Rose};
 ghost use Rattle.batch_repr.specs.declared.batch.Batch.{Batch};
 ghost use Rattle.disk_face.specs.declared.OpId.{OpId};
@@ -11,20 +11,13 @@ ghost use Rattle.log_writer.specs.declared.phase.Operation.{Operation};
 ghost use Rattle.log_writer.specs.declared.phase.Phase.TheVariants.{InFlight, Broken};
 ghost use Rattle.log_writer.specs.Fits.{Fits, IsBusy, SameFile, file_of};
 ghost use Rattle.log_writer.specs.Steps.{next_operation};
-ghost use Rattle.wal_top.specs.Log.{log_place, HasNoSegment, StoresLog, OthersStay};
-ghost use Rattle.wal_top.specs.Storing.{IsLogWriter, HasEnded, HasStepped, OthersAsBefore, all_of};
+ghost use Rattle.wal_top.specs.Storing.{IsLogWriter, HasEnded, HasStepped, OthersAsBefore, OthersSame, HasNoLog, HasLog, all_of};
 
 use disk_face::{Disk, DiskErr, Progress, SegName, Side};
 use log_writer::{Goal, LogWriter};
 use record_queue::RecordQueue;
 use std::alloc::Global;
 use wal_base::NoMemory;
-
-/// The name of the log of a run.
-const LOG_NAME: SegName = SegName { wal: 1, index: 0 };
-
-/// The log number of its chunks.
-const LOG_NUMBER: u32 = 1;
 
 /// Polls the operation in flight until it has ended, and says whether it was done.
 fn wait<D: Disk>(disk: &mut D, writer: &mut LogWriter) -> bool
@@ -48,15 +41,15 @@ fn wait<D: Disk>(disk: &mut D, writer: &mut LogWriter) -> bool
 /// Does the next operation of the log, from its start to its end. `Failed` comes only where its side counted a fault.
 fn step<D: Disk>(disk: &mut D, writer: &mut LogWriter, records: &RecordQueue) -> Result<(), DiskErr>
     requires whole { records.now.start ≡ 0 }
-    requires log { IsLogWriter writer.old }
+    requires side { writer.old.side ≡ sides.Primary }
     requires not_busy { ¬ IsBusy writer.old.phase }
     requires not_broken { writer.old.phase ≢ Broken }
     requires fits { Fits D.tells records.now.records writer.old (D.view disk.old) }
     ensures goes_on { GoesOn (D.view disk.old) (D.view disk.new) }
-    ensures log { IsLogWriter writer.new }
+    ensures log { (wal : ℕ) → IsLogWriter wal writer.old → IsLogWriter wal writer.new }
     ensures fits { Fits D.tells records.now.records writer.new (D.view disk.new) }
     ensures free { ¬ IsBusy writer.new.phase }
-    ensures others { OthersAsBefore D.tells (D.view disk.old) (D.view disk.new) }
+    ensures others { (wal : ℕ) → IsLogWriter wal writer.old → OthersAsBefore wal D.tells (D.view disk.old) (D.view disk.new) }
     ensures stepped { OnOk result (HasStepped (next_operation writer.old.phase writer.old.written (all_of (length records.now.records) writer.old)) (length records.now.records) writer.old writer.new) }
     ensures failed { IsErrOf result DiskErr.Failed → Rose ((D.view disk.old).faults sides.Primary) ((D.view disk.new).faults sides.Primary) }
 {
@@ -80,24 +73,27 @@ fn step<D: Disk>(disk: &mut D, writer: &mut LogWriter, records: &RecordQueue) ->
     }
 }
 
-/// Makes the log, writes all records into it by one write, and syncs it. `Failed` comes only where its side counted a
-/// fault.
+/// Makes the log of a WAL, writes all records into it by one write, and syncs it. `Failed` comes only where its side
+/// counted a fault.
 pub(crate) fn store<D: Disk>(
     alloc: Global,
     disk: &mut D,
+    wal: u64,
     records: &RecordQueue,
 ) -> Result<(), DiskErr>
     requires whole { records.now.start ≡ 0 }
     requires some { 0 < length records.now.records }
     requires idle { NothingInFlight (D.view disk.old) }
-    requires free { IsTrue D.tells → HasNoSegment (files (D.view disk.old)) }
+    requires free { IsTrue D.tells → HasNoLog wal (files (D.view disk.old)) }
     ensures goes_on { GoesOn (D.view disk.old) (D.view disk.new) }
     ensures idle { NothingInFlight (D.view disk.new) }
-    ensures others { IsTrue D.tells → OthersStay (files (D.view disk.old)) (files (D.view disk.new)) }
-    ensures stored { OnOk result (IsTrue D.tells → StoresLog records.now.records (files (D.view disk.old)) (files (D.view disk.new))) }
+    ensures others { IsTrue D.tells → OthersSame wal (files (D.view disk.old)) (files (D.view disk.new)) }
+    ensures stored { OnOk result (IsTrue D.tells → HasLog wal records.now.records (files (D.view disk.new))) }
     ensures failed { IsErrOf result DiskErr.Failed → Rose ((D.view disk.old).faults sides.Primary) ((D.view disk.new).faults sides.Primary) }
 {
-    let mut writer = match LogWriter::new(alloc, Side::Primary, LOG_NAME, LOG_NUMBER, 0) {
+    let name = SegName { wal, index: 0 };
+    let log = (wal % (1 << 32)) as u32;
+    let mut writer = match LogWriter::new(alloc, Side::Primary, name, log, 0) {
         Ok(writer) => writer,
         Err(NoMemory) => return Err(DiskErr::NoMemory),
     };

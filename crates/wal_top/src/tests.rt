@@ -1,14 +1,16 @@
-ghost use Rattle.disk_face.specs.View.{NothingInFlight};
+ghost use Rattle.std.specs.Prelude.{◌≤◌, length};
 
 use crate::{Gate, GatePoint, NoGate, Ran, Status, run};
+use crc_chunk::{ChunkKind, put_chunk};
 use disk_face::{Disk, SegName, Side};
 use mem_disk::MemDisk;
 use std::alloc::{AllocError, Global};
+use std::marker::Model;
 use std::process::Abort;
 use std::sync::Wait;
 use std::test::Fail;
 use std::thread::Threads;
-use wal_base::{Blob, MemSink, MemSource, PutErr, ReadFault, Sink, Source};
+use wal_base::{Blob, Buf, MemSink, MemSource, NoMemory, PutErr, ReadFault, Sink, Source};
 
 const USAGE: &[u8] = b"usage: replay [--threshold N] | recover | dump | load SEED COUNT\n";
 
@@ -20,6 +22,49 @@ fn words_of(alloc: Global, words: &[&str]) -> Result<Vec<String>, AllocError> {
     Ok(owned)
 }
 
+/// A disk on which nothing is in flight.
+#[derive(Drop)]
+struct Rig {
+    disk: MemDisk,
+}
+
+impl Model for Rig {
+    ghost use Rattle.disk_face.specs.View.{NothingInFlight};
+    ghost use Rattle.mem_disk.specs.declared.memory.MemDisk.{MemDisk};
+
+    ghost Value = { MemDisk };
+
+    ghost view = { λ rig. rig.disk };
+
+    ghost invariant = { λ rig. NothingInFlight (⟦<MemDisk as Disk>⟧.view rig.disk) };
+}
+
+impl Rig {
+    fn new(alloc: Global) -> Result<Rig, NoMemory> {
+        let disk = MemDisk::new(alloc)?;
+        Ok(Rig { disk })
+    }
+
+    /// Puts a segment, where there is none of that name.
+    fn put(&mut self, rt: &impl Abort, side: Side, name: SegName, bytes: &[u8]) {
+        assert!(rt; self.disk.sent(side, name).is_none());
+        self.disk.put_file(side, name, bytes).expect(rt, "memory");
+    }
+
+    fn fail_call(&mut self, rt: &impl Abort, number: u64) {
+        self.disk.fail_call(number).expect(rt, "memory");
+    }
+
+    fn fail_op(&mut self, rt: &impl Abort, number: u64) {
+        self.disk.fail_op(number).expect(rt, "memory");
+    }
+
+    /// What the first segment of a WAL has, on one side.
+    fn log(&self, side: Side, wal: u64) -> Option<&[u8]> {
+        self.disk.content(side, SegName { wal, index: 0 })
+    }
+}
+
 /// The end of a run over these streams and this disk.
 fn ran_over<S: Source, K: Sink, R: Threads + Wait + Sync>(
     rt: &R,
@@ -27,12 +72,12 @@ fn ran_over<S: Source, K: Sink, R: Threads + Wait + Sync>(
     words: &[&str],
     source: &mut S,
     sink: &mut K,
-    disk: MemDisk,
-) -> Result<Ran<MemDisk>, AllocError>
-    requires { NothingInFlight (⟦<MemDisk as Disk>⟧.view disk) }
-{
+    rig: Rig,
+) -> Result<(Status, Rig), AllocError> {
     let words = words_of(alloc, words)?;
-    Ok(run(rt, alloc, &words, source, sink, disk, &NoGate))
+    let Rig { disk } = rig;
+    let Ran { status, disk } = run(rt, alloc, &words, source, sink, disk, &NoGate);
+    Ok((status, Rig { disk }))
 }
 
 /// The status of a run over these streams and a new disk.
@@ -43,11 +88,11 @@ fn status_of<S: Source, K: Sink, R: Threads + Wait + Sync>(
     source: &mut S,
     sink: &mut K,
 ) -> Status {
-    let Ok(disk) = MemDisk::new(alloc) else {
+    let Ok(rig) = Rig::new(alloc) else {
         return Status::NoMemory;
     };
-    match ran_over(rt, alloc, words, source, sink, disk) {
-        Ok(ran) => ran.status,
+    match ran_over(rt, alloc, words, source, sink, rig) {
+        Ok((status, _)) => status,
         Err(_) => Status::NoMemory,
     }
 }
@@ -121,7 +166,8 @@ fn other_words_are_no_command(rt: HostRuntime) -> Result<(), Fail> {
     for words in [
         &["replay", "--threshold", "0"][..],
         &["replay", "replay"][..],
-        &["recover"][..],
+        &["recover", "dump"][..],
+        &["load", "7", "1"][..],
         &["--help"][..],
         &[][..],
     ] {
@@ -188,28 +234,19 @@ fn a_failing_stream_ends_the_run(rt: HostRuntime) -> Result<(), Fail> {
     Ok(())
 }
 
-/// The name of the log of a run.
-const LOG: SegName = SegName { wal: 1, index: 0 };
-
-/// Asserts what a replay over a disk writes, its status, and what the log then has.
+/// Asserts what a replay over a disk writes, its status, and what the log of WAL 1 then has.
 fn check_log<R: Threads + Wait + Sync + Abort>(
     rt: &R,
     alloc: Global,
-    disk: MemDisk,
+    rig: Rig,
     script: &[u8],
     status: Status,
-    text: &[u8],
+    text: &str,
     log: Option<&[u8]>,
-) -> Result<(), Fail>
-    requires { NothingInFlight (⟦<MemDisk as Disk>⟧.view disk) }
-{
-    let mut source = MemSource::new(Blob::copy_of(alloc, script)?);
-    let mut sink = MemSink::new(alloc)?;
-    let ran = ran_over(rt, alloc, &["replay"], &mut source, &mut sink, disk)?;
-    assert_eq!(rt; ran.status, status);
-    assert_eq!(rt; sink.written(), text);
-    assert!(rt; ran.disk.content(Side::Primary, LOG) == log);
-    assert!(rt; ran.disk.content(Side::Secondary, LOG).is_none());
+) -> Result<(), Fail> {
+    let rig = check_command(rt, alloc, rig, &["replay"], script, status, text)?;
+    assert!(rt; rig.log(Side::Primary, 1) == log);
+    assert!(rt; rig.log(Side::Secondary, 1).is_none());
     Ok(())
 }
 
@@ -221,55 +258,256 @@ const FIRST_LOG: &[u8] = &[
 
 #[test]
 fn a_run_leaves_its_log(rt: HostRuntime) -> Result<(), Fail> {
+    let (alloc, rig) = (rt.alloc(), Rig::new(rt.alloc())?);
     let script = b"commit 0 nosync set a 1\nget 0 a\n";
-    let text = b"s0 commit 10 1\ns0 get a = 1 @11\nend visible 11 batches 1\n";
-    let (alloc, disk) = (rt.alloc(), MemDisk::new(rt.alloc())?);
-    check_log(
-        &rt,
-        alloc,
-        disk,
-        script,
-        Status::Done,
-        text,
-        Some(FIRST_LOG),
-    )?;
-    let disk = MemDisk::new(rt.alloc())?;
-    let end = b"end visible 10 batches 0\n";
-    check_log(&rt, alloc, disk, b"", Status::Done, end, None)
+    let text = "s0 commit 10 1\ns0 get a = 1 @11\nend visible 11 batches 1\n";
+    let log = Some(FIRST_LOG);
+    check_log(&rt, alloc, rig, script, Status::Done, text, log)?;
+    let rig = Rig::new(alloc)?;
+    let end = "end visible 10 batches 0\n";
+    check_log(&rt, alloc, rig, b"", Status::Done, end, None)
 }
 
 #[test]
 fn a_failing_disk_ends_the_run(rt: HostRuntime) -> Result<(), Fail> {
     let script = b"commit 0 nosync set a 1\n";
-    let text = b"s0 commit 10 1\nend visible 11 batches 1\n";
+    let text = "s0 commit 10 1\nend visible 11 batches 1\n";
     let alloc = rt.alloc();
     // Which operation fails: the creation, the write or the sync.
     for (number, log) in [(0, None), (1, Some(b"".as_slice())), (2, Some(FIRST_LOG))] {
-        let mut disk = MemDisk::new(alloc)?;
-        disk.fail_op(number)?;
-        check_log(&rt, alloc, disk, script, Status::Disk, text, log)?;
+        let mut rig = Rig::new(alloc)?;
+        rig.fail_op(&rt, number);
+        check_log(&rt, alloc, rig, script, Status::Disk, text, log)?;
     }
-    for (number, text) in [
-        (0, b"disk fault primary\n".as_slice()),
-        (1, b"disk fault secondary\n".as_slice()),
-    ] {
-        let mut disk = MemDisk::new(alloc)?;
-        disk.fail_call(number)?;
-        check_log(&rt, alloc, disk, script, Status::Disk, text, None)?;
+    for (number, text) in [(0, "disk fault primary\n"), (1, "disk fault secondary\n")] {
+        let mut rig = Rig::new(alloc)?;
+        rig.fail_call(&rt, number);
+        check_log(&rt, alloc, rig, script, Status::Disk, text, None)?;
     }
     Ok(())
 }
 
-#[test]
-fn directories_with_a_segment_are_refused(rt: HostRuntime) -> Result<(), Fail> {
-    let script = b"commit 0 nosync set a 1\n";
-    let other = SegName { wal: 7, index: 2 };
-    for side in [Side::Primary, Side::Secondary] {
-        let mut disk = MemDisk::new(rt.alloc())?;
-        disk.put_file(side, other, b"")?;
-        let text = b"refused directories\n";
-        check_log(&rt, rt.alloc(), disk, script, Status::Refused, text, None)?;
+/// The record of a batch that sets `a` to a digit.
+fn record_of(first: u8, digit: u8) -> [u8; 17] {
+    [first, 0, 0, 0, 0, 0, 0, 0, 1, 0, 0, 0, 1, 1, b'a', 1, digit]
+}
+
+/// Adds one chunk of a log to a segment.
+fn append(segment: &mut Buf, log: u32, payload: &[u8]) -> Result<(), NoMemory>
+    requires { length payload.now ≤ 100 }
+{
+    let mut chunk = [0u8; 111];
+    let len = put_chunk(&mut chunk, ChunkKind::Full, log, payload);
+    segment.append(&chunk[..len])
+}
+
+/// A segment of such batches.
+fn segment_of(alloc: Global, log: u32, batches: &[(u8, u8)]) -> Result<Buf, NoMemory> {
+    let mut segment = Buf::new(alloc)?;
+    for (first, digit) in batches {
+        append(&mut segment, log, &record_of(*first, *digit))?;
     }
+    Ok(segment)
+}
+
+/// Segment 0 of WAL 1 on the primary side, and segment 1 on the secondary side.
+fn rig_of(
+    rt: &impl Abort,
+    alloc: Global,
+    first: &[u8],
+    second: Option<&[u8]>,
+) -> Result<Rig, NoMemory> {
+    let mut rig = Rig::new(alloc)?;
+    rig.put(rt, Side::Primary, SegName { wal: 1, index: 0 }, first);
+    if let Some(second) = second {
+        rig.put(rt, Side::Secondary, SegName { wal: 1, index: 1 }, second);
+    }
+    Ok(rig)
+}
+
+/// Asserts what a command writes over a disk, and its status. Answers the disk.
+fn check_command<R: Threads + Wait + Sync + Abort>(
+    rt: &R,
+    alloc: Global,
+    rig: Rig,
+    words: &[&str],
+    script: &[u8],
+    status: Status,
+    text: &str,
+) -> Result<Rig, Fail> {
+    let mut source = MemSource::new(Blob::copy_of(alloc, script)?);
+    let mut sink = MemSink::new(alloc)?;
+    let (ended, rig) = ran_over(rt, alloc, words, &mut source, &mut sink, rig)?;
+    assert!(rt; sink.written() == text.as_bytes());
+    assert_eq!(rt; ended, status);
+    Ok(rig)
+}
+
+#[test]
+fn segments_are_recovered(rt: HostRuntime) -> Result<(), Fail> {
+    let alloc = rt.alloc();
+    let first = segment_of(alloc, 1, &[(10, b'1'), (11, b'2'), (12, b'3')])?;
+    let second = segment_of(alloc, 1, &[(11, b'2'), (12, b'3'), (13, b'4'), (14, b'5')])?;
+    let rig = rig_of(&rt, alloc, first.as_slice(), Some(second.as_slice()))?;
+    let store = "a = 5\nend batches 5 next 15\n";
+    check_command(&rt, alloc, rig, &["recover"], b"", Status::Done, store)?;
+    // The first segment is cut within its third chunk.
+    let second = segment_of(alloc, 1, &[(11, b'2'), (12, b'3'), (13, b'4')])?;
+    let first = first.as_slice().get(..70).unwrap_or(&[]);
+    let rig = rig_of(&rt, alloc, first, Some(second.as_slice()))?;
+    let store = "a = 4\nend batches 4 next 14\n";
+    check_command(&rt, alloc, rig, &["recover"], b"", Status::Done, store)?;
+    let rig = Rig::new(alloc)?;
+    let store = "end batches 0 next 10\n";
+    check_command(&rt, alloc, rig, &["recover"], b"", Status::Done, store)?;
+    Ok(())
+}
+
+#[test]
+fn segments_are_dumped(rt: HostRuntime) -> Result<(), Fail> {
+    let alloc = rt.alloc();
+    let mut segment = segment_of(alloc, 1, &[(10, b'1')])?;
+    append(&mut segment, 7, &record_of(11, b'9'))?;
+    let rig = rig_of(&rt, alloc, segment.as_slice(), None)?;
+    let text =
+        "segment 000001.log primary bytes 56 records 1 ends 28 torn\nbatch 10 1\nset a 1\nend batches 1 next 11\n";
+    check_command(&rt, alloc, rig, &["dump"], b"", Status::Done, text)?;
+    // A gap is accepted, and an empty segment and a batch without counted records are listed.
+    let first = segment_of(alloc, 1, &[(10, b'1')])?;
+    let mut second = segment_of(alloc, 1, &[(15, b'6')])?;
+    append(
+        &mut second,
+        1,
+        &[9, 0, 0, 0, 0, 0, 0, 0, 0, 0, 0, 0, 3, 1, b' '],
+    )?;
+    let mut rig = rig_of(&rt, alloc, first.as_slice(), Some(second.as_slice()))?;
+    rig.put(&rt, Side::Secondary, SegName { wal: 3, index: 0 }, b"");
+    let text =
+        "segment 000001.log primary bytes 28 records 1 ends 28 clean\nbatch 10 1\nset a 1\nsegment 000001-001.log secondary bytes 54 records 2 ends 54 clean\nbatch 15 1\nset a 6\nbatch 9 0\nnote \\x20\nsegment 000003.log secondary bytes 0 records 0 ends 0 clean\nend batches 2 next 16\n";
+    check_command(&rt, alloc, rig, &["dump"], b"", Status::Done, text)?;
+    Ok(())
+}
+
+#[test]
+fn directories_are_refused(rt: HostRuntime) -> Result<(), Fail> {
+    let alloc = rt.alloc();
+    let script = b"commit 0 nosync set a 1\n";
+    let three = segment_of(alloc, 1, &[(10, b'1'), (11, b'2'), (12, b'3')])?;
+    let gap = segment_of(alloc, 1, &[(15, b'6')])?;
+    let conflict = segment_of(alloc, 1, &[(12, b'9')])?;
+    let mut kind = Buf::new(alloc)?;
+    append(
+        &mut kind,
+        1,
+        &[10, 0, 0, 0, 0, 0, 0, 0, 1, 0, 0, 0, 2, 1, b'a', 1, b'1'],
+    )?;
+    let gap_text = "refused gap 000001-001.log expected 13 found 15\n";
+    let conflict_text = "refused conflict 000001-001.log 12\n";
+    let kind_text = "refused batch 000001.log 0 unknown-kind 12 2\n";
+    for (first, second, words, text) in [
+        (&three, Some(&gap), "recover", gap_text),
+        (&three, Some(&gap), "replay", gap_text),
+        (&three, Some(&conflict), "recover", conflict_text),
+        (&three, Some(&conflict), "dump", conflict_text),
+        (&kind, None, "dump", kind_text),
+    ] {
+        let second = second.map(|buf| buf.as_slice());
+        let rig = rig_of(&rt, alloc, first.as_slice(), second)?;
+        check_command(&rt, alloc, rig, &[words], script, Status::Refused, text)?;
+    }
+    let mut rig = rig_of(&rt, alloc, three.as_slice(), None)?;
+    rig.put(
+        &rt,
+        Side::Secondary,
+        SegName { wal: 1, index: 0 },
+        three.as_slice(),
+    );
+    let text = "refused duplicate 000001.log\n";
+    check_command(&rt, alloc, rig, &["replay"], script, Status::Refused, text)?;
+    Ok(())
+}
+
+#[test]
+fn a_failing_directory_ends_a_recovery(rt: HostRuntime) -> Result<(), Fail> {
+    let alloc = rt.alloc();
+    for words in ["recover", "dump", "replay"] {
+        let mut rig = Rig::new(alloc)?;
+        rig.fail_call(&rt, 1);
+        let text = "disk fault secondary\n";
+        check_command(&rt, alloc, rig, &[words], b"", Status::Disk, text)?;
+    }
+    // The sync of a segment that was read fails.
+    let mut rig = rig_of(&rt, alloc, FIRST_LOG, None)?;
+    rig.fail_op(&rt, 0);
+    let text = "disk fault primary\n";
+    check_command(&rt, alloc, rig, &["recover"], b"", Status::Disk, text)?;
+    Ok(())
+}
+
+#[test]
+fn an_index_may_be_missing(rt: HostRuntime) -> Result<(), Fail> {
+    let alloc = rt.alloc();
+    let first = segment_of(alloc, 1, &[(10, b'1'), (11, b'2')])?;
+    let third = segment_of(alloc, 1, &[(11, b'2'), (12, b'3')])?;
+    let mut rig = rig_of(&rt, alloc, first.as_slice(), None)?;
+    rig.put(
+        &rt,
+        Side::Secondary,
+        SegName { wal: 1, index: 2 },
+        third.as_slice(),
+    );
+    rig.put(&rt, Side::Primary, SegName { wal: 3, index: 0 }, b"");
+    let store = "a = 3\nend batches 3 next 13\n";
+    let rig = check_command(&rt, alloc, rig, &["recover"], b"", Status::Done, store)?;
+    // The empty segment has a WAL of its own, and the log stands behind it.
+    let script = b"commit 0 nosync set a 4\n";
+    let text = "s0 commit 13 1\nend visible 14 batches 1\n";
+    let rig = check_command(&rt, alloc, rig, &["replay"], script, Status::Done, text)?;
+    assert_eq!(rt; rig.log(Side::Primary, 4).map(|log| log.len()), Some(28));
+    Ok(())
+}
+
+#[test]
+fn a_replay_goes_on_where_one_stopped(rt: HostRuntime) -> Result<(), Fail> {
+    let alloc = rt.alloc();
+    let mut rig = Rig::new(alloc)?;
+    for (script, text) in [
+        (
+            b"commit 0 nosync set a 1\n".as_slice(),
+            "s0 commit 10 1\nend visible 11 batches 1\n",
+        ),
+        (
+            b"get 0 a\ncommit 0 nosync set b 2\nget 0 b\n".as_slice(),
+            "s0 get a = 1 @11\ns0 commit 11 1\ns0 get b = 2 @12\nend visible 12 batches 1\n",
+        ),
+        (
+            b"get 0 b\n".as_slice(),
+            "s0 get b = 2 @12\nend visible 12 batches 0\n",
+        ),
+    ] {
+        rig = check_command(&rt, alloc, rig, &["replay"], script, Status::Done, text)?;
+    }
+    assert!(rt; rig.log(Side::Primary, 1) == Some(FIRST_LOG));
+    assert_eq!(rt; rig.log(Side::Primary, 2).map(|log| log.len()), Some(28));
+    assert!(rt; rig.log(Side::Primary, 3).is_none());
+    let store = "a = 1\nb = 2\nend batches 2 next 12\n";
+    check_command(&rt, alloc, rig, &["recover"], b"", Status::Done, store)?;
+    Ok(())
+}
+
+#[test]
+fn limits_are_told(rt: HostRuntime) -> Result<(), Fail> {
+    let alloc = rt.alloc();
+    let last = SegName {
+        wal: 999_999_999_999,
+        index: 0,
+    };
+    let mut rig = Rig::new(alloc)?;
+    rig.put(&rt, Side::Primary, last, b"");
+    let text = "limit wal\n";
+    let rig = check_command(&rt, alloc, rig, &["replay"], b"", Status::Limit, text)?;
+    let text = "end batches 0 next 10\n";
+    check_command(&rt, alloc, rig, &["recover"], b"", Status::Done, text)?;
     Ok(())
 }
 
@@ -319,10 +557,10 @@ fn a_log_goes_on_in_the_next_block(rt: HostRuntime) -> Result<(), Fail> {
         let script = script_of(rt.alloc(), lens)?;
         let mut source = MemSource::new(Blob::copy_of(rt.alloc(), &script)?);
         let mut sink = MemSink::new(rt.alloc())?;
-        let disk = MemDisk::new(rt.alloc())?;
-        let ran = ran_over(&rt, rt.alloc(), &["replay"], &mut source, &mut sink, disk)?;
-        assert_eq!(rt; ran.status, Status::Done);
-        let log = ran.disk.content(Side::Primary, LOG).unwrap_or(&[]);
+        let rig = Rig::new(rt.alloc())?;
+        let (status, rig) = ran_over(&rt, rt.alloc(), &["replay"], &mut source, &mut sink, rig)?;
+        assert_eq!(rt; status, Status::Done);
+        let log = rig.log(Side::Primary, 1).unwrap_or(&[]);
         assert_eq!(rt; log.len(), len);
         assert!(rt; bytes_at(log, &places) == types);
     }

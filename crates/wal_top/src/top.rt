@@ -1,23 +1,33 @@
 //! The top call, and the order in which a run meets what it may meet.
 
-ghost use Rattle.std.specs.Prelude.{◌≡◌, ◌≢◌, ◌+◌, ◌⊎◌, ℕ, List, length, map, IfOk, IsTrue};
+ghost use Rattle.std.specs.Prelude.{◌≡◌, ◌≢◌, ◌+◌, ◌<◌, ◌≤◌, ◌⊎◌, ℕ, List, length, map, sum_by, IfOk, IsTrue};
 ghost use Rattle.std.specs.String.{string_bytes};
 ghost use Rattle.wal_base.specs.Faults.{Rose};
 ghost use Rattle.batch_repr.specs.declared.batch.Batch.{Batch};
-ghost use Rattle.disk_face.specs.declared.Side.{Side};
+ghost use Rattle.batch_repr.specs.declared.limits.TheConstants.{NUMBER_MAX};
+ghost use Rattle.batch_repr.specs.Batches.{end_after};
 ghost use Rattle.disk_face.specs.View.{files, NothingInFlight};
 ghost use Rattle.disk_face.specs.Calls.{GoesOn, SameDisk};
+ghost use Rattle.wal_recovery.specs.declared.reports.Mode.{Mode};
+ghost use Rattle.wal_recovery.specs.declared.fault.RecoverFault.{RecoverFault};
+ghost use Rattle.wal_recovery.specs.Listing.{IsNextWal};
+ghost use Rattle.wal_recovery.specs.Recovering.{Recovers, RecoversLenient};
+ghost use Rattle.wal_recovery.specs.Resting.{OnlySynced};
+ghost use Rattle.wal_recovery.specs.Answers.{IsRefusedBy};
 ghost use Rattle.wal_top.specs.declared.reading.TheConstants.{SCRIPT_MAX};
 ghost use Rattle.wal_top.specs.declared.status.Status.TheVariants as statuses;
-ghost use Rattle.wal_top.specs.Words.{IsCommand, IsReplay};
-ghost use Rattle.wal_top.specs.Printing.{usage_text, read_fault_text, refused_text};
+ghost use Rattle.wal_top.specs.Words.{IsCommand, IsReplay, IsRecover, IsDump, RecoversIn};
+ghost use Rattle.wal_top.specs.Printing.{usage_text, read_fault_text};
 ghost use Rattle.wal_top.specs.Reading.{TookAtMost, TellsScript, TellsNoScript};
-ghost use Rattle.wal_top.specs.Log.{HasSegments, HasNoSegment, OthersStay};
-ghost use Rattle.wal_top.specs.Outcomes.{AnswersScript, RefusesScript, LogsBatches, FailsDisk, HasToSay, Wrote, WrotePartOf, YieldsTo, Ended, IsBeforeDisk};
+ghost use Rattle.wal_top.specs.Replay.{FIRST, numbers_taken};
+ghost use Rattle.wal_top.specs.Log.{LAST_WAL, directories, OthersStay};
+ghost use Rattle.wal_top.specs.Outcomes.{RefusesScript, RefusesDirectories, FailsDisk, IsLimited, IsDone, HasToSay, Wrote, WrotePartOf, YieldsTo, Ended, IsBeforeDisk, IsCalm};
 
 use crate::gate::Gate;
 use crate::reading::{ReadError, read_script_bytes};
-use crate::said::{Said, said_of, saying};
+use crate::replaying::said_of;
+use crate::said::{Said, saying};
+use crate::showing::{segments_said, store_said};
 use crate::status::{Ran, Status};
 use crate::words::{Command, command_of};
 use crate::writing::write_all;
@@ -29,6 +39,24 @@ use wal_base::{NoMemory, PutErr, Sink, Source};
 
 const USAGE: &str = "usage: replay [--threshold N] | recover | dump | load SEED COUNT\n";
 
+/// What a replay of the source's script has to say.
+fn replayed<S: Source, D: Disk>(alloc: Global, src: &mut S, disk: &mut D) -> Result<Said, NoMemory>
+    requires { NothingInFlight (D.view disk.old) }
+    ensures goes_on { GoesOn (D.view disk.old) (D.view disk.new) }
+    ensures idle { NothingInFlight (D.view disk.new) }
+    ensures others { IsTrue D.tells → (wal : ℕ) → IsNextWal (directories (D.view disk.old)) wal → OthersStay wal (files (D.view disk.old)) (files (D.view disk.new)) }
+    ensures says { IfOk result (λ said. (words : List (List ℕ)) → IsReplay words → HasToSay words (S.left src.old) (S.left src.new) D.tells (D.view disk.old) (D.view disk.new) said.status said.text) }
+    ensures read { IfOk result (λ said. said.status ≡ statuses.Read → Rose (S.faults src.old) (S.faults src.new)) }
+    ensures took { TookAtMost (SCRIPT_MAX + 1) (S.left src.old) (S.left src.new) }
+{
+    match read_script_bytes(alloc, src) {
+        Ok(script) => said_of(alloc, script.as_slice(), disk),
+        Err(ReadError::NoMemory) => Err(NoMemory),
+        Err(ReadError::Fault) => saying(alloc, Status::Read, "read fault\n"),
+        Err(ReadError::TooLong) => saying(alloc, Status::Script, "script too long\n"),
+    }
+}
+
 /// Everything of a run before its first byte is written. It waits for nobody.
 fn answered<S: Source, D: Disk>(
     alloc: Global,
@@ -39,20 +67,19 @@ fn answered<S: Source, D: Disk>(
     requires { NothingInFlight (D.view disk.old) }
     ensures goes_on { GoesOn (D.view disk.old) (D.view disk.new) }
     ensures idle { NothingInFlight (D.view disk.new) }
-    ensures others { IsTrue D.tells → OthersStay (files (D.view disk.old)) (files (D.view disk.new)) }
+    ensures others { IsTrue D.tells → (wal : ℕ) → IsNextWal (directories (D.view disk.old)) wal → OthersStay wal (files (D.view disk.old)) (files (D.view disk.new)) }
+    ensures no_log { (IsReplay (map string_bytes words.now) → ⊥) → IsTrue D.tells → OnlySynced (files (D.view disk.old)) (files (D.view disk.new)) }
+    ensures starts_nothing { IsDump (map string_bytes words.now) → SameDisk (D.view disk.old) (D.view disk.new) }
     ensures says { IfOk result (λ said. HasToSay (map string_bytes words.now) (S.left src.old) (S.left src.new) D.tells (D.view disk.old) (D.view disk.new) said.status said.text) }
     ensures read { IfOk result (λ said. said.status ≡ statuses.Read → Rose (S.faults src.old) (S.faults src.new)) }
     ensures took { TookAtMost (SCRIPT_MAX + 1) (S.left src.old) (S.left src.new) }
+    ensures unread { (IsReplay (map string_bytes words.now) → ⊥) → S.left src.new ≡ S.left src.old }
 {
     match command_of(words) {
-        Some(Command::Replay) => {}
-        None => return saying(alloc, Status::Usage, USAGE),
-    }
-    match read_script_bytes(alloc, src) {
-        Ok(script) => said_of(alloc, script.as_slice(), disk),
-        Err(ReadError::NoMemory) => Err(NoMemory),
-        Err(ReadError::Fault) => saying(alloc, Status::Read, "read fault\n"),
-        Err(ReadError::TooLong) => saying(alloc, Status::Script, "script too long\n"),
+        Some(Command::Replay) => replayed(alloc, src, disk),
+        Some(Command::Recover) => store_said(alloc, disk),
+        Some(Command::Dump) => segments_said(alloc, disk),
+        None => saying(alloc, Status::Usage, USAGE),
     }
 }
 
@@ -82,14 +109,13 @@ pub fn run<S: Source, K: Sink, D: Disk + Send, G: Gate + Sync, R: Threads + Wait
 ) -> Ran<D>
     requires idle { NothingInFlight (D.view disk) }
 
-    // Status 0: the script is replayed, the log of its batches is written and synced, and then the whole text of its answers is written.
-    ensures done { result.status ≡ statuses.Done → (batches : List Batch) × (text : List ℕ) × AnswersScript (S.left src.old) (S.left src.new) batches text
-        × LogsBatches D.tells batches (D.view disk) (D.view result.disk) × Wrote (K.written out.old) (K.written out.new) text }
+    // Status 0: the whole text of the command is written. A replay is answered over what the directories recover to, and the log of its batches is written and synced before; the store is that of all batches; the segments are reported as they read.
+    ensures done { result.status ≡ statuses.Done → (text : List ℕ) × IsDone (map string_bytes words.now) (S.left src.old) (S.left src.new) D.tells (D.view disk) (D.view result.disk) text × Wrote (K.written out.old) (K.written out.new) text }
 
-    // Status 1: exactly where the words are no command. The source is not read then.
+    // Status 1: exactly where the words are no command. Only a replay reads the source.
     ensures usage { result.status ≡ statuses.Usage → (IsCommand (map string_bytes words.now) → ⊥) × Wrote (K.written out.old) (K.written out.new) usage_text }
-    ensures unread { result.status ≡ statuses.Usage → S.left src.new ≡ S.left src.old }
     ensures no_command { (IsCommand (map string_bytes words.now) → ⊥) → YieldsTo statuses.Usage result.status }
+    ensures unread { (IsReplay (map string_bytes words.now) → ⊥) → S.left src.new ≡ S.left src.old }
 
     // Status 2: exactly where the script is too long, or has a bad line.
     ensures script { result.status ≡ statuses.Script → (text : List ℕ) × RefusesScript (S.left src.old) (S.left src.new) text × Wrote (K.written out.old) (K.written out.new) text }
@@ -103,34 +129,47 @@ pub fn run<S: Source, K: Sink, D: Disk + Send, G: Gate + Sync, R: Threads + Wait
     ensures part { result.status ≡ statuses.Write
         → WrotePartOf (map string_bytes words.now) (S.left src.old) (S.left src.new) D.tells (D.view disk) (D.view result.disk) (K.written out.old) (K.written out.new) }
 
-    // Status 5: only where a side could not be listed, or an operation on the log failed.
-    ensures disk { result.status ≡ statuses.Disk → (text : List ℕ) × FailsDisk (S.left src.old) (S.left src.new) D.tells (D.view disk) (D.view result.disk) text
+    // Status 5: only where a side failed in recovery, where no file is begun, or an operation on the log failed.
+    ensures disk { result.status ≡ statuses.Disk → (text : List ℕ) × FailsDisk (map string_bytes words.now) (S.left src.old) (S.left src.new) D.tells (D.view disk) (D.view result.disk) text
         × Wrote (K.written out.old) (K.written out.new) text }
 
-    // Status 6: exactly where a segment stands in the directories. No file changes then.
-    ensures refused { result.status ≡ statuses.Refused → (IsTrue D.tells → HasSegments (files (D.view disk))) × SameDisk (D.view disk) (D.view result.disk) × Wrote (K.written out.old) (K.written out.new) refused_text }
-    ensures occupied { IsReplay (map string_bytes words.now) → TellsScript (S.left src.old) → IsTrue D.tells → HasSegments (files (D.view disk))
-        → (Rose (S.faults src.old) (S.faults src.new) → ⊥) → ((side : Side) → Rose ((D.view disk).faults side) ((D.view result.disk).faults side) → ⊥) → YieldsTo statuses.Refused result.status }
+    // Status 6: exactly where the directories are refused. Nothing is done to them then.
+    ensures refused { result.status ≡ statuses.Refused → (text : List ℕ) × RefusesDirectories (map string_bytes words.now) (S.left src.old) (S.left src.new) D.tells (D.view disk) (D.view result.disk) text
+        × Wrote (K.written out.old) (K.written out.new) text }
+    ensures directories { (mode : Mode) (fault : RecoverFault) → RecoversIn (map string_bytes words.now) mode → (IsReplay (map string_bytes words.now) → TellsScript (S.left src.old)) → IsTrue D.tells → IsRefusedBy mode (directories (D.view disk)) fault
+        → (Rose (S.faults src.old) (S.faults src.new) → ⊥) → IsCalm (D.view disk) (D.view result.disk) → YieldsTo statuses.Refused result.status }
 
     // Status 7: the text is built whole before its first byte is written, so a part of it stands only where the sink ran out of memory.
     ensures built_whole { result.status ≡ statuses.NoMemory → (K.written out.new ≡ K.written out.old)
         ⊎ (Rose (K.shortages out.old) (K.shortages out.new)
         × WrotePartOf (map string_bytes words.now) (S.left src.old) (S.left src.new) D.tells (D.view disk) (D.view result.disk) (K.written out.old) (K.written out.new)) }
 
-    // A right command over an accepted script and empty directories is done, unless a stream or the disk fails or memory runs out.
-    ensures complete { IsReplay (map string_bytes words.now) → TellsScript (S.left src.old) → IsTrue D.tells → HasNoSegment (files (D.view disk))
-        → (Rose (S.faults src.old) (S.faults src.new) → ⊥) → (Rose (K.faults out.old) (K.faults out.new) → ⊥)
-        → ((side : Side) → Rose ((D.view disk).faults side) ((D.view result.disk).faults side) → ⊥)
-        → (result.status ≡ statuses.Done) ⊎ (result.status ≡ statuses.NoMemory) }
+    // Status 8: exactly where a replay reaches the limit of the numbers, or the last WAL is taken.
+    ensures limit { result.status ≡ statuses.Limit → (text : List ℕ) × IsLimited (map string_bytes words.now) (S.left src.old) (S.left src.new) D.tells (D.view disk) (D.view result.disk) text
+        × Wrote (K.written out.old) (K.written out.new) text }
+    ensures limited { IsReplay (map string_bytes words.now) → (told : TellsScript (S.left src.old)) → IsTrue D.tells → (base : List Batch) (next : ℕ) → Recovers (directories (D.view disk)) base → IsNextWal (directories (D.view disk)) next
+        → (LAST_WAL < next) ⊎ (NUMBER_MAX < end_after FIRST base + sum_by numbers_taken told.good.acts)
+        → (Rose (S.faults src.old) (S.faults src.new) → ⊥) → IsCalm (D.view disk) (D.view result.disk) → YieldsTo statuses.Limit result.status }
 
-    // No other status comes, the source gives one byte more than the longest script at the most, and the disk is not touched before the script is checked.
-    ensures statuses { result.status ≢ statuses.Limit }
+    // Where the directories recover and no limit is reached, a command is done, unless a stream or the disk fails or memory runs out.
+    ensures complete { IsReplay (map string_bytes words.now) → (told : TellsScript (S.left src.old)) → IsTrue D.tells → (base : List Batch) (next : ℕ) → Recovers (directories (D.view disk)) base → IsNextWal (directories (D.view disk)) next
+        → next ≤ LAST_WAL → end_after FIRST base + sum_by numbers_taken told.good.acts ≤ NUMBER_MAX
+        → (Rose (S.faults src.old) (S.faults src.new) → ⊥) → (Rose (K.faults out.old) (K.faults out.new) → ⊥) → IsCalm (D.view disk) (D.view result.disk)
+        → (result.status ≡ statuses.Done) ⊎ (result.status ≡ statuses.NoMemory) }
+    ensures shows_store { IsRecover (map string_bytes words.now) → IsTrue D.tells → (batches : List Batch) → Recovers (directories (D.view disk)) batches
+        → (Rose (K.faults out.old) (K.faults out.new) → ⊥) → IsCalm (D.view disk) (D.view result.disk) → (result.status ≡ statuses.Done) ⊎ (result.status ≡ statuses.NoMemory) }
+    ensures shows_segments { IsDump (map string_bytes words.now) → IsTrue D.tells → (batches : List Batch) → RecoversLenient (directories (D.view disk)) batches
+        → (Rose (K.faults out.old) (K.faults out.new) → ⊥) → IsCalm (D.view disk) (D.view result.disk) → (result.status ≡ statuses.Done) ⊎ (result.status ≡ statuses.NoMemory) }
+
+    // The source gives one byte more than the longest script at the most, and the disk is not touched before the script is checked.
     ensures took { TookAtMost (SCRIPT_MAX + 1) (S.left src.old) (S.left src.new) }
     ensures untouched { IsBeforeDisk result.status → D.view result.disk ≡ D.view disk }
     ensures goes_on { GoesOn (D.view disk) (D.view result.disk) }
 
-    // Whatever the status, no file but the log changes, and nothing is left in flight.
-    ensures others { IsTrue D.tells → OthersStay (files (D.view disk)) (files (D.view result.disk)) }
+    // Whatever the status, no file but the log of the next WAL changes unless by a sync, only a replay has a log, a dump starts nothing, and nothing is left in flight.
+    ensures others { IsTrue D.tells → (wal : ℕ) → IsNextWal (directories (D.view disk)) wal → OthersStay wal (files (D.view disk)) (files (D.view result.disk)) }
+    ensures no_log { (IsReplay (map string_bytes words.now) → ⊥) → IsTrue D.tells → OnlySynced (files (D.view disk)) (files (D.view result.disk)) }
+    ensures starts_nothing { IsDump (map string_bytes words.now) → SameDisk (D.view disk) (D.view result.disk) }
     ensures idle { NothingInFlight (D.view result.disk) }
 {
     match answered(alloc, words, src, &mut disk) {

@@ -1,28 +1,22 @@
-use Rattle.std.proofs.Common.{List, ℕ, Err, map, refl, ap, subst}
+use Rattle.std.proofs.Common.{map, refl, subst}
 use Rattle.std.specs.String.{string_bytes}
+use Rattle.wal_top.specs.declared.words.Command.{Command}
+use Rattle.wal_top.specs.Commands.{IsWordOf}
 use Rattle.wal_top.specs.Outcomes as outcomes
 use Rattle.wal_top.specs.Outcomes.{HasToSay}
-use Rattle.wal_top.specs.Doing.{ScriptComesTo}
-use Rattle.wal_top.proofs.Saying.{ok_map, as_told, says_of_script}
-use Rattle.wal_top.proofs.Coming.{never_reads}
+use Rattle.wal_top.proofs.Saying.{ok_map, as_told}
+use Rattle.wal_top.proofs.HavingSaid.{says_of_store, says_of_segments}
 use Rattle.wal_top.proofs.top.answered.Goals as goal
+
+pub returns-in-Some-Recover-clause-says : goal.returns-in-Some-Recover-clause-says
+returns-in-Some-Recover-clause-says g c =
+    ok_map c.store_said.result c.store_said.ensures.shows (λ said p. says_of_store (map string_bytes c.args.words.now) (g.S.Source.left c.args.src.now) (g.S.Source.left c.args.src.now) g.D.Disk.tells (g.D.Disk.view c.args.disk.now) (g.D.Disk.view c.store_said.new.disk) said.status said.text
+    (subst (λ (k : Command). IsWordOf k (map string_bytes c.args.words.now)) c.in-Some-Recover.field-0-is c.in-Some-Recover.ensures.found) refl p)
+
+pub returns-in-Some-Dump-clause-says : goal.returns-in-Some-Dump-clause-says
+returns-in-Some-Dump-clause-says g c =
+    ok_map c.segments_said.result c.segments_said.ensures.shows (λ said p. says_of_segments (map string_bytes c.args.words.now) (g.S.Source.left c.args.src.now) (g.S.Source.left c.args.src.now) g.D.Disk.tells (g.D.Disk.view c.args.disk.now) (g.D.Disk.view c.segments_said.new.disk) said.status said.text
+    (subst (λ (k : Command). IsWordOf k (map string_bytes c.args.words.now)) c.in-Some-Dump.field-0-is c.in-Some-Dump.ensures.found) refl p)
 
 pub returns-in-None-clause-says : goal.returns-in-None-clause-says
 returns-in-None-clause-says g c = ok_map c.saying.result c.saying.ensures (λ said p. as_told (HasToSay _ _ _ _ _ _) said.status _ said.text _ (outcomes.usage c.in-None.ensures.none refl refl) p.0 p.1)
-
-pub returns-in-Ok-clause-says : goal.returns-in-Ok-clause-says
-returns-in-Ok-clause-says g c =
-    ok_map c.said_of.result c.said_of.ensures.comes (λ said p. says_of_script (map string_bytes c.args.words.now) (g.S.Source.left c.args.src.now) (g.S.Source.left c.read_script_bytes.new.src) c.in-Ok.script g.D.Disk.tells (g.D.Disk.view c.args.disk.now) (g.D.Disk.view c.said_of.new.disk) said.status said.text c.in-Some-Replay.ensures.found c.in-Ok.ensures.whole c.in-Ok.ensures.within
-    (subst (λ (t : List ℕ). ScriptComesTo t g.D.Disk.tells (g.D.Disk.view c.args.disk.now) (g.D.Disk.view c.said_of.new.disk) said.status said.text) c.as_slice.ensures p))
-
-pub returns-in-Ok-clause-read : goal.returns-in-Ok-clause-read
-returns-in-Ok-clause-read g c = ok_map c.said_of.result c.said_of.ensures.comes (λ said p e. absurd (never_reads _ _ _ _ said.status said.text p e))
-
-pub returns-in-Err-Fault-clause-says : goal.returns-in-Err-Fault-clause-says
-returns-in-Err-Fault-clause-says g c =
-    ok_map c.saying-in-Err-Fault.result c.saying-in-Err-Fault.ensures (λ said p. as_told (HasToSay _ _ _ _ _ _) said.status _ said.text _ (outcomes.read_fault c.in-Some-Replay.ensures.found refl) p.0 p.1)
-
-pub returns-in-Err-TooLong-clause-says : goal.returns-in-Err-TooLong-clause-says
-returns-in-Err-TooLong-clause-says g c =
-    ok_map c.saying-in-Err-TooLong.result c.saying-in-Err-TooLong.ensures (λ said p. as_told (HasToSay _ _ _ _ _ _) said.status _ said.text _
-    (outcomes.refused _ c.in-Some-Replay.ensures.found refl (outcomes.too_long (c.in-Err-TooLong.ensures.too_long (ap (λ x. Err x) c.in-Err-TooLong.field-0-is)))) p.0 p.1)

@@ -1,6 +1,5 @@
-use Rattle.std.proofs.Common.{◌≡◌, ◌∙◌, sym, subst, inr}
+use Rattle.std.proofs.Common.{◌∙◌, sym, subst, inr}
 use Rattle.wal_top.specs.declared.status.Status.{Status}
-use Rattle.wal_top.specs.declared.status.Status.TheVariants.{Done, Usage, Script, Refused}
 use Rattle.wal_top.specs.Outcomes.{Wrote, YieldsTo, IsBeforeDisk}
 use Rattle.wal_top.proofs.Endings as ends
 use Rattle.wal_top.proofs.top.run.Goals as goal
@@ -8,34 +7,33 @@ use Rattle.wal_top.proofs.top.run.Goals as goal
 pub returns-in-Ok-clause-done : goal.returns-in-Ok-clause-done
 returns-in-Ok-clause-done g c = λ e.
     let w = ends.was_whole _ _ _ _ _ c.ended-status.ensures.ended (ends.other e (λ h. cc)) (ends.other e (λ h. cc)) in
-    let d = ends.says_done _ _ _ _ _ _ _ _ c.in-Ok.ensures.says (sym w.0 ∙ e) in
-    (d.0, c.in-Ok.said.text, d.1, d.2, w.1)
-
-pub returns-in-Ok-clause-usage : goal.returns-in-Ok-clause-usage
-returns-in-Ok-clause-usage g c = λ e.
-    let w = ends.was_whole _ _ _ _ _ c.ended-status.ensures.ended (ends.other e (λ h. cc)) (ends.other e (λ h. cc)) in
-    let u = ends.says_usage _ _ _ _ _ _ _ _ c.in-Ok.ensures.says (sym w.0 ∙ e) in
-    (u.0, subst (Wrote (g.K.Sink.written c.args.out.now) (g.K.Sink.written c.ended-status.new.out)) u.1 w.1)
-
-pub returns-in-Ok-clause-unread : goal.returns-in-Ok-clause-unread
-returns-in-Ok-clause-unread g c = λ e.
-    let w = ends.was_whole _ _ _ _ _ c.ended-status.ensures.ended (ends.other e (λ h. cc)) (ends.other e (λ h. cc)) in
-    (ends.says_usage _ _ _ _ _ _ _ _ c.in-Ok.ensures.says (sym w.0 ∙ e)).2
-
-pub returns-in-Ok-clause-no_command : goal.returns-in-Ok-clause-no_command
-returns-in-Ok-clause-no_command g c = λ none.
-    let usage : c.in-Ok.said.status ≡ Usage = ends.no_command_says_usage _ _ _ _ _ _ _ _ c.in-Ok.ensures.says none in
-    subst (λ (s : Status). YieldsTo s c.ended-status.result) usage (ends.yields _ _ _ _ _ c.ended-status.ensures.ended)
+    (c.in-Ok.said.text, ends.says_done _ _ _ _ _ _ _ _ c.in-Ok.ensures.says (sym w.0 ∙ e), w.1)
 
 pub returns-in-Ok-clause-script : goal.returns-in-Ok-clause-script
 returns-in-Ok-clause-script g c = λ e.
     let w = ends.was_whole _ _ _ _ _ c.ended-status.ensures.ended (ends.other e (λ h. cc)) (ends.other e (λ h. cc)) in
     (c.in-Ok.said.text, ends.says_script _ _ _ _ _ _ _ _ c.in-Ok.ensures.says (sym w.0 ∙ e), w.1)
 
-pub returns-in-Ok-clause-no_script : goal.returns-in-Ok-clause-no_script
-returns-in-Ok-clause-no_script g c = λ replay told calm.
-    let refused : c.in-Ok.said.status ≡ Script = ends.no_script_says_script _ _ _ _ _ _ _ _ c.in-Ok.ensures.says replay told (λ r. calm (c.in-Ok.ensures.read r)) in
-    subst (λ (s : Status). YieldsTo s c.ended-status.result) refused (ends.yields _ _ _ _ _ c.ended-status.ensures.ended)
+pub returns-in-Ok-clause-disk : goal.returns-in-Ok-clause-disk
+returns-in-Ok-clause-disk g c = λ e.
+    let w = ends.was_whole _ _ _ _ _ c.ended-status.ensures.ended (ends.other e (λ h. cc)) (ends.other e (λ h. cc)) in
+    (c.in-Ok.said.text, ends.says_disk _ _ _ _ _ _ _ _ c.in-Ok.ensures.says (sym w.0 ∙ e), w.1)
+
+pub returns-in-Ok-clause-refused : goal.returns-in-Ok-clause-refused
+returns-in-Ok-clause-refused g c = λ e.
+    let w = ends.was_whole _ _ _ _ _ c.ended-status.ensures.ended (ends.other e (λ h. cc)) (ends.other e (λ h. cc)) in
+    (c.in-Ok.said.text, ends.says_refused _ _ _ _ _ _ _ _ c.in-Ok.ensures.says (sym w.0 ∙ e), w.1)
+
+pub returns-in-Ok-clause-limit : goal.returns-in-Ok-clause-limit
+returns-in-Ok-clause-limit g c = λ e.
+    let w = ends.was_whole _ _ _ _ _ c.ended-status.ensures.ended (ends.other e (λ h. cc)) (ends.other e (λ h. cc)) in
+    (c.in-Ok.said.text, ends.says_limit _ _ _ _ _ _ _ _ c.in-Ok.ensures.says (sym w.0 ∙ e), w.1)
+
+pub returns-in-Ok-clause-usage : goal.returns-in-Ok-clause-usage
+returns-in-Ok-clause-usage g c = λ e.
+    let w = ends.was_whole _ _ _ _ _ c.ended-status.ensures.ended (ends.other e (λ h. cc)) (ends.other e (λ h. cc)) in
+    let u = ends.says_usage _ _ _ _ _ _ _ _ c.in-Ok.ensures.says (sym w.0 ∙ e) in
+    (u.0, subst (Wrote (g.K.Sink.written c.args.out.now) (g.K.Sink.written c.ended-status.new.out)) u.1 w.1)
 
 pub returns-in-Ok-clause-read : goal.returns-in-Ok-clause-read
 returns-in-Ok-clause-read g c = λ e.
@@ -50,34 +48,40 @@ returns-in-Ok-clause-read_text g c = λ e.
 pub returns-in-Ok-clause-part : goal.returns-in-Ok-clause-part
 returns-in-Ok-clause-part g c = λ e. ends.part_of _ _ _ _ _ _ _ _ _ _ c.in-Ok.ensures.says (ends.is_part _ _ _ _ _ c.ended-status.ensures.ended)
 
-pub returns-in-Ok-clause-disk : goal.returns-in-Ok-clause-disk
-returns-in-Ok-clause-disk g c = λ e.
-    let w = ends.was_whole _ _ _ _ _ c.ended-status.ensures.ended (ends.other e (λ h. cc)) (ends.other e (λ h. cc)) in
-    (c.in-Ok.said.text, ends.says_disk _ _ _ _ _ _ _ _ c.in-Ok.ensures.says (sym w.0 ∙ e), w.1)
-
-pub returns-in-Ok-clause-refused : goal.returns-in-Ok-clause-refused
-returns-in-Ok-clause-refused g c = λ e.
-    let w = ends.was_whole _ _ _ _ _ c.ended-status.ensures.ended (ends.other e (λ h. cc)) (ends.other e (λ h. cc)) in
-    let r = ends.says_refused _ _ _ _ _ _ _ _ c.in-Ok.ensures.says (sym w.0 ∙ e) in
-    (r.0, r.1, subst (Wrote (g.K.Sink.written c.args.out.now) (g.K.Sink.written c.ended-status.new.out)) r.2 w.1)
-
-pub returns-in-Ok-clause-occupied : goal.returns-in-Ok-clause-occupied
-returns-in-Ok-clause-occupied g c = λ replay good told there calm_source calm_disk.
-    let refused : c.in-Ok.said.status ≡ Refused = ends.held_says_refused _ _ _ _ _ _ _ _ c.in-Ok.ensures.says replay good told there (λ r. calm_source (c.in-Ok.ensures.read r)) calm_disk in
-    subst (λ (s : Status). YieldsTo s c.ended-status.result) refused (ends.yields _ _ _ _ _ c.ended-status.ensures.ended)
-
 pub returns-in-Ok-clause-built_whole : goal.returns-in-Ok-clause-built_whole
 returns-in-Ok-clause-built_whole g c = λ e.
     inr (c.ended-status.ensures.memory e (ends.never_says_memory _ _ _ _ _ _ _ _ c.in-Ok.ensures.says), ends.part_of _ _ _ _ _ _ _ _ _ _ c.in-Ok.ensures.says (ends.is_part _ _ _ _ _ c.ended-status.ensures.ended))
 
+pub returns-in-Ok-clause-no_command : goal.returns-in-Ok-clause-no_command
+returns-in-Ok-clause-no_command g c = λ none.
+    subst (λ (s : Status). YieldsTo s c.ended-status.result) (ends.no_command_says_usage _ _ _ _ _ _ _ _ c.in-Ok.ensures.says none) (ends.yields _ _ _ _ _ c.ended-status.ensures.ended)
+
+pub returns-in-Ok-clause-no_script : goal.returns-in-Ok-clause-no_script
+returns-in-Ok-clause-no_script g c = λ replay told calm.
+    subst (λ (s : Status). YieldsTo s c.ended-status.result) (ends.no_script_says_script _ _ _ _ _ _ _ _ c.in-Ok.ensures.says replay told (λ r. calm (c.in-Ok.ensures.read r))) (ends.yields _ _ _ _ _ c.ended-status.ensures.ended)
+
+pub returns-in-Ok-clause-directories : goal.returns-in-Ok-clause-directories
+returns-in-Ok-clause-directories g c = λ mode why in_mode good told not_recovered calm calm_disk.
+    subst (λ (s : Status). YieldsTo s c.ended-status.result) (ends.refused_says_refused _ _ _ _ _ _ mode why _ _ c.in-Ok.ensures.says in_mode good told not_recovered (λ r. calm (c.in-Ok.ensures.read r)) calm_disk) (ends.yields _ _ _ _ _ c.ended-status.ensures.ended)
+
+pub returns-in-Ok-clause-limited : goal.returns-in-Ok-clause-limited
+returns-in-Ok-clause-limited g c = λ replay source told base next recovers next_is past calm calm_disk.
+    subst (λ (s : Status). YieldsTo s c.ended-status.result) (ends.limited_says_limit _ _ _ _ _ _ replay source told base next recovers next_is _ _ c.in-Ok.ensures.says past (λ r. calm (c.in-Ok.ensures.read r)) calm_disk) (ends.yields _ _ _ _ _ c.ended-status.ensures.ended)
+
 pub returns-in-Ok-clause-complete : goal.returns-in-Ok-clause-complete
-returns-in-Ok-clause-complete g c = λ replay good told free calm_source calm_sink calm_disk.
-    let done : c.in-Ok.said.status ≡ Done = ends.good_says_done _ _ _ _ _ _ _ _ c.in-Ok.ensures.says replay good told free (λ r. calm_source (c.in-Ok.ensures.read r)) calm_disk in
-    ends.done_or_memory c.in-Ok.said.status c.ended-status.result (ends.yields _ _ _ _ _ c.ended-status.ensures.ended) done
+returns-in-Ok-clause-complete g c = λ replay source told base next recovers next_is within room calm calm_sink calm_disk.
+    ends.done_or_memory c.in-Ok.said.status c.ended-status.result (ends.yields _ _ _ _ _ c.ended-status.ensures.ended) (ends.good_says_done _ _ _ _ _ _ replay source told base next recovers next_is _ _ c.in-Ok.ensures.says within room (λ r. calm (c.in-Ok.ensures.read r)) calm_disk)
     (λ w. calm_sink (c.ended-status.ensures.write w (ends.never_says_write _ _ _ _ _ _ _ _ c.in-Ok.ensures.says)))
 
-pub returns-in-Ok-clause-statuses : goal.returns-in-Ok-clause-statuses
-returns-in-Ok-clause-statuses g c = ends.never_limit _ _ _ _ _ c.ended-status.ensures.ended (ends.never_says_limit _ _ _ _ _ _ _ _ c.in-Ok.ensures.says)
+pub returns-in-Ok-clause-shows_store : goal.returns-in-Ok-clause-shows_store
+returns-in-Ok-clause-shows_store g c = λ is told base recovers calm_sink calm_disk.
+    ends.done_or_memory c.in-Ok.said.status c.ended-status.result (ends.yields _ _ _ _ _ c.ended-status.ensures.ended) (ends.recover_says_done _ _ _ _ _ _ _ _ c.in-Ok.ensures.says is told base recovers calm_disk)
+    (λ w. calm_sink (c.ended-status.ensures.write w (ends.never_says_write _ _ _ _ _ _ _ _ c.in-Ok.ensures.says)))
+
+pub returns-in-Ok-clause-shows_segments : goal.returns-in-Ok-clause-shows_segments
+returns-in-Ok-clause-shows_segments g c = λ is told base recovers calm_sink calm_disk.
+    ends.done_or_memory c.in-Ok.said.status c.ended-status.result (ends.yields _ _ _ _ _ c.ended-status.ensures.ended) (ends.dump_says_done _ _ _ _ _ _ _ _ c.in-Ok.ensures.says is told base recovers calm_disk)
+    (λ w. calm_sink (c.ended-status.ensures.write w (ends.never_says_write _ _ _ _ _ _ _ _ c.in-Ok.ensures.says)))
 
 pub returns-in-Ok-clause-untouched : goal.returns-in-Ok-clause-untouched
 returns-in-Ok-clause-untouched g c = λ early.

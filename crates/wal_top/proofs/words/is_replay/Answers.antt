@@ -1,9 +1,0 @@
-use Rattle.std.proofs.Common.{◌∙◌, ap}
-use Rattle.std.specs.Prelude.{codes}
-use Rattle.std.specs.String.{string_bytes}
-use Rattle.std.specs.Str.{bytes_eq}
-use Rattle.wal_top.proofs.OneWord.{one_word}
-use Rattle.wal_top.proofs.words.is_replay.Goals as goal
-
-pub returns-in-len1 : goal.returns-in-len1
-returns-in-len1 c = one_word string_bytes c.args.words.now c.word-item.result (codes "replay") c.eq.result c.in-len1.len_at_least c.in-len1.len_below c.word-item.is (c.eq.ensures ∙ ap (λ t. bytes_eq t (codes "replay")) c.as_str.ensures.value)

@@ -1,0 +1,97 @@
+//! What the directories hold, printed: the store, or the segments with their batches.
+
+ghost use Rattle.std.specs.Prelude.{◌≡◌, ◌++◌, length, IfOk, OnOk, IsTrue};
+ghost use Rattle.batch_repr.specs.Batches.{end_after};
+ghost use Rattle.disk_face.specs.View.{files, NothingInFlight};
+ghost use Rattle.disk_face.specs.Calls.{GoesOn, SameDisk};
+ghost use Rattle.text_lines.specs.Lines.{recovered_end};
+ghost use Rattle.text_lines.specs.Store.{IsStoreText};
+ghost use Rattle.wal_recovery.specs.Resting.{OnlySynced};
+ghost use Rattle.wal_top.specs.Printing.{report_lines, segments_text};
+ghost use Rattle.wal_top.specs.Showing.{ShowsStore, ShowsSegments};
+
+use crate::said::{Said, unrecovered};
+use crate::status::Status;
+use batch_repr::Batch;
+use disk_face::Disk;
+use std::alloc::Global;
+use text_lines::{SegmentLine, put_batch, put_recovered_end, put_segment, put_store};
+use wal_base::{Buf, NoMemory};
+use wal_recovery::{Mode, SegReport, recover};
+
+/// The text of a store.
+fn store_text(alloc: Global, batches: &[Batch], next: u64) -> Result<Buf, NoMemory>
+    ensures { IfOk result (λ text. (store : _) × IsStoreText batches.now store × (text ≡ store ++ recovered_end (length batches.now) next)) }
+{
+    let mut text = Buf::new(alloc)?;
+    put_store(alloc, &mut text, batches)?;
+    put_recovered_end(&mut text, batches.len(), next)?;
+    Ok(text)
+}
+
+/// Recovers with no gap, and says which keys have a value.
+pub(crate) fn store_said<D: Disk>(alloc: Global, disk: &mut D) -> Result<Said, NoMemory>
+    requires { NothingInFlight (D.view disk.old) }
+    ensures goes_on { GoesOn (D.view disk.old) (D.view disk.new) }
+    ensures idle { NothingInFlight (D.view disk.new) }
+    ensures only_synced { IsTrue D.tells → OnlySynced (files (D.view disk.old)) (files (D.view disk.new)) }
+    ensures shows { IfOk result (λ said. ShowsStore D.tells (D.view disk.old) (D.view disk.new) said.status said.text) }
+{
+    match recover(alloc, disk, Mode::Strict) {
+        Ok(found) => Ok(Said {
+            status: Status::Done,
+            text: store_text(alloc, found.batches.as_slice(), found.next)?,
+        }),
+        Err(fault) => unrecovered(alloc, fault),
+    }
+}
+
+/// Adds what is said of a segment and its batches.
+fn put_report(text: &mut Buf, report: &SegReport) -> Result<(), NoMemory>
+    ensures { OnOk result (text.new ≡ text.old ++ report_lines report.now) }
+{
+    let line = SegmentLine {
+        side: report.side,
+        name: report.name,
+        len: report.len,
+        ends_at: report.ends_at,
+        torn: report.torn,
+    };
+    put_segment(text, &line, report.batches.len())?;
+    for batch in report.batches.as_slice() {
+        put_batch(text, batch)?;
+    }
+    Ok(())
+}
+
+/// The lines of all segments.
+fn put_reports(text: &mut Buf, reports: &[SegReport]) -> Result<(), NoMemory>
+    ensures { OnOk result (text.new ≡ text.old ++ segments_text reports.now) }
+{
+    for report in reports {
+        put_report(text, report)?;
+    }
+    Ok(())
+}
+
+/// Recovers with gaps, and says what each segment holds.
+pub(crate) fn segments_said<D: Disk>(alloc: Global, disk: &mut D) -> Result<Said, NoMemory>
+    requires { NothingInFlight (D.view disk.old) }
+    ensures goes_on { GoesOn (D.view disk.old) (D.view disk.new) }
+    ensures idle { NothingInFlight (D.view disk.new) }
+    ensures same { SameDisk (D.view disk.old) (D.view disk.new) }
+    ensures shows { IfOk result (λ said. ShowsSegments D.tells (D.view disk.old) (D.view disk.new) said.status said.text) }
+{
+    match recover(alloc, disk, Mode::Lenient) {
+        Ok(found) => {
+            let mut text = Buf::new(alloc)?;
+            put_reports(&mut text, found.segments.as_slice())?;
+            put_recovered_end(&mut text, found.batches.len(), found.next)?;
+            Ok(Said {
+                status: Status::Done,
+                text,
+            })
+        }
+        Err(fault) => unrecovered(alloc, fault),
+    }
+}
