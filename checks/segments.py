@@ -1,8 +1,11 @@
-"""The log of a run as docs/FORMATS.md has it, written a second time, to compare the program's with."""
+"""Batches and segments as docs/FORMATS.md has them, written a second time: to compare the program's log with, and to
+make the directories that it recovers.
+"""
 
 BLOCK = 32_768
 HEADER = 11
 FULL, FIRST, MIDDLE, LAST = 5, 6, 7, 8
+SET, DELETE, NOTE = 1, 0, 3
 LOG = 1
 FIRST_NUMBER = 10
 
@@ -39,26 +42,47 @@ def varint(number):
     return bytes(spelled)
 
 
-def batch(first, key, value):
-    """A batch of one Set."""
-    header = first.to_bytes(8, "little") + (1).to_bytes(4, "little")
-    return header + b"\x01" + varint(len(key)) + key + varint(len(value)) + value
+def string(text):
+    return varint(len(text)) + text
 
 
-def chunk(kind, payload):
-    covered = bytes([kind]) + LOG.to_bytes(4, "little") + payload
+def set_of(key, value):
+    return bytes([SET]) + string(key) + string(value)
+
+
+def delete_of(key):
+    return bytes([DELETE]) + string(key)
+
+
+def note_of(text):
+    return bytes([NOTE]) + string(text)
+
+
+def batch(first, *entries, count=None):
+    """A batch of entries. Notes are not counted. Another count may be given, as a broken batch has it."""
+    counted = sum(it[0] != NOTE for it in entries) if count is None else count
+    return first.to_bytes(8, "little") + counted.to_bytes(4, "little") + b"".join(entries)
+
+
+def sets(first, key, *values):
+    """Batches of one Set each, which set the same key to one value after another, numbered in a row."""
+    return [batch(number, set_of(key, value)) for number, value in enumerate(values, first)]
+
+
+def chunk(kind, payload, log=LOG):
+    covered = bytes([kind]) + log.to_bytes(4, "little") + payload
     checksum = masked(crc32c(covered)).to_bytes(4, "little")
     return checksum + len(payload).to_bytes(2, "little") + covered
 
 
-def append(segment, record):
+def append(segment, record, log=LOG):
     """Appends a record, fragment by fragment, and the zeros at the end of a block."""
     begun = False
     while True:
         room = BLOCK - len(segment) % BLOCK - HEADER
         part, record = record[:room], record[room:]
         ends = not record
-        segment += chunk((LAST if begun else FULL) if ends else (MIDDLE if begun else FIRST), part)
+        segment += chunk((LAST if begun else FULL) if ends else (MIDDLE if begun else FIRST), part, log)
         left = BLOCK - len(segment) % BLOCK
         if left < HEADER:
             segment += bytes(left)
@@ -67,9 +91,14 @@ def append(segment, record):
         begun = True
 
 
-def log_of(sets):
+def segment(records, log=LOG):
+    """A segment of records, which are batches where it is to be recovered. A WAL's log number has its low 32 bits."""
+    laid = bytearray()
+    for record in records:
+        append(laid, record, log % 2**32)
+    return bytes(laid)
+
+
+def log_of(pairs, first=FIRST_NUMBER, log=LOG):
     """The log of a run that commits one Set after another, each a pair of a key and a value."""
-    segment = bytearray()
-    for number, (key, value) in enumerate(sets, FIRST_NUMBER):
-        append(segment, batch(number, key, value))
-    return bytes(segment)
+    return segment([batch(number, set_of(*it)) for number, it in enumerate(pairs, first)], log)
