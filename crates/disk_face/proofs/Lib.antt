@@ -3,3 +3,4 @@ pub mod Places
 pub mod Listings
 pub mod Images
 pub mod Spelling
+pub mod Passed

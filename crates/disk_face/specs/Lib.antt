@@ -5,3 +5,4 @@ pub mod Calls
 pub mod Tables
 pub mod NoFiles
 pub mod Names
+pub mod Script

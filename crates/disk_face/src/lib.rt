@@ -2,8 +2,8 @@
 //! that are started and polled.
 //!
 //! Stands on `wal_base`: its lists, its want of memory, and its rule that a fault is answered only where a
-//! count of faults rose. The layers above use the traits [`Disk`], [`TableDisk`] and [`StallDisk`], and
-//! [`NoDisk`] where nothing is to be kept.
+//! count of faults rose. The layers above use the traits [`Disk`], [`TableDisk`] and [`StallDisk`], [`ScriptDisk`]
+//! where a script says which polls are stalled, and [`NoDisk`] where nothing is to be kept.
 //!
 //! What holds of each disk here: only so many places have a file, what is stable was done, what was done was
 //! sent, a read begins with what was done, no moment is forgotten, and no count falls but the polls left.
@@ -12,10 +12,12 @@
 mod disk;
 mod names;
 mod no_disk;
+mod script_disk;
 mod table_disk;
 
 pub use disk::{Disk, StallDisk};
 pub use no_disk::NoDisk;
+pub use script_disk::ScriptDisk;
 pub use table_disk::TableDisk;
 use thiserror::Error;
 use wal_base::{ListOf, NoMemory};

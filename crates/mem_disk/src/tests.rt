@@ -6,7 +6,7 @@ ghost use Rattle.disk_face.specs.Calls.{MayStart, AfterDone, after_start, flight
 
 use crate::{CrashPick, FilePick, FilePicks, MemDisk};
 use crc_chunk::{BLOCK, ChunkKind, HEADER, chunk_at, put_chunk};
-use disk_face::{Disk, DiskErr, DiskOp, OpId, Progress, SegName, Side, StallDisk};
+use disk_face::{Disk, DiskErr, DiskOp, OpId, Progress, ScriptDisk, SegName, Side, StallDisk};
 use std::alloc::Global;
 use wal_base::{Blob, NoMemory};
 
@@ -119,6 +119,17 @@ fn a_stalled_operation_is_pending(rt: HostRuntime) -> Result<(), NoMemory> {
     let mut disk = MemDisk::new(rt.alloc())?;
     let polled = create_stalled(&mut disk, Side::Secondary, NAME)?;
     assert_eq!(rt; polled, [Progress::Pending, Progress::Done]);
+    Ok(())
+}
+
+#[test]
+fn a_script_stalls_an_operation(rt: HostRuntime) -> Result<(), NoMemory> {
+    let mut disk = ScriptDisk::new(MemDisk::new(rt.alloc())?);
+    let polled = create_stalled(&mut disk, Side::Secondary, NAME)?;
+    assert_eq!(rt; polled, [Progress::Pending, Progress::Done]);
+    let disk = disk.into_inner();
+    assert!(rt; disk.content(Side::Secondary, NAME) == Some(b"".as_slice()));
+    assert!(rt; disk.content(Side::Primary, NAME).is_none());
     Ok(())
 }
 
