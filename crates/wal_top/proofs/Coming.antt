@@ -108,7 +108,7 @@ never_reads script tells old new _ _ (asked acts status text asks comes) = of_ac
   where
     of_disk : (s : Status) (t : List ℕ) → Unrecovered Strict tells old new s t → s ≢ Read
     of_disk _ _ (failed side rose only) = λ h. cc
-    of_disk _ _ (refused fault is same) = λ h. cc
+    of_disk _ _ (refused fault real is same) = λ h. cc
 
     of_acts : (s : Status) (t : List ℕ) → ComesTo acts tells old new s t → s ≢ Read
     of_acts _ _ (unrecovered s t u) = of_disk s t u

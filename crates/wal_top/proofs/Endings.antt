@@ -135,12 +135,12 @@ refused_leniently words Strict view why dump (inr recover) r = absurd (not_shown
 -- why directories are refused
 refusal_of : (mode : Mode) (tells : Bool) (old new : DiskView) (status : Status) (text : List ℕ) → Unrecovered mode tells old new status text → status ≡ Refused → (why : RecoverFault) × (IsTrue tells → IsRefusedBy mode (directories old) why)
 refusal_of mode tells old new _ _ (outcomes.failed side rose only) e = absurd cc
-refusal_of mode tells old new _ _ (outcomes.refused why is same) e = (why, is)
+refusal_of mode tells old new _ _ (outcomes.refused why real is same) e = (why, is)
 
 -- a side that counts no fault has not failed
 calm_recovery : (mode : Mode) (tells : Bool) (old new : DiskView) (status : Status) (text : List ℕ) → Unrecovered mode tells old new status text → status ≡ Disk → IsCalm old new → ⊥
 calm_recovery mode tells old new _ _ (outcomes.failed side rose only) e calm = calm side rose
-calm_recovery mode tells old new _ _ (outcomes.refused why is same) e calm = absurd cc
+calm_recovery mode tells old new _ _ (outcomes.refused why real is same) e calm = absurd cc
 
 never_failed : (words : List (List ℕ)) (before after : Option (List ℕ)) (tells : Bool) (old new : DiskView) (text : List ℕ) → FailsDisk words before after tells old new text → IsCalm old new → ⊥
 never_failed words before after tells old new _ (outcomes.in_recovery mode text is reaches u) calm = calm_recovery mode tells old new Disk text u refl calm
@@ -186,18 +186,18 @@ module _ (words : List (List ℕ)) (before after : Option (List ℕ)) (tells : B
   says_usage _ _ (limited text l) e = absurd cc
   says_usage _ _ (done text d) e = absurd cc
 
-  pub says_script : (said : Status) (text : List ℕ) → Says said text → said ≡ Script → RefusesScript before after text
+  pub says_script : (said : Status) (text : List ℕ) → Says said text → said ≡ Script → IsReplay words × RefusesScript before after text
   says_script _ _ (usage none unread same) e = absurd cc
   says_script _ _ (read_fault replay same) e = absurd cc
-  says_script _ _ (no_script text replay same r) e = r
+  says_script _ _ (no_script text replay same r) e = (replay, r)
   says_script _ _ (refused text r) e = absurd cc
   says_script _ _ (failed text f) e = absurd cc
   says_script _ _ (limited text l) e = absurd cc
   says_script _ _ (done text d) e = absurd cc
 
-  pub says_read : (said : Status) (text : List ℕ) → Says said text → said ≡ Read → text ≡ read_fault_text
+  pub says_read : (said : Status) (text : List ℕ) → Says said text → said ≡ Read → IsReplay words × (text ≡ read_fault_text)
   says_read _ _ (usage none unread same) e = absurd cc
-  says_read _ _ (read_fault replay same) e = refl
+  says_read _ _ (read_fault replay same) e = (replay, refl)
   says_read _ _ (no_script text replay same r) e = absurd cc
   says_read _ _ (refused text r) e = absurd cc
   says_read _ _ (failed text f) e = absurd cc

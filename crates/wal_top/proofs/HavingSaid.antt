@@ -19,7 +19,7 @@ module _ (words : List (List ℕ)) (before after : Option (List ℕ)) (tells : B
   -- the directories were not recovered
   of_disk : (mode : Mode) (status : Status) (text : List ℕ) → RecoversIn words mode → ReachesDisk words before after → Unrecovered mode tells old new status text → HasToSay words before after tells old new status text
   of_disk mode _ _ is reaches (outcomes.failed side rose only) = outcomes.failed _ (outcomes.in_recovery mode _ is reaches (outcomes.failed side rose only))
-  of_disk mode _ _ is reaches (outcomes.refused fault why same) = outcomes.refused _ (record { mode = mode; recovers = is; reaches = reaches; refused = outcomes.refused fault why same })
+  of_disk mode _ _ is reaches (outcomes.refused fault real why same) = outcomes.refused _ (record { mode = mode; recovers = is; reaches = reaches; refused = outcomes.refused fault real why same })
 
   module _ (script : List ℕ) (is : IsReplay words) (whole : ReadsWhole before script after) (short : length script ≤ SCRIPT_MAX) where
     of_acts : (acts : List Act) → ReadsScript before acts after → (status : Status) (text : List ℕ) → ComesTo acts tells old new status text → HasToSay words before after tells old new status text

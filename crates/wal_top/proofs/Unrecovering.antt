@@ -18,11 +18,11 @@ module _ (mode : Mode) (tells : Bool) (old new : DiskView) (only : IsTrue tells 
       → Unrecovered mode tells old new status text
   says_unrecovered (faults.Disk side) status text (s, t) rose is same = as_told (Unrecovered mode tells old new) status _ text _ (failed side rose only) s t
   says_unrecovered (faults.DuplicateSegment wal index) status text (s, t) rose is same =
-      as_told (Unrecovered mode tells old new) status _ text _ (refused (faults.DuplicateSegment wal index) is (same tt)) s t
+      as_told (Unrecovered mode tells old new) status _ text _ (refused (faults.DuplicateSegment wal index) tt is (same tt)) s t
   says_unrecovered (faults.BadBatch wal index place fault) status text (s, t) rose is same =
-      as_told (Unrecovered mode tells old new) status _ text _ (refused (faults.BadBatch wal index place fault) is (same tt)) s t
+      as_told (Unrecovered mode tells old new) status _ text _ (refused (faults.BadBatch wal index place fault) tt is (same tt)) s t
   says_unrecovered (faults.Gap wal index expected found) status text (s, t) rose is same =
-      as_told (Unrecovered mode tells old new) status _ text _ (refused (faults.Gap wal index expected found) is (same tt)) s t
+      as_told (Unrecovered mode tells old new) status _ text _ (refused (faults.Gap wal index expected found) tt is (same tt)) s t
   says_unrecovered (faults.Conflict wal index first) status text (s, t) rose is same =
-      as_told (Unrecovered mode tells old new) status _ text _ (refused (faults.Conflict wal index first) is (same tt)) s t
+      as_told (Unrecovered mode tells old new) status _ text _ (refused (faults.Conflict wal index first) tt is (same tt)) s t
   says_unrecovered faults.NoMemory status text says rose is same = absurd says

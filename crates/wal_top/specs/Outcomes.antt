@@ -17,7 +17,7 @@ use Rattle.wal_recovery.specs.declared.fault.RecoverFault.{RecoverFault}
 use Rattle.wal_recovery.specs.Recovering.{Recovers, RecoversLenient}
 use Rattle.wal_recovery.specs.Reports.{AreReports}
 use Rattle.wal_recovery.specs.Resting.{OnlySynced, AreSegmentsStable}
-use Rattle.wal_recovery.specs.Answers.{IsRefusedBy}
+use Rattle.wal_recovery.specs.Answers.{IsRefusedBy, IsRefusal}
 use Rattle.wal_top.specs.declared.status.Status.{Status}
 use Rattle.wal_top.specs.declared.status.Status.TheVariants.{Done, Usage, Script, Read, Write, Disk, Refused, NoMemory, Limit}
 use Rattle.wal_top.specs.declared.script.Act.{Act}
@@ -41,7 +41,7 @@ pub data ReachesDisk (words : List (List ℕ)) (before after : Option (List ℕ)
 -- The directories were not recovered: a side failed, or they are refused. No file was begun, and nothing was done to refused directories.
 pub data Unrecovered (mode : Mode) (tells : Bool) (old new : DiskView) : Status → List ℕ → Type 0 where
   failed : (side : Side) → Rose (old.faults side) (new.faults side) → (IsTrue tells → OnlySynced (files old) (files new)) → Unrecovered mode tells old new Disk (disk_fault_text side)
-  refused : (fault : RecoverFault) → (IsTrue tells → IsRefusedBy mode (directories old) fault) → SameDisk old new → Unrecovered mode tells old new Refused (refusal_text fault)
+  refused : (fault : RecoverFault) → IsRefusal fault → (IsTrue tells → IsRefusedBy mode (directories old) fault) → SameDisk old new → Unrecovered mode tells old new Refused (refusal_text fault)
 
 -- The accepted script was replayed over what the directories recover to: these are its batches, and this is the text of its answers.
 pub record Replays (before after : Option (List ℕ)) (tells : Bool) (old : DiskView) (acts : List Act) (batches : List Batch) (text : List ℕ) : Type 0 where

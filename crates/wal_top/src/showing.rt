@@ -2,11 +2,11 @@
 
 ghost use Rattle.std.specs.Prelude.{◌≡◌, ◌++◌, length, IfOk, OnOk, IsTrue};
 ghost use Rattle.batch_repr.specs.Batches.{end_after};
-ghost use Rattle.disk_face.specs.View.{files, NothingInFlight};
+ghost use Rattle.disk_face.specs.View.{files, NothingInFlight, AtEachMoment};
 ghost use Rattle.disk_face.specs.Calls.{GoesOn, SameDisk};
 ghost use Rattle.text_lines.specs.Lines.{recovered_end};
 ghost use Rattle.text_lines.specs.Store.{IsStoreText};
-ghost use Rattle.wal_recovery.specs.Resting.{OnlySynced};
+ghost use Rattle.wal_recovery.specs.Resting.{OnlySynced, AddsNoImage};
 ghost use Rattle.wal_top.specs.Printing.{report_lines, segments_text};
 ghost use Rattle.wal_top.specs.Showing.{ShowsStore, ShowsSegments};
 
@@ -35,6 +35,7 @@ pub(crate) fn store_said<D: Disk>(alloc: Global, disk: &mut D) -> Result<Said, N
     ensures goes_on { GoesOn (D.view disk.old) (D.view disk.new) }
     ensures idle { NothingInFlight (D.view disk.new) }
     ensures only_synced { IsTrue D.tells → OnlySynced (files (D.view disk.old)) (files (D.view disk.new)) }
+    ensures each_moment { IsTrue D.tells → AtEachMoment ((D.view disk.old).clock) (D.view disk.new) (AddsNoImage (files (D.view disk.old))) }
     ensures shows { IfOk result (λ said. ShowsStore D.tells (D.view disk.old) (D.view disk.new) said.status said.text) }
 {
     match recover(alloc, disk, Mode::Strict) {
@@ -80,6 +81,7 @@ pub(crate) fn segments_said<D: Disk>(alloc: Global, disk: &mut D) -> Result<Said
     ensures goes_on { GoesOn (D.view disk.old) (D.view disk.new) }
     ensures idle { NothingInFlight (D.view disk.new) }
     ensures same { SameDisk (D.view disk.old) (D.view disk.new) }
+    ensures each_moment { IsTrue D.tells → AtEachMoment ((D.view disk.old).clock) (D.view disk.new) (AddsNoImage (files (D.view disk.old))) }
     ensures shows { IfOk result (λ said. ShowsSegments D.tells (D.view disk.old) (D.view disk.new) said.status said.text) }
 {
     match recover(alloc, disk, Mode::Lenient) {

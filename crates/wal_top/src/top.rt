@@ -6,13 +6,13 @@ ghost use Rattle.wal_base.specs.Faults.{Rose};
 ghost use Rattle.batch_repr.specs.declared.batch.Batch.{Batch};
 ghost use Rattle.batch_repr.specs.declared.limits.TheConstants.{NUMBER_MAX};
 ghost use Rattle.batch_repr.specs.Batches.{end_after};
-ghost use Rattle.disk_face.specs.View.{files, NothingInFlight};
+ghost use Rattle.disk_face.specs.View.{files, NothingInFlight, AtEachMoment};
 ghost use Rattle.disk_face.specs.Calls.{GoesOn, SameDisk};
 ghost use Rattle.wal_recovery.specs.declared.reports.Mode.{Mode};
 ghost use Rattle.wal_recovery.specs.declared.fault.RecoverFault.{RecoverFault};
 ghost use Rattle.wal_recovery.specs.Listing.{IsNextWal};
 ghost use Rattle.wal_recovery.specs.Recovering.{Recovers, RecoversLenient};
-ghost use Rattle.wal_recovery.specs.Resting.{OnlySynced};
+ghost use Rattle.wal_recovery.specs.Resting.{OnlySynced, AddsNoImage};
 ghost use Rattle.wal_recovery.specs.Answers.{IsRefusedBy};
 ghost use Rattle.wal_top.specs.declared.reading.TheConstants.{SCRIPT_MAX};
 ghost use Rattle.wal_top.specs.declared.status.Status.TheVariants as statuses;
@@ -70,10 +70,11 @@ fn answered<S: Source, D: Disk>(
     ensures others { IsTrue D.tells → (wal : ℕ) → IsNextWal (directories (D.view disk.old)) wal → OthersStay wal (files (D.view disk.old)) (files (D.view disk.new)) }
     ensures no_log { (IsReplay (map string_bytes words.now) → ⊥) → IsTrue D.tells → OnlySynced (files (D.view disk.old)) (files (D.view disk.new)) }
     ensures starts_nothing { IsDump (map string_bytes words.now) → SameDisk (D.view disk.old) (D.view disk.new) }
+    ensures each_moment { (IsReplay (map string_bytes words.now) → ⊥) → IsTrue D.tells → AtEachMoment ((D.view disk.old).clock) (D.view disk.new) (AddsNoImage (files (D.view disk.old))) }
     ensures says { IfOk result (λ said. HasToSay (map string_bytes words.now) (S.left src.old) (S.left src.new) D.tells (D.view disk.old) (D.view disk.new) said.status said.text) }
     ensures read { IfOk result (λ said. said.status ≡ statuses.Read → Rose (S.faults src.old) (S.faults src.new)) }
     ensures took { TookAtMost (SCRIPT_MAX + 1) (S.left src.old) (S.left src.new) }
-    ensures unread { (IsReplay (map string_bytes words.now) → ⊥) → S.left src.new ≡ S.left src.old }
+    ensures unread { (IsReplay (map string_bytes words.now) → ⊥) → src.new ≡ src.old }
 {
     match command_of(words) {
         Some(Command::Replay) => replayed(alloc, src, disk),
@@ -109,21 +110,21 @@ pub fn run<S: Source, K: Sink, D: Disk + Send, G: Gate + Sync, R: Threads + Wait
 ) -> Ran<D>
     requires idle { NothingInFlight (D.view disk) }
 
-    // Status 0: the whole text of the command is written. A replay is answered over what the directories recover to, and the log of its batches is written and synced before; the store is that of all batches; the segments are reported as they read.
+    // Status 0: the whole text of the command is written. A replay is answered over what the directories recover to, and the log of its batches is written and synced; the store is that of all batches; the segments are reported as they read.
     ensures done { result.status ≡ statuses.Done → (text : List ℕ) × IsDone (map string_bytes words.now) (S.left src.old) (S.left src.new) D.tells (D.view disk) (D.view result.disk) text × Wrote (K.written out.old) (K.written out.new) text }
 
     // Status 1: exactly where the words are no command. Only a replay reads the source.
     ensures usage { result.status ≡ statuses.Usage → (IsCommand (map string_bytes words.now) → ⊥) × Wrote (K.written out.old) (K.written out.new) usage_text }
     ensures no_command { (IsCommand (map string_bytes words.now) → ⊥) → YieldsTo statuses.Usage result.status }
-    ensures unread { (IsReplay (map string_bytes words.now) → ⊥) → S.left src.new ≡ S.left src.old }
+    ensures unread { (IsReplay (map string_bytes words.now) → ⊥) → src.new ≡ src.old }
 
     // Status 2: exactly where the script is too long, or has a bad line.
-    ensures script { result.status ≡ statuses.Script → (text : List ℕ) × RefusesScript (S.left src.old) (S.left src.new) text × Wrote (K.written out.old) (K.written out.new) text }
+    ensures script { result.status ≡ statuses.Script → IsReplay (map string_bytes words.now) × (text : List ℕ) × RefusesScript (S.left src.old) (S.left src.new) text × Wrote (K.written out.old) (K.written out.new) text }
     ensures no_script { IsReplay (map string_bytes words.now) → TellsNoScript (S.left src.old)
         → (Rose (S.faults src.old) (S.faults src.new) → ⊥) → YieldsTo statuses.Script result.status }
 
     // Statuses 3 and 4: only where the source or the sink failed in this run.
-    ensures read { result.status ≡ statuses.Read → Rose (S.faults src.old) (S.faults src.new) }
+    ensures read { result.status ≡ statuses.Read → IsReplay (map string_bytes words.now) × Rose (S.faults src.old) (S.faults src.new) }
     ensures read_text { result.status ≡ statuses.Read → Wrote (K.written out.old) (K.written out.new) read_fault_text }
     ensures write { result.status ≡ statuses.Write → Rose (K.faults out.old) (K.faults out.new) }
     ensures part { result.status ≡ statuses.Write
@@ -166,10 +167,11 @@ pub fn run<S: Source, K: Sink, D: Disk + Send, G: Gate + Sync, R: Threads + Wait
     ensures untouched { IsBeforeDisk result.status → D.view result.disk ≡ D.view disk }
     ensures goes_on { GoesOn (D.view disk) (D.view result.disk) }
 
-    // Whatever the status, no file but the log of the next WAL changes unless by a sync, only a replay has a log, a dump starts nothing, and nothing is left in flight.
+    // Whatever the status, no file but the log of the next WAL changes unless by a sync, only a replay has a log, a dump starts nothing, and nothing is left in flight. Without a replay a crash at any moment leaves only what one before the run might have left.
     ensures others { IsTrue D.tells → (wal : ℕ) → IsNextWal (directories (D.view disk)) wal → OthersStay wal (files (D.view disk)) (files (D.view result.disk)) }
     ensures no_log { (IsReplay (map string_bytes words.now) → ⊥) → IsTrue D.tells → OnlySynced (files (D.view disk)) (files (D.view result.disk)) }
     ensures starts_nothing { IsDump (map string_bytes words.now) → SameDisk (D.view disk) (D.view result.disk) }
+    ensures each_moment { (IsReplay (map string_bytes words.now) → ⊥) → IsTrue D.tells → AtEachMoment ((D.view disk).clock) (D.view result.disk) (AddsNoImage (files (D.view disk))) }
     ensures idle { NothingInFlight (D.view result.disk) }
 {
     match answered(alloc, words, src, &mut disk) {

@@ -12,7 +12,8 @@ returns-in-Ok-clause-done g c = λ e.
 pub returns-in-Ok-clause-script : goal.returns-in-Ok-clause-script
 returns-in-Ok-clause-script g c = λ e.
     let w = ends.was_whole _ _ _ _ _ c.ended-status.ensures.ended (ends.other e (λ h. cc)) (ends.other e (λ h. cc)) in
-    (c.in-Ok.said.text, ends.says_script _ _ _ _ _ _ _ _ c.in-Ok.ensures.says (sym w.0 ∙ e), w.1)
+    let r = ends.says_script _ _ _ _ _ _ _ _ c.in-Ok.ensures.says (sym w.0 ∙ e) in
+    (r.0, c.in-Ok.said.text, r.1, w.1)
 
 pub returns-in-Ok-clause-disk : goal.returns-in-Ok-clause-disk
 returns-in-Ok-clause-disk g c = λ e.
@@ -38,12 +39,12 @@ returns-in-Ok-clause-usage g c = λ e.
 pub returns-in-Ok-clause-read : goal.returns-in-Ok-clause-read
 returns-in-Ok-clause-read g c = λ e.
     let w = ends.was_whole _ _ _ _ _ c.ended-status.ensures.ended (ends.other e (λ h. cc)) (ends.other e (λ h. cc)) in
-    c.in-Ok.ensures.read (sym w.0 ∙ e)
+    ((ends.says_read _ _ _ _ _ _ _ _ c.in-Ok.ensures.says (sym w.0 ∙ e)).0, c.in-Ok.ensures.read (sym w.0 ∙ e))
 
 pub returns-in-Ok-clause-read_text : goal.returns-in-Ok-clause-read_text
 returns-in-Ok-clause-read_text g c = λ e.
     let w = ends.was_whole _ _ _ _ _ c.ended-status.ensures.ended (ends.other e (λ h. cc)) (ends.other e (λ h. cc)) in
-    subst (Wrote (g.K.Sink.written c.args.out.now) (g.K.Sink.written c.ended-status.new.out)) (ends.says_read _ _ _ _ _ _ _ _ c.in-Ok.ensures.says (sym w.0 ∙ e)) w.1
+    subst (Wrote (g.K.Sink.written c.args.out.now) (g.K.Sink.written c.ended-status.new.out)) (ends.says_read _ _ _ _ _ _ _ _ c.in-Ok.ensures.says (sym w.0 ∙ e)).1 w.1
 
 pub returns-in-Ok-clause-part : goal.returns-in-Ok-clause-part
 returns-in-Ok-clause-part g c = λ e. ends.part_of _ _ _ _ _ _ _ _ _ _ c.in-Ok.ensures.says (ends.is_part _ _ _ _ _ c.ended-status.ensures.ended)
@@ -88,3 +89,6 @@ returns-in-Ok-clause-untouched g c = λ early.
     let apart = ends.early_is_whole c.ended-status.result early in
     let w = ends.was_whole _ _ _ _ _ c.ended-status.ensures.ended apart.0 apart.1 in
     ends.untouched_before _ _ _ _ _ _ _ _ c.in-Ok.ensures.says (subst IsBeforeDisk w.0 early)
+
+pub returns-in-Ok-clause-write : goal.returns-in-Ok-clause-write
+returns-in-Ok-clause-write g c = λ e. c.ended-status.ensures.write e (ends.never_says_write _ _ _ _ _ _ _ _ c.in-Ok.ensures.says)
