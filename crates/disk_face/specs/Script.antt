@@ -1,7 +1,11 @@
 -- A disk that stalls polls by itself, over another one (docs/FORMATS.md, "The disk").
-use Rattle.std.specs.Prelude.{◌≡◌, ℕ, ◌+◌, ◌≤◌}
+use Rattle.std.specs.Prelude.{◌≡◌, ◌≢◌, ℕ, ◌+◌, ◌-◌, ◌^◌, ◌≤◌, min, Bool}
 use Rattle.disk_face.specs.declared.Side.{Side}
+use Rattle.disk_face.specs.declared.OpId.{OpId}
+use Rattle.disk_face.specs.declared.Progress.{Progress}
+use Rattle.disk_face.specs.declared.Progress.TheVariants.{Pending}
 use Rattle.disk_face.specs.View.{DiskView, by_side}
+use Rattle.disk_face.specs.Calls.{GoesOn, Polled}
 
 -- the inner disk, with so many polls more left to stall
 abbrev pub stalled : DiskView → ℕ → ℕ → DiskView
@@ -14,3 +18,21 @@ pub record TellsOf (inner outer : DiskView) : Type 0 where
   pub clock : outer.clock ≡ inner.clock
   pub history : outer.history ≡ inner.history
   pub polls : (side : Side) → inner.polls_left side ≤ outer.polls_left side
+
+-- the own polls of one side are raised, up to the last value
+pub record RaisesOwnPolls (side : Side) (polls : ℕ) (old new : Side → ℕ) : Type 0 where
+  pub raised : new side ≡ min (old side + polls) (2 ^ 64 - 1)
+  pub others : (s : Side) → s ≢ side → new s ≡ old s
+
+-- The poll is answered by the disk itself: pending, one own poll of that side is taken, and the disk within stays as it was.
+pub record AnswersItself (side : Side) (own_old own_new : Side → ℕ) (within_old within_new : DiskView) (answer : Progress) : Type 0 where
+  pub pending : answer ≡ Pending
+  pub taken : own_new side + 1 ≡ own_old side
+  pub others : (s : Side) → s ≢ side → own_new s ≡ own_old s
+  pub within : within_new ≡ within_old
+
+-- The poll is passed on: the own polls stay, and the answer is that of the disk within.
+pub record PassesPollOn (tells : Bool) (id : OpId) (own_old own_new : Side → ℕ) (within_old within_new : DiskView) (answer : Progress) : Type 0 where
+  pub own : own_new ≡ own_old
+  pub goes_on : GoesOn within_old within_new
+  pub polled : Polled tells id within_old within_new answer

@@ -3,7 +3,8 @@
 //!
 //! Stands on `wal_base`: its lists, its want of memory, and its rule that a fault is answered only where a
 //! count of faults rose. The layers above use the traits [`Disk`], [`TableDisk`] and [`StallDisk`], [`ScriptDisk`]
-//! where a script says which polls are stalled, and [`NoDisk`] where nothing is to be kept.
+//! where a script says which polls are stalled, [`Scripted`] to say which of them it answers itself, and [`NoDisk`]
+//! where nothing is to be kept.
 //!
 //! What holds of each disk here: only so many places have a file, what is stable was done, what was done was
 //! sent, a read begins with what was done, no moment is forgotten, and no count falls but the polls left.
@@ -17,7 +18,7 @@ mod table_disk;
 
 pub use disk::{Disk, StallDisk};
 pub use no_disk::NoDisk;
-pub use script_disk::ScriptDisk;
+pub use script_disk::{ScriptDisk, Scripted};
 pub use table_disk::TableDisk;
 use thiserror::Error;
 use wal_base::{ListOf, NoMemory};
