@@ -1,6 +1,6 @@
 //! How a writer starts its next operation.
 
-ghost use Rattle.std.specs.Prelude.{◌≡◌, ◌≢◌, ◌<◌, ◌++◌, List, IsTrue, IfOk, OnOk, OnErr};
+ghost use Rattle.std.specs.Prelude.{◌≡◌, ◌≢◌, ◌<◌, ◌≤◌, ◌++◌, suc, List, IsTrue, IfOk, OnOk, OnErr};
 ghost use Rattle.disk_face.specs.View.{Place, Files, writing, files, IsFree, AtEachMoment};
 ghost use Rattle.disk_face.specs.Calls.{GoesOn, MayStart, Starts, ChangesFile, after_start};
 ghost use Rattle.batch_repr.specs.declared.batch.Batch.{Batch};
@@ -156,6 +156,9 @@ impl LogWriter {
         // Every other file stays as it was, at each moment too.
         ensures others { (place : Place) → place ≢ file_of self.old → SameFile D.tells place (D.view disk.old) (D.view disk.new) }
         ensures other_moments { IsTrue D.tells → AtEachMoment ((D.view disk.old).clock) (D.view disk.new) (λ (now : Files). (place : Place) → place ≢ file_of self.old → now place ≡ files (D.view disk.old) place) }
+
+        // At most one moment passes.
+        ensures one_moment { IsTrue D.tells → (D.view disk.new).clock ≤ suc ((D.view disk.old).clock) }
     {
         let Some(operation) = self.next(goal) else {
             return Ok(false);
