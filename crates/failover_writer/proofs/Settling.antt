@@ -1,0 +1,204 @@
+-- What holds of steps one after another, and what a closing comes to by it.
+use Rattle.std.proofs.Common.{◌≡◌, ◌≢◌, ◌⊎◌, inl, inr, ◌<◌, ◌≤◌, Bool, List, [], ◌∷◌, length, Option, Some, None, Result, OnOk, IfErr, ap, sym, subst, ◌∙◌, refl, arith}
+use native.Mathlib.Decide.{dec_lt}
+use Rattle.std.proofs.lemmas.List.{length-drop}
+use Rattle.std.proofs.lemmas.Result.{on_ok_weaker}
+use Rattle.batch_repr.specs.declared.batch.Batch.{Batch}
+use Rattle.disk_face.specs.declared.Progress.{Progress}
+use Rattle.disk_face.specs.declared.OpId.{OpId}
+use Rattle.disk_face.specs.View.{Flight, DiskView, NothingInFlight}
+use Rattle.disk_face.specs.Calls.{GoesOn}
+use Rattle.disk_face.proofs.Moments.{goes_on_from, goes_on_further, rose_later, rose_earlier}
+use Rattle.log_writer.specs.declared.phase.Phase.{Phase}
+use Rattle.log_writer.specs.declared.phase.Phase.TheVariants.{New, InFlight, Idle, Broken}
+use Rattle.log_writer.specs.Writer.{Writer}
+use Rattle.log_writer.specs.Fits.{Fits, HasFlight, IsBusy, file_of}
+use Rattle.failover_writer.specs.declared.fault.JournalFault.{JournalFault}
+use Rattle.failover_writer.specs.declared.fault.Step.{Step}
+use Rattle.failover_writer.specs.State.{State, len, acked}
+use Rattle.failover_writer.specs.Ranges.{StandsFor, Stands, KeepsRecords}
+use Rattle.failover_writer.specs.Stepping as stepping
+use Rattle.failover_writer.specs.Stepping.{NoneBusy, WantsMore, Polls, first, none_to_begin, switches, starts, stays, StepRule, was_dead, idle, dies, goes, short}
+use Rattle.failover_writer.specs.Answered.{StepsBy, StepsOn, IsIdle, IsMarked, IsHarmed, IsSmooth, FaultsRose, PollsFell, last_answer}
+use Rattle.failover_writer.specs.Keeping.{Passes}
+use Rattle.failover_writer.specs.Closing.{Lasts, Settles}
+use Rattle.failover_writer.proofs.Segments.{all_from, not_theirs}
+use Rattle.failover_writer.proofs.Released.{acked_within}
+use Rattle.failover_writer.proofs.Passing.{passes_still, passes_further}
+use Rattle.failover_writer.proofs.Closing.{polls_lower}
+
+-- ---- what is asked for stays
+
+pub record SameGoal (old new : State) : Type 0 where
+  pub want : new.want ≡ old.want
+  pub end : len new ≡ len old
+  pub threshold : new.threshold ≡ old.threshold
+
+goal_further : (old mid new : State) → SameGoal old mid → SameGoal mid new → SameGoal old new
+goal_further old mid new one two = record { want = two.want ∙ one.want; end = two.end ∙ one.end; threshold = two.threshold ∙ one.threshold }
+
+goal_beside : (old new : State) (segments : List Writer) → new ≡ record old { segments = segments } → SameGoal old new
+goal_beside old new segments is = record { want = ap (λ (s : State). s.want) is; end = ap (λ (s : State). len s) is; threshold = ap (λ (s : State). s.threshold) is }
+
+goal_polled : {old polled : State} {one other : Option Progress} → Polls old one other polled → SameGoal old polled
+goal_polled {old = old} {polled = polled} polls = goal_beside old polled polled.segments (polls_lower polls).same
+
+goal_went : (polled new : State) → stepping.GoesOn polled new → SameGoal polled new
+goal_went polled new (first _ none behind begins) = goal_beside polled new _ begins.new_is
+goal_went polled new (none_to_begin none not_behind) = record { want = refl; end = refl; threshold = refl }
+goal_went polled new (switches _ verdict begins) = goal_beside polled new _ begins.new_is
+goal_went polled new (starts _ verdict behind is) = goal_beside polled new _ is.new_is
+goal_went polled new (stays verdict none) = record { want = refl; end = refl; threshold = refl }
+
+pub goal_kept : {old new : State} {one other : Option Progress} {answer : Result Step JournalFault} → StepRule old one other new answer → SameGoal old new
+goal_kept (was_dead side count dead) = record { want = refl; end = refl; threshold = refl }
+goal_kept (idle lives rests none) = record { want = refl; end = refl; threshold = refl }
+goal_kept {old = old} (dies one other polled new side count up polls died) =
+    goal_further old polled new (goal_polled polls) (record { want = ap (λ (s : State). s.want) died.new_is; end = ap (λ (s : State). len s) died.new_is; threshold = ap (λ (s : State). s.threshold) died.new_is })
+goal_kept {old = old} (goes one other polled started new up polls went releases) =
+    goal_further old polled new (goal_polled polls) (goal_further polled started new (goal_went polled started went)
+    (record { want = ap (λ (s : State). s.want) releases.new_is; end = releases.end; threshold = ap (λ (s : State). s.threshold) releases.new_is }))
+goal_kept (short one other polled up polls) = goal_polled polls
+
+-- ---- steps one after another
+
+-- A step by its contract.
+pub lasts_once : (tells : Bool) (old new : State) (before after : DiskView) (answer : Result Step JournalFault) → StepsBy old new before after answer → (IsHarmed new → IsHarmed old ⊎ FaultsRose before after)
+    → (1 ≤ old.threshold → IsSmooth old → IsSmooth new ⊎ (FaultsRose before after ⊎ PollsFell before after)) → KeepsRecords tells old before new after → Passes tells old new before after → GoesOn before after
+    → Lasts tells old new before after
+lasts_once tells old new before after answer by harmed smooth keeps passes goes_on =
+    let same = goal_kept by.rule in
+    record { want = same.want; end = same.end; threshold = same.threshold; harmed = harmed; smooth = smooth; keeps = keeps; passes = passes; goes_on = goes_on }
+
+pub lasts_none : (tells : Bool) (state : State) (v : DiskView) → Lasts tells state state v v
+lasts_none tells state v = record {
+  want = refl;
+  end = refl;
+  threshold = refl;
+  harmed = λ harmed. inl harmed;
+  smooth = λ low smooth. inl smooth;
+  keeps = λ records stands. stands;
+  passes = passes_still tells state state v refl refl refl;
+  goes_on = goes_on_from v;
+}
+
+rose_before : (before between after : DiskView) → GoesOn before between → GoesOn between after → FaultsRose before between → FaultsRose before after
+rose_before before between after one two rose =
+    (rose.0, rose_earlier (before.faults rose.0) (between.faults rose.0) (after.faults rose.0) (one.faults rose.0) (two.faults rose.0) rose.1)
+
+rose_after : (before between after : DiskView) → GoesOn before between → FaultsRose between after → FaultsRose before after
+rose_after before between after one rose = (rose.0, rose_later (before.faults rose.0) (between.faults rose.0) (after.faults rose.0) (one.faults rose.0) rose.1)
+
+fell_before : (before between after : DiskView) → GoesOn between after → PollsFell before between → PollsFell before after
+fell_before before between after two fell = (fell.0, omega (arith, fell.1, two.polls fell.0))
+
+fell_after : (before between after : DiskView) → GoesOn before between → PollsFell between after → PollsFell before after
+fell_after before between after one fell = (fell.0, omega (arith, fell.1, one.polls fell.0))
+
+pub lasts_further : (tells : Bool) (old mid new : State) (before between after : DiskView) → Lasts tells old mid before between → Lasts tells mid new between after → Lasts tells old new before after
+lasts_further tells old mid new before between after one two = record {
+  want = two.want ∙ one.want;
+  end = two.end ∙ one.end;
+  threshold = two.threshold ∙ one.threshold;
+  harmed = λ harmed. elim (two.harmed harmed) [
+    | inl was ↦ elim (one.harmed was) [ inl harmed_first ↦ inl harmed_first | inr rose ↦ inr (rose_before before between after one.goes_on two.goes_on rose) ]
+    | inr rose ↦ inr (rose_after before between after one.goes_on rose)
+  ];
+  smooth = λ low smooth. elim (one.smooth low smooth) [
+    | inl mid_smooth ↦ elim (two.smooth (omega (arith, low, one.threshold)) mid_smooth) [
+      | inl now ↦ inl now
+      | inr (inl rose) ↦ inr (inl (rose_after before between after one.goes_on rose))
+      | inr (inr fell) ↦ inr (inr (fell_after before between after one.goes_on fell))
+    ]
+    | inr (inl rose) ↦ inr (inl (rose_before before between after one.goes_on two.goes_on rose))
+    | inr (inr fell) ↦ inr (inr (fell_before before between after two.goes_on fell))
+  ];
+  keeps = λ records stands. two.keeps records (one.keeps records stands);
+  passes = passes_further tells old mid new before between after one.keeps two.goes_on one.passes two.passes;
+  goes_on = goes_on_further before between after one.goes_on two.goes_on;
+}
+
+-- The last step is idle, or ends with a fault.
+pub settled : (tells : Bool) (old mid new : State) (before v after : DiskView) (step : Result Step JournalFault) (answer : Result Unit JournalFault) → step ≡ last_answer answer → StepsOn old before mid v → Lasts tells old mid before v
+    → StepsBy mid new v after step → Lasts tells mid new v after → OnOk answer (IsIdle new) → IfErr answer (IsMarked new) → Settles tells old new before after answer
+settled tells old mid new before v after step answer is steps one by two rests marked = record {
+  mid = mid;
+  v = v;
+  steps = steps;
+  last = subst (StepsBy mid new v after) is by;
+  lasts = lasts_further tells old mid new before v after one two;
+  idle = rests;
+  marked = marked;
+}
+
+-- ---- a closing
+
+-- a journal of which all records are to be synced
+abbrev pub asking : State → State
+asking state = record state { want = len state }
+
+pub records_are : (tells : Bool) (records : List Batch) (state : State) (v : DiskView) → StandsFor tells records state v → len state ≡ length records
+records_are tells records state v stands = omega (arith, stands.queue.start, ap length stands.queue.holds, length-drop state.queue.start records)
+
+pub asking_stands : (tells : Bool) (records : List Batch) (state : State) (v : DiskView) → StandsFor tells records state v → StandsFor tells records (asking state) v
+asking_stands tells records state v stands = record {
+  named = stands.named;
+  numbered = stands.numbered;
+  spelled = stands.spelled;
+  next = stands.next;
+  queue = stands.queue;
+  queued = stands.queued;
+  want = omega (arith, records_are tells records state v stands);
+  few = stands.few;
+  joined = stands.joined;
+  fit = stands.fit;
+  alone = stands.alone;
+  fresh = stands.fresh;
+}
+
+wants_synced : (state : State) (ws : List Writer) → acked state < state.want → WantsMore state ws
+wants_synced state [] less = tt
+wants_synced state (w ∷ []) less = inr (inr less)
+wants_synced state (w ∷ v ∷ ws) less = wants_synced state (v ∷ ws) less
+
+-- Where all records are to be synced and there is no work, all are.
+all_acked : (tells : Bool) (records : List Batch) (state : State) (v : DiskView) → StandsFor tells records state v → state.want ≡ len state → IsIdle state → acked state ≡ len state
+all_acked tells records state v stands all rests = elim (dec_lt (acked state) (len state)) [
+  | yes less ↦ absurd (rests.no_work (less, wants_synced state state.segments (omega (arith, less, all))))
+  | no not_less ↦ omega (arith, not_less, acked_within tells records state v stands, records_are tells records state v stands)
+]
+
+-- An operation in flight is none of a writer that is not busy.
+not_its : (tells : Bool) (records : List Batch) (v : DiskView) (id : OpId) (f : Flight) (w : Writer) → v.in_flight id ≡ Some f → Fits tells records w v → (IsBusy w.phase → ⊥) → file_of w ≢ f.place
+not_its tells records v id f w flies fits rests e = go w.phase fits.flight rests
+  where
+    go : (phase : Phase) → HasFlight phase (file_of w) v → (IsBusy phase → ⊥) → ⊥
+    go New free not_busy = free id f flies (sym e)
+    go (InFlight operation at) free not_busy = not_busy tt
+    go Idle free not_busy = free id f flies (sym e)
+    go Broken free not_busy = free id f flies (sym e)
+
+none_flies : (tells : Bool) (records : List Batch) (state : State) (v : DiskView) → StandsFor tells records state v → NoneBusy state.segments → NothingInFlight v
+none_flies tells records state v stands rests id = go (v.in_flight id) refl
+  where
+    go : (flight : Option Flight) → v.in_flight id ≡ flight → v.in_flight id ≡ None
+    go None is = is
+    go (Some f) is =
+        absurd (not_theirs state.segments f.place
+        (all_from (λ (w : Writer). Fits tells records w v) (λ (w : Writer). IsBusy w.phase → ⊥) (λ (w : Writer). file_of w ≢ f.place) state.segments (λ w fits not_busy. not_its tells records v id f w is fits not_busy) stands.fit rests)
+        (stands.alone id f is))
+
+module _ (tells : Bool) (old new : State) (before after : DiskView) (answer : Result Unit JournalFault) (settles : Settles tells (asking old) new before after answer) where
+  pub closed_keeps : KeepsRecords tells old before new after
+  closed_keeps records stands = settles.lasts.keeps records (asking_stands tells records old before stands)
+
+  pub closed_synced : Stands tells old before → OnOk answer (acked new ≡ len new)
+  closed_synced stands = on_ok_weaker answer (λ rests. all_acked tells stands.0 new after (closed_keeps stands.0 stands.1) (settles.lasts.want ∙ sym settles.lasts.end) rests) settles.idle
+
+  pub closed_rests : Stands tells old before → OnOk answer (NothingInFlight after)
+  closed_rests stands = on_ok_weaker answer (λ rests. none_flies tells stands.0 new after (closed_keeps stands.0 stands.1) rests.rests) settles.idle
+
+  pub closed_passes : Passes tells old new before after
+  closed_passes =
+      passes_further tells old (asking old) new before before after (λ records stands. asking_stands tells records old before stands) settles.lasts.goes_on
+      (passes_still tells old (asking old) before refl refl refl) settles.lasts.passes

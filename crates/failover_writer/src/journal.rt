@@ -1,0 +1,519 @@
+//! The journal and its step.
+
+ghost use Rattle.std.specs.Prelude.{◌≡◌, ◌≢◌, ◌↔◌, ◌⊎◌, ◌≤◌, ◌<◌, ◌-◌, suc, List, [], ◌∷◌, ◌++◌, length, take, drop, Option, None, Ok, MatchBool, IfOk, IfErr, IfSome, OnOk, OnErr, IsTrue, nat_lt};
+ghost use Rattle.batch_repr.specs.declared.batch.Batch.{Batch};
+ghost use Rattle.disk_face.specs.declared.Progress.{Progress};
+ghost use Rattle.disk_face.specs.View.{Files, files, AtEachMoment, NothingInFlight};
+ghost use Rattle.disk_face.specs.Calls.{GoesOn, Stalls};
+ghost use Rattle.failover_writer.specs.State.{len, acked, is_broken};
+ghost use Rattle.failover_writer.specs.Ranges as ranges;
+ghost use Rattle.failover_writer.specs.Ranges.{AreUnsent, StandsFor, Stands, KeepsRecords};
+ghost use Rattle.failover_writer.specs.Stepping as stepping;
+ghost use Rattle.failover_writer.specs.Stepping.{IsBehind, HasWork, NoneBusy, BeginsNext, Releases, IsUp};
+ghost use Rattle.failover_writer.specs.declared.fault.Step.TheVariants as steps;
+ghost use Rattle.failover_writer.specs.Answered.{StepsBy, IsIdle, IsMarked, IsHarmed, IsSmooth, FaultsRose, PollsFell, Closes};
+ghost use Rattle.failover_writer.specs.Keeping.{KeepsRun, RecoversTo, OthersStay, IsOpenedOn, IsOpening, KeepsBase, Passes};
+ghost use Rattle.failover_writer.specs.Closing.{Settles};
+ghost use Rattle.failover_writer.specs.Moves.{IsBusyAt, IsFirstBusy, PollsAt, PollsAll, MayStartNext, IsRestingAt, NoneRests, EndsGoing, Pushes};
+
+use crate::fault::{DeadMark, JournalFault, Step};
+use batch_repr::Numbered;
+use disk_face::{Disk, Progress, SegName, Side, StallDisk};
+use log_writer::{Goal, LogWriter};
+use record_queue::RecordQueue;
+use stall_monitor::{MonitorView, SEGMENTS_MAX, Verdict, decide};
+use std::alloc::Global;
+use std::marker::Model;
+use wal_base::NoMemory;
+
+/// The records of a run, and the segments to which they go. Records are counted from 0.
+#[derive(Drop)]
+pub struct Journal<D: Disk> {
+    alloc: Global,
+    disk: D,
+    wal: u64,
+    base: u64,
+    next: u64,
+    threshold: u32,
+    records: RecordQueue,
+    want: u64,
+    acked: u64,
+    writers: Vec<LogWriter>,
+    /// No segment before this one is busy, but for the current one.
+    first_busy: usize,
+    failed: u64,
+    dead: Option<DeadMark>,
+}
+
+impl<D: Disk> Model for Journal<D> {
+    ghost use Rattle.failover_writer.specs.State.{State, Held};
+    ghost use Rattle.failover_writer.specs.Inside.{IsInOrder};
+
+    ghost Value = { Held D };
+
+    ghost view = { λ j. record { disk = j.disk; state = record { wal = j.wal; base = j.base; next = j.next; threshold = j.threshold; queue = j.records; want = j.want; segments = j.writers.items; dead = j.dead } } };
+
+    ghost invariant = { λ j. IsInOrder D.tells (record { wal = j.wal; base = j.base; next = j.next; threshold = j.threshold; queue = j.records; want = j.want; segments = j.writers.items; dead = j.dead }) (D.view j.disk) j.acked j.first_busy j.failed };
+}
+
+/// The side of the segment of this index.
+fn side_at(index: usize) -> Side
+    ensures { result ≡ ranges.side_at index }
+{
+    if index % 2 == 0 {
+        Side::Primary
+    } else {
+        Side::Secondary
+    }
+}
+
+impl<D: Disk> Journal<D> {
+    /// A journal of no record, for a WAL of which nothing stands. `base` is the number of the first record. It makes no
+    /// disk call. `Err` is want of memory and hands the disk back.
+    pub fn start(
+        alloc: Global,
+        disk: D,
+        wal: u64,
+        base: u64,
+        threshold: u32,
+    ) -> Result<Journal<D>, D>
+        requires idle { NothingInFlight (D.view disk) }
+        requires wal { wal ≤ 999999999999 }
+        requires threshold { (1 ≤ threshold) × (threshold ≤ 1000) }
+        requires absent { IsTrue D.tells → AreUnsent wal 0 (D.view disk) }
+        ensures made { IfOk result (λ journal. journal ≡ record { disk = disk; state = record { wal = wal; base = base; next = base; threshold = threshold; queue = journal.state.queue; want = 0; segments = []; dead = None } }) }
+        ensures empty { IfOk result (λ journal. (journal.state.queue.start ≡ 0) × (journal.state.queue.records ≡ [])) }
+        ensures stands { IfOk result (λ journal. StandsFor D.tells [] journal.state (D.view journal.disk)) }
+        ensures others { IfOk result (λ journal. OthersStay (files (D.view disk)) journal.state (files (D.view journal.disk))) }
+        ensures keeps_base { IfOk result (λ journal. (before : List Batch) → IsOpening wal base before (files (D.view disk)) → KeepsBase D.tells before journal.state (D.view journal.disk)) }
+        ensures err { IfErr result (λ back. back ≡ disk) }
+    {
+        let Ok(records) = RecordQueue::new(alloc) else {
+            return Err(disk);
+        };
+        let Ok(writers) = Vec::with_capacity(alloc, SEGMENTS_MAX as usize) else {
+            return Err(disk);
+        };
+        Ok(Journal {
+            alloc,
+            disk,
+            wal,
+            base,
+            next: base,
+            threshold,
+            records,
+            want: 0,
+            acked: 0,
+            writers,
+            first_busy: 0,
+            failed: 0,
+            dead: None,
+        })
+    }
+
+    /// Makes room for one record.
+    pub fn reserve(&mut self) -> Result<(), NoMemory>
+        ensures room { OnOk result (1 ≤ self.new.state.queue.spare) }
+        ensures same { self.new ≡ record self.old { state = record self.old.state { queue = record self.old.state.queue { spare = self.new.state.queue.spare } } } }
+        ensures keeps { KeepsRecords D.tells self.old.state (D.view self.old.disk) self.new.state (D.view self.new.disk) }
+        ensures keeps_base { (base : List Batch) → KeepsBase D.tells base self.old.state (D.view self.old.disk) → KeepsBase D.tells base self.new.state (D.view self.new.disk) }
+    {
+        self.records.reserve()
+    }
+
+    /// Adds a record, and answers how many there are. With `sync` all of them are to be synced.
+    pub fn push(&mut self, added: Numbered, sync: bool) -> u64
+        requires room { 1 ≤ self.old.state.queue.spare }
+        requires lives { self.old.state.dead ≡ None }
+        requires next { added.first ≡ self.old.state.next }
+        ensures len { result ≡ len self.new.state }
+        ensures pushed { Pushes added sync self.old.state self.new.state }
+        ensures disk { self.new.disk ≡ self.old.disk }
+        ensures keeps { (records : List Batch) → StandsFor D.tells records self.old.state (D.view self.old.disk) → StandsFor D.tells (records ++ added ∷ []) self.new.state (D.view self.new.disk) }
+        ensures keeps_base { (base : List Batch) → KeepsBase D.tells base self.old.state (D.view self.old.disk) → KeepsBase D.tells base self.new.state (D.view self.new.disk) }
+    {
+        // Each batch takes a number, and is spelled by its bytes.
+        prove!(0 < added.count());
+        prove!(12 <= added.bytes().len());
+        self.next = added.end();
+        self.records.push(added);
+        let len = self.records.end();
+        if sync {
+            self.want = len;
+        }
+        len
+    }
+
+    /// The greatest end of what a segment has synced; 0 at first.
+    pub fn acked(&self) -> u64
+        ensures { result ≡ acked self.now.state }
+    {
+        self.acked
+    }
+
+    /// How many records there are.
+    pub fn len(&self) -> u64
+        ensures { result ≡ len self.now.state }
+    {
+        self.records.end()
+    }
+
+    /// The number behind the last record.
+    pub fn next(&self) -> u64
+        ensures { result ≡ self.now.state.next }
+    {
+        self.next
+    }
+
+    /// How many segments were begun.
+    pub fn segments(&self) -> u32
+        ensures { result ≡ length self.now.state.segments }
+    {
+        self.writers.len() as u32
+    }
+
+    /// The mark of a journal that has given up.
+    pub fn dead(&self) -> Option<DeadMark>
+        ensures { result ≡ self.now.state.dead }
+    {
+        self.dead
+    }
+
+    /// The disk as it stands.
+    pub fn into_disk(self) -> D
+        ensures { result ≡ self.disk }
+    {
+        self.disk
+    }
+
+    /// Polls a busy segment, and notes what it has synced. Answers whether it is pending.
+    fn poll(&mut self, index: usize) -> bool
+        requires busy { IsBusyAt index self.old.state }
+        ensures polled { PollsAt D.tells index self.old.state self.new.state (D.view self.old.disk) (D.view self.new.disk) result }
+        ensures keeps { KeepsRecords D.tells self.old.state (D.view self.old.disk) self.new.state (D.view self.new.disk) }
+        ensures passes { Passes D.tells self.old.state self.new.state (D.view self.old.disk) (D.view self.new.disk) }
+        ensures goes_on { GoesOn (D.view self.old.disk) (D.view self.new.disk) }
+    {
+        let writer = &mut self.writers[index];
+        let answer = writer.poll(&mut self.disk);
+        self.acked = self.acked.max(writer.synced());
+        match answer {
+            Progress::Pending => true,
+            Progress::Done => false,
+            Progress::Failed => {
+                self.failed = self.failed.saturating_add(1);
+                false
+            }
+        }
+    }
+
+    /// The first busy segment before the current one.
+    fn seek_busy(&mut self) -> Option<usize>
+        ensures found { IfSome result (λ index. IsFirstBusy index self.old.state) }
+        ensures none { result ≡ None → NoneBusy (take (length self.old.state.segments - 1) self.old.state.segments) }
+        ensures same { self.new ≡ self.old }
+    {
+        let last = self.writers.len().checked_sub(1)?;
+        while self.first_busy < last && !self.writers[self.first_busy].busy() {
+            self.first_busy += 1;
+        }
+        if self.first_busy < last {
+            Some(self.first_busy)
+        } else {
+            None
+        }
+    }
+
+    /// The current segment, where it is busy.
+    fn current_busy(&self) -> Option<usize>
+        ensures found { IfSome result (λ index. (suc index ≡ length self.now.state.segments) × IsBusyAt index self.now.state) }
+        ensures none { result ≡ None → NoneBusy (drop (length self.now.state.segments - 1) self.now.state.segments) }
+    {
+        let last = self.writers.len().checked_sub(1)?;
+        if self.writers[last].busy() {
+            Some(last)
+        } else {
+            None
+        }
+    }
+
+    /// Polls the first busy segment before the current one, and then the current one. Answers whether one is pending.
+    fn poll_all(&mut self) -> bool
+        ensures polled { PollsAll self.old.state self.new.state (D.view self.old.disk) (D.view self.new.disk) result }
+        ensures keeps { KeepsRecords D.tells self.old.state (D.view self.old.disk) self.new.state (D.view self.new.disk) }
+        ensures passes { Passes D.tells self.old.state self.new.state (D.view self.old.disk) (D.view self.new.disk) }
+        ensures goes_on { GoesOn (D.view self.old.disk) (D.view self.new.disk) }
+    {
+        let early = match self.seek_busy() {
+            Some(index) => self.poll(index),
+            None => false,
+        };
+        let late = match self.current_busy() {
+            Some(index) => self.poll(index),
+            None => false,
+        };
+        early || late
+    }
+
+    fn is_behind(&self) -> bool
+        ensures { IsTrue result ↔ IsBehind self.now.state }
+    {
+        self.acked < self.records.end()
+    }
+
+    /// Whether there is something to do.
+    fn has_work(&self) -> bool
+        ensures { IsTrue result ↔ HasWork self.now.state }
+    {
+        if !self.is_behind() {
+            return false;
+        }
+        match self.writers.last() {
+            Some(current) => {
+                current.broken() || current.written() < self.records.end() || self.acked < self.want
+            }
+            None => true,
+        }
+    }
+
+    /// Whether an operation of a segment is in flight.
+    fn is_busy(&mut self) -> bool
+        ensures busy { MatchBool result (NoneBusy self.old.state.segments → ⊥) (NoneBusy self.old.state.segments) }
+        ensures same { self.new ≡ self.old }
+    {
+        self.seek_busy().is_some() || self.current_busy().is_some()
+    }
+
+    /// Whether something is in flight, or there is work.
+    fn is_up(&mut self) -> bool
+        ensures up { MatchBool result (NoneBusy self.old.state.segments → HasWork self.old.state) (NoneBusy self.old.state.segments × (HasWork self.old.state → ⊥)) }
+        ensures same { self.new ≡ self.old }
+    {
+        self.has_work() || self.is_busy()
+    }
+
+    fn goal(&self) -> Goal
+        ensures { result ≡ record { len = len self.now.state; want = self.now.state.want; acked = acked self.now.state } }
+    {
+        Goal {
+            len: self.records.end(),
+            want: self.want,
+            acked: self.acked,
+        }
+    }
+
+    /// Begins the next segment at the end of what is synced.
+    fn begin_next(&mut self) -> Result<(), NoMemory>
+        requires few { length self.old.state.segments < 10 }
+        ensures begun { OnOk result (BeginsNext self.old.state self.new.state) }
+        ensures err { OnErr result (self.new.state ≡ self.old.state) }
+        ensures keeps { KeepsRecords D.tells self.old.state (D.view self.old.disk) self.new.state (D.view self.new.disk) }
+        ensures passes { Passes D.tells self.old.state self.new.state (D.view self.old.disk) (D.view self.new.disk) }
+        ensures goes_on { GoesOn (D.view self.old.disk) (D.view self.new.disk) }
+    {
+        let index = self.writers.len();
+        let name = SegName {
+            wal: self.wal,
+            index: index as u32,
+        };
+        let log = (self.wal % (1 << 32)) as u32;
+        let goal = self.goal();
+        let mut writer = LogWriter::new(self.alloc, side_at(index), name, log, self.acked)?;
+        // The room is there before anything is started.
+        self.writers.reserve(1)?;
+        writer.begin(&mut self.disk, &self.records, &goal)?;
+        match self.writers.push(writer) {
+            Ok(()) => Ok(()),
+            Err(_) => unreachable!(),
+        }
+    }
+
+    /// The index of the current segment, where it is at rest.
+    fn resting(&self) -> Option<usize>
+        ensures found { IfSome result (λ last. IsRestingAt last self.now.state.segments) }
+        ensures none { result ≡ None → NoneRests self.now.state.segments }
+    {
+        let last = self.writers.len().checked_sub(1)?;
+        let current = &self.writers[last];
+        if current.busy() || current.broken() {
+            return None;
+        }
+        Some(last)
+    }
+
+    /// Starts what comes next on the current segment.
+    fn start_next(&mut self) -> Result<(), NoMemory>
+        ensures started { OnOk result (MayStartNext self.old.state self.new.state) }
+        ensures err { OnErr result (self.new.state ≡ self.old.state) }
+        ensures keeps { KeepsRecords D.tells self.old.state (D.view self.old.disk) self.new.state (D.view self.new.disk) }
+        ensures passes { Passes D.tells self.old.state self.new.state (D.view self.old.disk) (D.view self.new.disk) }
+        ensures goes_on { GoesOn (D.view self.old.disk) (D.view self.new.disk) }
+    {
+        let goal = self.goal();
+        let Some(last) = self.resting() else {
+            return Ok(());
+        };
+        if !self.is_behind() {
+            return Ok(());
+        }
+        self.writers[last].begin(&mut self.disk, &self.records, &goal)?;
+        Ok(())
+    }
+
+    /// Lets the records go that no segment needs any more.
+    fn release(&mut self)
+        ensures released { Releases self.old.state self.new.state }
+        ensures disk { self.new.disk ≡ self.old.disk }
+        ensures keeps { KeepsRecords D.tells self.old.state (D.view self.old.disk) self.new.state (D.view self.new.disk) }
+        ensures passes { Passes D.tells self.old.state self.new.state (D.view self.old.disk) (D.view self.new.disk) }
+    {
+        if let Some(current) = self.writers.last() {
+            self.records.release(self.acked.min(current.sent()));
+        }
+    }
+
+    /// One step: what is in flight is polled, and then the next operation is started or the next segment begun.
+    pub fn step(&mut self) -> Result<Step, JournalFault>
+        ensures rule { StepsBy self.old.state self.new.state (D.view self.old.disk) (D.view self.new.disk) result }
+        ensures idle { (result ≡ Ok steps.Idle) ↔ IsIdle self.old.state }
+        ensures waited { result ≡ Ok steps.Waited → PollsFell (D.view self.old.disk) (D.view self.new.disk) }
+        ensures dead { IfErr result (IsMarked self.new.state) }
+        ensures still { (self.old.state.dead ≢ None) ⊎ IsIdle self.old.state → self.new ≡ self.old }
+        ensures harmed { IsHarmed self.new.state → IsHarmed self.old.state ⊎ FaultsRose (D.view self.old.disk) (D.view self.new.disk) }
+        ensures smooth { 1 ≤ self.old.state.threshold → IsSmooth self.old.state → IsSmooth self.new.state ⊎ (FaultsRose (D.view self.old.disk) (D.view self.new.disk) ⊎ PollsFell (D.view self.old.disk) (D.view self.new.disk)) }
+        ensures acked { acked self.old.state ≤ acked self.new.state }
+        ensures keeps { KeepsRecords D.tells self.old.state (D.view self.old.disk) self.new.state (D.view self.new.disk) }
+        ensures keeps_base { (base : List Batch) → KeepsBase D.tells base self.old.state (D.view self.old.disk) → KeepsBase D.tells base self.new.state (D.view self.new.disk) }
+        ensures recovers { (records base : List Batch) → StandsFor D.tells records self.old.state (D.view self.old.disk) → KeepsBase D.tells base self.old.state (D.view self.old.disk) → IsTrue D.tells → AtEachMoment ((D.view self.old.disk).clock) (D.view self.new.disk) (RecoversTo base records (acked self.old.state)) }
+        ensures recovers_at_exit { (records base : List Batch) → StandsFor D.tells records self.old.state (D.view self.old.disk) → KeepsBase D.tells base self.old.state (D.view self.old.disk) → IsTrue D.tells → RecoversTo base records (acked self.new.state) (files (D.view self.new.disk)) }
+        ensures run { (records : List Batch) (opening : Files) → StandsFor D.tells records self.old.state (D.view self.old.disk) → IsOpenedOn opening self.old.state (files (D.view self.old.disk)) → IsTrue D.tells → AtEachMoment ((D.view self.old.disk).clock) (D.view self.new.disk) (KeepsRun self.old.state.wal self.old.state.base records (acked self.old.state) opening) }
+        ensures run_at_exit { (records : List Batch) (opening : Files) → StandsFor D.tells records self.old.state (D.view self.old.disk) → IsOpenedOn opening self.old.state (files (D.view self.old.disk)) → IsTrue D.tells → KeepsRun self.old.state.wal self.old.state.base records (acked self.new.state) opening (files (D.view self.new.disk)) }
+        ensures passes { Passes D.tells self.old.state self.new.state (D.view self.old.disk) (D.view self.new.disk) }
+        ensures goes_on { GoesOn (D.view self.old.disk) (D.view self.new.disk) }
+    {
+        if let Some(mark) = self.dead {
+            return Err(JournalFault::Dead {
+                side: mark.side,
+                faults: mark.faults,
+            });
+        }
+        if !self.is_up() {
+            return Ok(Step::Idle);
+        }
+        self.advance()
+    }
+
+    /// Polls what is in flight, and goes on.
+    fn advance(&mut self) -> Result<Step, JournalFault>
+        requires up { IsUp self.old.state }
+        ensures rule { StepsBy self.old.state self.new.state (D.view self.old.disk) (D.view self.new.disk) result }
+        ensures keeps { KeepsRecords D.tells self.old.state (D.view self.old.disk) self.new.state (D.view self.new.disk) }
+        ensures passes { Passes D.tells self.old.state self.new.state (D.view self.old.disk) (D.view self.new.disk) }
+        ensures goes_on { GoesOn (D.view self.old.disk) (D.view self.new.disk) }
+    {
+        let waited = self.poll_all();
+        self.go_on()?;
+        self.release();
+        if waited {
+            Ok(Step::Waited)
+        } else {
+            Ok(Step::Moved)
+        }
+    }
+
+    /// What the monitor is shown of the current segment.
+    fn view(&self, current: &LogWriter) -> MonitorView
+        ensures { result ≡ record { opened = length self.now.state.segments; broken = is_broken current.now; waiting = current.now.waiting; threshold = self.now.state.threshold; behind = nat_lt (acked self.now.state) (len self.now.state) } }
+    {
+        MonitorView {
+            opened: self.writers.len() as u32,
+            broken: current.broken(),
+            waiting: current.waiting(),
+            threshold: self.threshold,
+            behind: self.is_behind(),
+        }
+    }
+
+    /// Begins the next segment, starts the next operation, or gives up.
+    fn go_on(&mut self) -> Result<(), JournalFault>
+        requires lives { self.old.state.dead ≡ None }
+        ensures went { OnOk result (stepping.GoesOn self.old.state self.new.state) }
+        ensures ended { IfErr result (EndsGoing self.old.state self.new.state) }
+        ensures keeps { KeepsRecords D.tells self.old.state (D.view self.old.disk) self.new.state (D.view self.new.disk) }
+        ensures passes { Passes D.tells self.old.state self.new.state (D.view self.old.disk) (D.view self.new.disk) }
+        ensures goes_on { GoesOn (D.view self.old.disk) (D.view self.new.disk) }
+    {
+        let Some(current) = self.writers.last() else {
+            if self.is_behind() {
+                self.begin_next()?;
+            }
+            return Ok(());
+        };
+        match decide(&self.view(current)) {
+            Verdict::Dead => {
+                let mark = DeadMark {
+                    side: side_at(self.writers.len() - 1),
+                    faults: self.failed,
+                };
+                self.dead = Some(mark);
+                Err(JournalFault::Dead {
+                    side: mark.side,
+                    faults: mark.faults,
+                })
+            }
+            Verdict::Switch => Ok(self.begin_next()?),
+            Verdict::Stay => Ok(self.start_next()?),
+        }
+    }
+
+    /// Asks that all records be synced, and steps until they are and nothing is in flight. After `NoMemory` it may be
+    /// called again.
+    pub fn close(&mut self) -> Result<(), JournalFault>
+        ensures closes { Closes self.old.state self.new.state (D.view self.old.disk) (D.view self.new.disk) result }
+        ensures synced { OnOk result (acked self.new.state ≡ len self.new.state) }
+        ensures rests { OnOk result (NothingInFlight (D.view self.new.disk)) }
+        ensures dead { IfErr result (IsMarked self.new.state) }
+        ensures still { self.old.state.dead ≢ None → self.new.disk ≡ self.old.disk }
+        ensures harmed { IsHarmed self.new.state → IsHarmed self.old.state ⊎ FaultsRose (D.view self.old.disk) (D.view self.new.disk) }
+        ensures smooth { 1 ≤ self.old.state.threshold → IsSmooth self.old.state → IsSmooth self.new.state ⊎ (FaultsRose (D.view self.old.disk) (D.view self.new.disk) ⊎ PollsFell (D.view self.old.disk) (D.view self.new.disk)) }
+        ensures acked { acked self.old.state ≤ acked self.new.state }
+        ensures keeps { KeepsRecords D.tells self.old.state (D.view self.old.disk) self.new.state (D.view self.new.disk) }
+        ensures keeps_base { (base : List Batch) → KeepsBase D.tells base self.old.state (D.view self.old.disk) → KeepsBase D.tells base self.new.state (D.view self.new.disk) }
+        ensures recovers { (records base : List Batch) → StandsFor D.tells records self.old.state (D.view self.old.disk) → KeepsBase D.tells base self.old.state (D.view self.old.disk) → IsTrue D.tells → AtEachMoment ((D.view self.old.disk).clock) (D.view self.new.disk) (RecoversTo base records (acked self.old.state)) }
+        ensures recovers_at_exit { (records base : List Batch) → StandsFor D.tells records self.old.state (D.view self.old.disk) → KeepsBase D.tells base self.old.state (D.view self.old.disk) → IsTrue D.tells → RecoversTo base records (acked self.new.state) (files (D.view self.new.disk)) }
+        ensures run { (records : List Batch) (opening : Files) → StandsFor D.tells records self.old.state (D.view self.old.disk) → IsOpenedOn opening self.old.state (files (D.view self.old.disk)) → IsTrue D.tells → AtEachMoment ((D.view self.old.disk).clock) (D.view self.new.disk) (KeepsRun self.old.state.wal self.old.state.base records (acked self.old.state) opening) }
+        ensures run_at_exit { (records : List Batch) (opening : Files) → StandsFor D.tells records self.old.state (D.view self.old.disk) → IsOpenedOn opening self.old.state (files (D.view self.old.disk)) → IsTrue D.tells → KeepsRun self.old.state.wal self.old.state.base records (acked self.new.state) opening (files (D.view self.new.disk)) }
+        ensures passes { Passes D.tells self.old.state self.new.state (D.view self.old.disk) (D.view self.new.disk) }
+        ensures goes_on { GoesOn (D.view self.old.disk) (D.view self.new.disk) }
+    {
+        self.want = self.records.end();
+        self.settle()
+    }
+
+    /// Steps until nothing is in flight and there is no work.
+    fn settle(&mut self) -> Result<(), JournalFault>
+        requires all { self.old.state.want ≡ len self.old.state }
+        requires stands { Stands D.tells self.old.state (D.view self.old.disk) }
+        ensures settles { Settles D.tells self.old.state self.new.state (D.view self.old.disk) (D.view self.new.disk) result }
+        ensures still { self.old.state.dead ≢ None → self.new ≡ self.old }
+    {
+        loop {
+            match self.step()? {
+                Step::Idle => return Ok(()),
+                Step::Moved | Step::Waited => {}
+            }
+        }
+    }
+}
+
+impl<D: StallDisk> Journal<D> {
+    /// Passes a stall on.
+    pub fn stall(&mut self, side: Side, polls: u32)
+        ensures state { self.new.state ≡ self.old.state }
+        ensures stalled { Stalls side polls (D.view self.old.disk) (D.view self.new.disk) }
+        ensures keeps { KeepsRecords D.tells self.old.state (D.view self.old.disk) self.new.state (D.view self.new.disk) }
+        ensures keeps_base { (base : List Batch) → KeepsBase D.tells base self.old.state (D.view self.old.disk) → KeepsBase D.tells base self.new.state (D.view self.new.disk) }
+    {
+        self.disk.stall(side, polls);
+    }
+}

@@ -1,0 +1,32 @@
+//! Laws of what a stop leaves of a journal (docs/FORMATS.md, "What a stop leaves of a journal").
+
+ghost use Rattle.std.specs.Prelude.{◌≡◌, ◌<◌, ℕ, Bool, List, Some, IsTrue};
+ghost use Rattle.batch_repr.specs.declared.batch.Batch.{Batch};
+ghost use Rattle.batch_repr.specs.Batches.{end_after};
+ghost use Rattle.disk_face.specs.declared.Side.{Side};
+ghost use Rattle.disk_face.specs.declared.SegName.{SegName};
+ghost use Rattle.disk_face.specs.Listing.{IsSegmentName};
+ghost use Rattle.disk_face.specs.View.{segment, File, Files, DiskView, files};
+ghost use Rattle.disk_face.specs.Image.{IsRested, dirs_as_read};
+ghost use Rattle.wal_recovery.specs.Recovering.{FIRST_NUMBER, Recovers};
+ghost use Rattle.wal_recovery.specs.Resting.{AreSegmentsStable};
+ghost use Rattle.failover_writer.specs.State.{State, acked};
+ghost use Rattle.failover_writer.specs.Ranges.{StandsFor};
+ghost use Rattle.failover_writer.specs.Keeping.{KeepsRun, RecoversTo, IsOpenedOn, IsOpening, KeepsBase};
+
+/// A journal keeps its run: in each image its segments merge to the first of its records, with all that are acked, and every
+/// other file is as it was when the journal was begun.
+pub fn a_journal_keeps_its_run()
+    ensures { (tells : Bool) (records : List Batch) (opening : Files) (state : State) (v : DiskView) → IsTrue tells → StandsFor tells records state v → IsOpenedOn opening state (files v) → KeepsRun state.wal state.base records (acked state) opening (files v) }
+{}
+
+/// A journal that keeps a base recovers to it, and behind it to the first of its records, with all that are acked.
+pub fn a_journal_keeps_its_base()
+    ensures { (tells : Bool) (records base : List Batch) (state : State) (v : DiskView) → IsTrue tells → StandsFor tells records state v → KeepsBase tells base state v → RecoversTo base records (acked state) (files v) }
+{}
+
+/// Files at rest whose segments are stable in full, all below a WAL, open a journal of that WAL: each image of them recovers
+/// to what they read as.
+pub fn stable_files_open_a_journal()
+    ensures { (wal : ℕ) (base : List Batch) (now : Files) → IsRested now → AreSegmentsStable now → Recovers (dirs_as_read now) base → ((side : Side) (name : SegName) (f : File) → IsSegmentName name → now (segment side name) ≡ Some f → name.wal < wal) → IsOpening wal (end_after FIRST_NUMBER base) base now }
+{}

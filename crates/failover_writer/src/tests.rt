@@ -1,0 +1,426 @@
+ghost use Rattle.std.specs.Prelude.{◌≡◌, ◌≤◌, None, IsTrue};
+ghost use Rattle.disk_face.specs.View.{Place, files, NothingInFlight};
+ghost use Rattle.failover_writer.specs.Ranges.{AreUnsent};
+
+use crate::{DeadMark, Journal, JournalFault, Step};
+use batch_repr::{BatchBuilder, Numbered};
+use disk_face::{Disk, ScriptDisk, SegName, Side};
+use mem_disk::{CrashPick, FilePick, FilePicks, MemDisk};
+use std::alloc::Global;
+use std::process::Abort;
+use wal_base::{Blob, Entry};
+use wal_recovery::{Mode, recover};
+
+const WAL: u64 = 1;
+
+const BASE: u64 = 10;
+
+/// The segment of this index.
+fn segment_at(index: u32) -> SegName {
+    SegName { wal: WAL, index }
+}
+
+fn side_of(index: u32) -> Side {
+    if index % 2 == 0 {
+        Side::Primary
+    } else {
+        Side::Secondary
+    }
+}
+
+/// The batch with this first number that sets `a` to a digit.
+fn batch_of(rt: &impl Abort, alloc: Global, first: u64, digit: u8) -> Numbered {
+    let mut builder = BatchBuilder::new(alloc).expect(rt, "memory");
+    builder.set(b"a", &[digit]).expect(rt, "an entry");
+    let Ok(batch) = builder.finish() else {
+        panic!(rt; "a batch");
+    };
+    assert_eq!(rt; batch.count(), 1);
+    let Ok(first) = u32::try_from(first) else {
+        panic!(rt; "a small number");
+    };
+    batch.number(u64::from(first))
+}
+
+/// A disk on which nothing stands and nothing is in flight.
+#[derive(Drop)]
+struct Fresh {
+    disk: MemDisk,
+    ghost idle: { NothingInFlight (⟦<MemDisk as Disk>⟧.view disk) },
+    ghost empty: { (p : Place) → files (⟦<MemDisk as Disk>⟧.view disk) p ≡ None },
+}
+
+impl Fresh {
+    fn new(rt: &impl Abort, alloc: Global) -> Fresh {
+        let disk = MemDisk::new(alloc).expect(rt, "memory");
+        Fresh { disk }
+    }
+
+    /// The operation of that number is to fail.
+    fn fail_op(&mut self, rt: &impl Abort, number: u64) {
+        self.disk.fail_op(number).expect(rt, "memory");
+    }
+
+    /// A journal of no record over the disk.
+    fn journal(self, rt: &impl Abort, alloc: Global, threshold: u32) -> Journal<MemDisk> {
+        if threshold == 0 || threshold > 1_000 {
+            panic!(rt; "a threshold");
+        }
+        let Fresh { disk } = self;
+        match Journal::start(alloc, disk, WAL, BASE, threshold) {
+            Ok(journal) => journal,
+            Err(_) => panic!(rt; "memory"),
+        }
+    }
+
+    /// A journal of no record over a script disk over it, which leaves a segment at the first pending poll.
+    fn scripted(self, rt: &impl Abort, alloc: Global) -> Journal<ScriptDisk<MemDisk>> {
+        let Fresh { disk } = self;
+        scripted(rt, alloc, disk, 1)
+    }
+}
+
+/// A journal of no record over a script disk over a disk.
+fn scripted<D: Disk>(
+    rt: &impl Abort,
+    alloc: Global,
+    disk: D,
+    threshold: u32,
+) -> Journal<ScriptDisk<D>>
+    requires idle { NothingInFlight (D.view disk) }
+    requires absent { IsTrue D.tells → AreUnsent 1 0 (D.view disk) }
+    requires threshold { (1 ≤ threshold) × (threshold ≤ 1000) }
+{
+    match Journal::start(alloc, ScriptDisk::new(disk), WAL, BASE, threshold) {
+        Ok(journal) => journal,
+        Err(_) => panic!(rt; "memory"),
+    }
+}
+
+/// A journal of no record over an empty disk.
+fn journal_of(rt: &impl Abort, alloc: Global, threshold: u32) -> Journal<MemDisk> {
+    Fresh::new(rt, alloc).journal(rt, alloc, threshold)
+}
+
+/// Pushes the next batch, of one Set.
+fn push(rt: &impl Abort, alloc: Global, journal: &mut Journal<MemDisk>, digit: u8, sync: bool) {
+    let batch = batch_of(rt, alloc, journal.next(), digit);
+    journal.reserve().expect(rt, "memory");
+    if journal.dead().is_some() || batch.first() != journal.next() {
+        panic!(rt; "a journal that lives");
+    }
+    journal.push(batch, sync);
+}
+
+fn step(rt: &impl Abort, journal: &mut Journal<MemDisk>) -> Step {
+    match journal.step() {
+        Ok(step) => step,
+        Err(_) => panic!(rt; "a step"),
+    }
+}
+
+/// Steps until a step is idle.
+fn settle(rt: &impl Abort, journal: &mut Journal<MemDisk>) {
+    for _ in 0..10_000 {
+        if step(rt, journal) == Step::Idle {
+            return;
+        }
+    }
+    panic!(rt; "a step that is idle");
+}
+
+/// What was sent to the segment of this index is these bytes.
+fn assert_sent(rt: &impl Abort, disk: &MemDisk, index: u32, bytes: &[u8]) {
+    let sent = disk.sent(side_of(index), segment_at(index));
+    assert!(rt; sent == Some(bytes), "segment {index}");
+}
+
+/// Two batches, which set `a` to 1 and to 2, as they are framed.
+const TWO_FRAMES: [u8; 56] =
+    *b"\x5e\x28\x29\x10\x11\0\x05\x01\0\0\0\x0a\0\0\0\0\0\0\0\x01\0\0\0\x01\x01a\x011\
+\xc6\x8f\x73\xd5\x11\0\x05\x01\0\0\0\x0b\0\0\0\0\0\0\0\x01\0\0\0\x01\x01a\x012";
+
+#[test]
+fn a_stalled_segment_is_followed_by_the_next(rt: HostRuntime) {
+    let alloc = rt.alloc();
+    let mut journal = journal_of(&rt, alloc, 3);
+    push(&rt, alloc, &mut journal, b'1', false);
+    settle(&rt, &mut journal);
+    journal.stall(Side::Primary, 10);
+    push(&rt, alloc, &mut journal, b'2', true);
+    assert_eq!(rt; journal.close(), Ok(()));
+    assert_eq!(rt; journal.acked(), 2);
+    assert_eq!(rt; journal.segments(), 2);
+    let disk = journal.into_disk();
+    assert_sent(&rt, &disk, 0, &TWO_FRAMES);
+    assert_sent(&rt, &disk, 1, &TWO_FRAMES);
+}
+
+#[test]
+fn a_late_sync_of_an_older_segment_counts(rt: HostRuntime) {
+    let alloc = rt.alloc();
+    let mut journal = journal_of(&rt, alloc, 3);
+    push(&rt, alloc, &mut journal, b'1', true);
+    for _ in 0..3 {
+        assert_eq!(rt; step(&rt, &mut journal), Step::Moved);
+    }
+    journal.stall(Side::Primary, 3);
+    for _ in 0..3 {
+        assert_eq!(rt; journal.segments(), 1);
+        assert_eq!(rt; step(&rt, &mut journal), Step::Waited);
+    }
+    assert_eq!(rt; (journal.segments(), journal.acked()), (2, 0));
+    assert_eq!(rt; step(&rt, &mut journal), Step::Moved);
+    assert_eq!(rt; journal.acked(), 1);
+    assert_eq!(rt; step(&rt, &mut journal), Step::Idle);
+    assert_sent(&rt, &journal.into_disk(), 1, b"");
+}
+
+#[test]
+fn a_journal_whose_syncs_fail_is_dead_for_good(rt: HostRuntime) {
+    let alloc = rt.alloc();
+    let mut fresh = Fresh::new(&rt, alloc);
+    for index in 0..10 {
+        fresh.fail_op(&rt, 2 + 3 * index);
+    }
+    let mut journal = fresh.journal(&rt, alloc, 3);
+    push(&rt, alloc, &mut journal, b'1', true);
+    let dead = Err(JournalFault::Dead {
+        side: Side::Secondary,
+        faults: 10,
+    });
+    assert_eq!(rt; journal.close(), dead);
+    assert_eq!(rt; journal.close(), dead);
+    let mark = DeadMark {
+        side: Side::Secondary,
+        faults: 10,
+    };
+    assert_eq!(rt; journal.dead(), Some(mark));
+    assert_eq!(rt; (journal.segments(), journal.acked()), (10, 0));
+}
+
+/// Closes the journal and answers how many segments it began.
+fn segments_of(rt: &impl Abort, mut journal: Journal<MemDisk>) -> u32 {
+    assert_eq!(rt; journal.close(), Ok(()));
+    assert_eq!(rt; journal.acked(), journal.len());
+    journal.segments()
+}
+
+/// A journal with a record to sync, of which the first segment has begun this operation: 0 its creation, 1 its write, 2
+/// its sync.
+fn begun(rt: &impl Abort, alloc: Global, threshold: u32, operation: u32) -> Journal<MemDisk> {
+    let mut journal = journal_of(rt, alloc, threshold);
+    push(rt, alloc, &mut journal, b'1', true);
+    for _ in 0..=operation {
+        assert_eq!(rt; step(rt, &mut journal), Step::Moved);
+    }
+    journal
+}
+
+#[test]
+fn a_segment_is_left_at_the_threshold_and_not_before(rt: HostRuntime) {
+    let alloc = rt.alloc();
+    for threshold in [1, 3, 1_000] {
+        for operation in 0..3 {
+            let mut short = begun(&rt, alloc, threshold, operation);
+            short.stall(Side::Primary, threshold.wrapping_sub(1));
+            assert_eq!(rt; segments_of(&rt, short), 1);
+            let mut long = begun(&rt, alloc, threshold, operation);
+            long.stall(Side::Primary, threshold);
+            assert_eq!(rt; segments_of(&rt, long), 2);
+        }
+    }
+}
+
+/// A journal that has left its first segment, which is polled once more, and begun this operation on the second one.
+fn begun_on_second(
+    rt: &impl Abort,
+    alloc: Global,
+    threshold: u32,
+    operation: u32,
+) -> Journal<MemDisk> {
+    let mut journal = begun(rt, alloc, threshold, 0);
+    journal.stall(Side::Primary, threshold);
+    for _ in 0..threshold {
+        assert_eq!(rt; step(rt, &mut journal), Step::Waited);
+    }
+    assert_eq!(rt; journal.segments(), 2);
+    for _ in 0..operation {
+        assert_eq!(rt; step(rt, &mut journal), Step::Moved);
+    }
+    journal
+}
+
+#[test]
+fn a_second_segment_is_left_at_the_threshold_too(rt: HostRuntime) {
+    let alloc = rt.alloc();
+    for threshold in [1, 3, 1_000] {
+        for operation in 0..3 {
+            let mut short = begun_on_second(&rt, alloc, threshold, operation);
+            short.stall(Side::Secondary, threshold.wrapping_sub(1));
+            assert_eq!(rt; segments_of(&rt, short), 2);
+            let mut long = begun_on_second(&rt, alloc, threshold, operation);
+            long.stall(Side::Secondary, threshold);
+            assert_eq!(rt; segments_of(&rt, long), 3);
+        }
+    }
+}
+
+#[test]
+fn a_journal_runs_over_a_script_disk(rt: HostRuntime) {
+    let alloc = rt.alloc();
+    let mut journal = Fresh::new(&rt, alloc).scripted(&rt, alloc);
+    let batch = batch_of(&rt, alloc, journal.next(), b'1');
+    journal.reserve().expect(&rt, "memory");
+    if journal.dead().is_some() || batch.first() != journal.next() {
+        panic!(rt; "a journal that lives");
+    }
+    assert_eq!(rt; journal.push(batch, false), 1);
+    journal.stall(Side::Primary, 1);
+    assert_eq!(rt; journal.close(), Ok(()));
+    assert_eq!(rt; (journal.segments(), journal.acked()), (2, 1));
+    let disk = journal.into_disk().into_inner();
+    assert_sent(&rt, &disk, 1, &TWO_FRAMES[..28]);
+}
+
+/// How many records the long run pushes.
+const RECORDS: u64 = 12;
+
+/// Makes so many steps of the long run, in which each side stalls once and every third record is to be synced. Answers
+/// how many steps it made.
+fn long_run(rt: &impl Abort, alloc: Global, steps: u32) -> (Journal<MemDisk>, u32) {
+    let mut journal = journal_of(rt, alloc, 2);
+    let mut made = 0u32;
+    for number in 0..RECORDS {
+        if number == 3 {
+            journal.stall(Side::Primary, 5);
+        }
+        if number == 7 {
+            journal.stall(Side::Secondary, 4);
+        }
+        let digit = b'0'.wrapping_add((number % 10) as u8);
+        push(rt, alloc, &mut journal, digit, number % 3 == 2);
+        for _ in 0..3 {
+            if made == steps {
+                return (journal, made);
+            }
+            step(rt, &mut journal);
+            made = made.wrapping_add(1);
+        }
+    }
+    for _ in 0..1_000 {
+        if made == steps || step(rt, &mut journal) == Step::Idle {
+            break;
+        }
+        made = made.wrapping_add(1);
+    }
+    (journal, made)
+}
+
+/// What a crash leaves behind the stable bytes of each segment.
+#[derive(Clone, Copy, Debug, PartialEq, Eq)]
+enum Tail {
+    Nothing,
+    AllSent,
+    LastByteChanged,
+}
+
+/// How many bytes of the segment a crash leaves in any case.
+fn stable_len(image: &MemDisk, index: u32) -> usize {
+    match image.content(side_of(index), segment_at(index)) {
+        Some(bytes) => bytes.len(),
+        None => 0,
+    }
+}
+
+/// The bytes sent to a segment behind its stable ones, changed as the tail says.
+fn tail_of(
+    rt: &impl Abort,
+    alloc: Global,
+    disk: &MemDisk,
+    index: u32,
+    stable: usize,
+    tail: Tail,
+) -> Option<Blob> {
+    let sent = disk.sent(side_of(index), segment_at(index))?;
+    let mut bytes = Vec::from_slice(alloc, sent.get(stable..)?).expect(rt, "memory");
+    if tail == Tail::LastByteChanged
+        && let Some(last) = bytes.last_mut()
+    {
+        *last ^= 1;
+    }
+    if tail == Tail::Nothing {
+        return None;
+    }
+    Some(Blob::copy_of(alloc, bytes.as_slice()).expect(rt, "memory"))
+}
+
+/// The pick of an image in which each segment has this tail behind its stable bytes, as they stand in that image.
+fn pick_of(
+    rt: &impl Abort,
+    alloc: Global,
+    disk: &MemDisk,
+    least: &MemDisk,
+    tail: Tail,
+) -> CrashPick {
+    let mut files = FilePicks::new(alloc);
+    for index in 0..10 {
+        let pushed = files.push(FilePick {
+            side: side_of(index),
+            name: segment_at(index),
+            tail: tail_of(rt, alloc, disk, index, stable_len(least, index), tail),
+        });
+        assert!(rt; pushed.is_ok());
+    }
+    CrashPick { files }
+}
+
+/// The disk of the long run after so many steps, with how much was acked and how much was pushed.
+fn stopped(rt: &impl Abort, alloc: Global, steps: u32) -> (MemDisk, u64, u64) {
+    let (journal, _) = long_run(rt, alloc, steps);
+    let (acked, len) = (journal.acked(), journal.len());
+    (journal.into_disk(), acked, len)
+}
+
+/// After so many steps of the long run a crash with this tail leaves the first of the records, with all that were acked.
+fn crash(rt: &impl Abort, alloc: Global, steps: u32, tail: Tail) {
+    let none = CrashPick {
+        files: FilePicks::new(alloc),
+    };
+    let (disk, _, _) = stopped(rt, alloc, steps);
+    let least = disk.crash(&none).expect(rt, "memory");
+    let (disk, acked, len) = stopped(rt, alloc, steps);
+    let pick = pick_of(rt, alloc, &disk, &least, tail);
+    assert!(rt; disk.chance_free(&pick).expect(rt, "memory"));
+    let mut image = disk.crash(&pick).expect(rt, "memory");
+    let found = match recover(alloc, &mut image, Mode::Strict) {
+        Ok(found) => found,
+        Err(_) => panic!(rt; "after {steps} steps the image recovers"),
+    };
+    let count = found.batches.len() as u64;
+    assert!(rt;
+        acked <= count && count <= len,
+        "after {steps} steps {count}"
+    );
+    for (number, batch) in found.batches.as_slice().iter().enumerate() {
+        assert_eq!(rt; batch.first, BASE.wrapping_add(number as u64));
+        let digit = [b'0'.wrapping_add((number % 10) as u8)];
+        match batch.entries.as_slice() {
+            [Entry::Set { value, .. }] => assert!(rt; value.as_slice() == digit.as_slice()),
+            _ => panic!(rt; "one Set"),
+        }
+    }
+}
+
+#[test]
+fn a_stop_after_each_step_of_a_long_run(rt: HostRuntime) {
+    let alloc = rt.alloc();
+    let (journal, steps) = long_run(&rt, alloc, 1_000);
+    assert!(rt; 36 <= steps && steps < 1_000);
+    assert!(rt; 2 < journal.segments());
+    for made in 0..=steps {
+        for tail in [Tail::Nothing, Tail::AllSent, Tail::LastByteChanged] {
+            crash(&rt, alloc, made, tail);
+        }
+    }
+}
