@@ -40,6 +40,11 @@ def end(batches, number):
     return f"end batches {batches} next {number}"
 
 
+def closed(number, batches):
+    """The last line of a replay whose batches are all synced, in one segment where there are any."""
+    return f"end visible {number} batches {batches} acked {batches} segments {min(batches, 1)} closed"
+
+
 def done(*texts):
     return Said(lines(*texts), 0)
 
@@ -54,7 +59,7 @@ def fails(side):
 
 def goes_on(answer, number, wal):
     """What a replay says and adds over a store that answers so for the key a, by its next number and WAL."""
-    text = lines(f"s0 get a {answer} @{number}", f"s0 commit {number} 1", f"end visible {number + 1} batches 1")
+    text = lines(f"s0 get a {answer} @{number}", f"s0 commit {number} 1", closed(number + 1, 1))
     return Said(text, 0, {f"wal/{wal:06}.log": log_of([(b"k", b"v")], number, wal)})
 
 

@@ -1,50 +1,62 @@
 -- What a replay comes to behind a recovery, told of the disk as it was before.
-use Rattle.std.proofs.Common.{◌≡◌, ◌≢◌, ◌⊎◌, inl, inr, ℕ, suc, ◌≤◌, Bool, true, false, List, [], ◌∷◌, Option, Some, IsTrue, refl, sym, ap, ◌∙◌, arith, subst}
+use Rattle.std.proofs.Common.{◌≡◌, ◌≢◌, ◌⊎◌, inl, inr, ℕ, suc, ◌≤◌, Bool, true, false, List, [], length, Option, Some, None, IsTrue, refl, sym, ap, ◌∙◌, arith, subst}
 use Rattle.batch_repr.specs.declared.batch.Batch.{Batch}
-use Rattle.disk_face.specs.declared.Side.TheVariants.{Primary}
-use Rattle.disk_face.specs.View.{segment, DiskView, File, Files, files}
-use Rattle.disk_face.specs.Tables.{whole as whole_file}
-use Rattle.disk_face.specs.Image.{IsRested, as_read}
+use Rattle.batch_repr.specs.Batches.{end_after}
+use Rattle.disk_face.specs.declared.Side.{Side}
+use Rattle.disk_face.specs.View.{Place, segment, DiskView, File, Files, files}
+use Rattle.disk_face.specs.Image.{IsSound, IsRested, as_read, dirs_as_read}
 use Rattle.disk_face.specs.Calls.{GoesOn}
 use Rattle.disk_face.proofs.Moments.{rose_later}
-use Rattle.disk_face.proofs.Places.{same_place}
-use Rattle.wal_recovery.specs.Listing.{Stored, StandsIn, IsNextWal}
+use Rattle.log_writer.specs.Fits.{IsUnsent}
+use Rattle.failover_writer.specs.Ranges.{side_at, AreUnsent}
+use Rattle.failover_writer.specs.Answered.{FaultsRose}
+use Rattle.failover_writer.proofs.Opening.{read_synced, recovered_opens}
+use Rattle.wal_recovery.specs.Listing.{Stored, StandsIn, name_in, IsNextWal}
 use Rattle.wal_recovery.specs.declared.reports.Mode.TheVariants.{Strict}
 use Rattle.wal_recovery.specs.Recovering.{Recovers}
-use Rattle.wal_recovery.specs.Resting.{IsStable, AreSegmentsStable, IsAsOrSynced, OnlySynced}
+use Rattle.wal_recovery.specs.Resting.{AreSegmentsStable, IsAsOrSynced, OnlySynced}
 use Rattle.wal_top.specs.declared.script.Act.{Act}
+use Rattle.wal_top.specs.declared.replies.JournalEnd.{JournalEnd}
 use Rattle.wal_top.specs.declared.status.Status.{Status}
 use Rattle.wal_top.specs.declared.status.Status.TheVariants.{Read}
-use Rattle.wal_top.specs.Log.{LAST_WAL, directories, log_place, log_bytes, OthersStay, StoresLog, LogsBatches}
-use Rattle.wal_top.specs.Storing.{HasNoLog, OthersSame, KeepsLog}
+use Rattle.wal_top.specs.Replay.{FIRST}
+use Rattle.wal_top.specs.Log.{LAST_WAL, directories, OthersStay, PollsLeft, EndsAs, LogsBatches}
+use Rattle.wal_top.specs.Journaling.{OthersSame, HasEnded}
 use Rattle.wal_top.specs.Outcomes.{Unrecovered, failed, refused}
-use Rattle.wal_top.specs.Doing.{ReplaysOver, unlogged, short, whole, ComesTo, unrecovered, last_wal, unwritten, limited, committed, ScriptComesTo, bad_line, asked}
+use Rattle.wal_top.specs.Doing.{IsShort, status_after, ReplaysOver, ReplaysActs, ComesTo, unrecovered, last_wal, dead, limited, committed, ScriptComesTo, bad_line, asked}
 
--- ---- the next WAL has no log yet
+-- ---- nothing was sent to a segment of the next WAL
 
 -- a file that is created is read
-reads_created : (o : Option File) (f : File) → o ≡ Some f → f.created ≡ true → as_read o ≡ Some f.reads
-reads_created o f is created = ap as_read is ∙ rw created refl
+read_created : (f : File) → f.created ≡ true → as_read (Some f) ≡ Some f.reads
+read_created f is = rw is refl
 
-pub no_log : (wal : ℕ) (old new : Files) (view : DiskView) → files view ≡ old → IsNextWal (directories view) wal → wal ≤ LAST_WAL → OnlySynced old new → HasNoLog wal new
-no_log wal old new view is next within only f here = go f.created refl
+unsent : (wal index : ℕ) (side : Side) (now : Files) → ((p : Place) (f : File) → now p ≡ Some f → IsSound p f) → IsNextWal (dirs_as_read now) wal → wal ≤ LAST_WAL → index ≤ 999 → IsUnsent (now (segment side (name_in wal index)))
+unsent wal index side now sound next within low = go (now place) refl
   where
-    was : IsAsOrSynced (old (log_place wal)) (new (log_place wal)) → f.created ≡ true → (g : File) × (old (log_place wal) ≡ Some g) × (g.created ≡ true)
-    was (inl same) created = (f, sym same ∙ here, created)
-    was (inr (g, before, now)) created =
-        let e : record g { stable = g.done } ≡ f = same_some (sym now ∙ here) in
-        (g, before, ap (λ (x : File). x.created) e ∙ created)
-      where
-        same_some : {a b : File} → Some a ≡ Some b → a ≡ b
-        same_some e = cc
+    place : Place
+    place = segment side (name_in wal index)
 
-    go : (created : Bool) → f.created ≡ created → f.created ≡ false
-    go false e = e
-    go true e =
-        let before = was (only (log_place wal)) e in
-        let stored : Stored = record { side = Primary; index = 0; content = before.0.reads } in
-        let stands = next.above wal stored ((omega (arith, within), omega arith), ap (λ (fs : Files). as_read (fs (log_place wal))) is ∙ reads_created (old (log_place wal)) before.0 before.1 before.2) in
+    not_created : (f : File) → now place ≡ Some f → (made : Bool) → f.created ≡ made → f.created ≡ false
+    not_created f is false e = e
+    not_created f is true e =
+        let stored : Stored = record { side = side; index = index; content = f.reads } in
+        let stands = next.above wal stored ((within, low), ap as_read is ∙ read_created f e) in
         absurd (omega (arith, stands))
+
+    same_some : {a b : File} → Some a ≡ Some b → a ≡ b
+    same_some e = cc
+
+    go : (o : Option File) → now place ≡ o → IsUnsent (now place)
+    go None is = subst IsUnsent (sym is) (tt, λ g here. absurd cc)
+    go (Some f) is =
+        let none = not_created f is f.created refl in
+        subst IsUnsent (sym is) (none, λ g here. subst (λ (h : File). h.sent ≡ []) (same_some here) ((sound place f is).1 none))
+
+pub are_unsent : (wal : ℕ) (old now : Files) (v : DiskView) → files v ≡ now → ((p : Place) (f : File) → now p ≡ Some f → IsSound p f) → IsNextWal (dirs_as_read old) wal → wal ≤ LAST_WAL → OnlySynced old now → AreUnsent wal 0 v
+are_unsent wal old now v is sound next within only index low high =
+    subst (λ (fs : Files). IsUnsent (fs (segment (side_at index) (name_in wal index)))) (sym is)
+    (unsent wal index (side_at index) now sound (subst (λ (d : _). IsNextWal d wal) (sym (read_synced old now only)) next) within high)
 
 -- ---- what follows a recovery
 
@@ -52,40 +64,51 @@ module _ (old mid new : DiskView) (wal : ℕ) (tells : Bool) (only : IsTrue tell
   pub others_stay : (IsTrue tells → OthersSame wal (files mid) (files new)) → IsTrue tells → OthersStay wal (files old) (files new)
   others_stay same told p elsewhere = subst (IsAsOrSynced (files old p)) (sym (same told p elsewhere)) (only told p)
 
-  stored_since : (batches : List Batch) → (IsTrue tells → KeepsLog wal batches (files mid) (files new)) → (IsTrue tells → OthersSame wal (files mid) (files new)) → IsTrue tells → StoresLog wal batches (files old) (files new)
-  stored_since batches keeps same told =
-      let k = keeps told in
-      record {
-        log = λ some. (k.log some).log;
-        images = λ some. (k.log some).images;
-        nothing = λ none. subst (IsAsOrSynced (files old (log_place wal))) (sym (k.nothing none)) (only told (log_place wal));
-        others = others_stay same told;
+  module _ (base batches : List Batch) (end : JournalEnd) (goes : GoesOn old mid) (ended : HasEnded tells mid wal (end_after FIRST base) batches end new) where
+    rose_since : FaultsRose mid new → FaultsRose old new
+    rose_since (side, rose) = (side, rose_later (old.faults side) (mid.faults side) (new.faults side) (goes.faults side) rose)
+
+    more_since : FaultsRose mid new ⊎ PollsLeft mid → FaultsRose old new ⊎ PollsLeft old
+    more_since (inl rose) = inl (rose_since rose)
+    more_since (inr (side, left)) = inr (side, omega (arith, left, goes.polls side))
+
+    ends_since : EndsAs (length batches) end old new
+    ends_since =
+        let e = ended.ends in
+        record { within = e.within; all = e.all; rests = e.rests; begun = e.begun; none = e.none; more = λ many. more_since (e.more many); failed = λ died. rose_since (e.failed died); ten = e.ten }
+
+    module _ (stable : IsTrue tells → IsRested (files old) → AreSegmentsStable (files mid)) (within : wal ≤ LAST_WAL) (next : IsTrue tells → IsNextWal (directories old) wal) (recovers : IsTrue tells → Recovers (directories old) base) where
+      logs_since : LogsBatches tells base batches end.acked old new
+      logs_since = record {
+        wal = wal;
+        within = within;
+        next = next;
+        others = others_stay ended.others;
+        nothing = λ told empty p. subst (IsAsOrSynced (files old p)) (sym (ended.nothing told empty p)) (only told p);
+        recovers = λ told rested. ended.recovers told base (recovered_opens wal base (files old) (files mid) rested (only told) (stable told rested) (recovers told) (next told));
+        stable = λ told rested side name f listed other is. stable told rested side name f listed (sym (ended.others told (segment side name) other) ∙ is);
       }
 
-  -- every segment is stable in full, where those that were recovered are
-  stable_since : (batches : List Batch) → KeepsLog wal batches (files mid) (files new) → OthersSame wal (files mid) (files new) → AreSegmentsStable (files mid) → AreSegmentsStable (files new)
-  stable_since batches keeps same stable side name f named here = elim (same_place (segment side name) (log_place wal)) [
-    | inl e ↦ at_log batches keeps e
-    | inr elsewhere ↦ stable side name f named (sym (same (segment side name) elsewhere) ∙ here)
-  ]
-    where
-      of_whole : (bytes : List ℕ) → Some (whole_file bytes) ≡ Some f → IsStable f
-      of_whole bytes e = let same_file : whole_file bytes ≡ f = cc in subst IsStable same_file (record { created = refl; stays = refl; whole = refl })
-
-      at_log : (bs : List Batch) → KeepsLog wal bs (files mid) (files new) → segment side name ≡ log_place wal → IsStable f
-      at_log [] k e = stable side name f named (ap (files mid) e ∙ sym (k.nothing refl) ∙ ap (files new) (sym e) ∙ here)
-      at_log (b ∷ bs) k e = of_whole (log_bytes wal (b ∷ bs)) (sym (k.log (λ none. cc)).log ∙ ap (files new) (sym e) ∙ here)
-
-  logs_since : (batches : List Batch) → (IsTrue tells → IsRested (files old) → AreSegmentsStable (files mid)) → wal ≤ LAST_WAL → (IsTrue tells → IsNextWal (directories old) wal) → (IsTrue tells → KeepsLog wal batches (files mid) (files new)) → (IsTrue tells → OthersSame wal (files mid) (files new)) → LogsBatches tells batches old new
-  logs_since batches stable within next keeps same =
-      record { wal = wal; within = within; next = next; log = stored_since batches keeps same; rested = λ told rested. stable_since batches (keeps told) (same told) (stable told rested) }
-
   pub comes_since : (acts : List Act) (base : List Batch) (status : Status) (text : List ℕ) → (IsTrue tells → IsRested (files old) → AreSegmentsStable (files mid)) → wal ≤ LAST_WAL → GoesOn old mid → (IsTrue tells → Recovers (directories old) base) → (IsTrue tells → IsNextWal (directories old) wal)
-      → (IsTrue tells → OthersSame wal (files mid) (files new)) → ReplaysOver base acts wal tells mid new status text → ComesTo acts tells old new status text
-  comes_since acts base _ _ stable within goes recovers next same (unlogged batches text is rose) =
-      unwritten batches text (record { base = base; recovers = recovers; answers = is }) (rose_later (old.faults Primary) (mid.faults Primary) (new.faults Primary) (goes.faults Primary) rose)
-  comes_since acts base _ _ stable within goes recovers next same (short batches text is lacks keeps) = limited batches text (record { base = base; recovers = recovers; answers = is }) lacks (logs_since batches stable within next keeps same)
-  comes_since acts base _ _ stable within goes recovers next same (whole batches text is all keeps) = committed batches text (record { base = base; recovers = recovers; answers = is }) all (logs_since batches stable within next keeps same)
+      → ReplaysOver base acts wal tells mid new status text → ComesTo acts tells old new status text
+  comes_since acts base status text stable within goes recovers next r = by r.end.died refl r.limited refl
+    where
+      replays : ReplaysActs acts tells old new r.batches r.end text
+      replays = record {
+        base = base;
+        recovers = recovers;
+        answers = r.answers;
+        ends = ends_since base r.batches r.end goes r.ended;
+        logs = logs_since base r.batches r.end goes r.ended stable within next recovers;
+      }
+
+      as_status : (d l : Bool) → r.end.died ≡ d → r.limited ≡ l → ComesTo acts tells old new (status_after d l) text → ComesTo acts tells old new status text
+      as_status d l is also comes = subst (λ (s : Status). ComesTo acts tells old new s text) (sym (r.status_is ∙ ap (λ (b : Bool). status_after b r.limited) is ∙ ap (status_after d) also)) comes
+
+      by : (d : Bool) → r.end.died ≡ d → (l : Bool) → r.limited ≡ l → ComesTo acts tells old new status text
+      by true is l also = as_status true l is also (dead r.batches r.end text replays is)
+      by false is true also = as_status false true is also (limited r.batches r.end text replays is (subst (λ (b : Bool). IsShort b acts r.batches) also (r.short is)))
+      by false is false also = as_status false false is also (committed r.batches r.end text replays is (subst (λ (b : Bool). IsShort b acts r.batches) also (r.short is)))
 
 -- 1 where no segment stands, or 1 more than a segment's WAL
 abbrev IsLeast : DiskView → ℕ → Type 0
@@ -107,12 +130,12 @@ never_reads script tells old new _ _ (bad_line number bad same) = λ h. cc
 never_reads script tells old new _ _ (asked acts status text asks comes) = of_acts status text comes
   where
     of_disk : (s : Status) (t : List ℕ) → Unrecovered Strict tells old new s t → s ≢ Read
-    of_disk _ _ (failed side rose only) = λ h. cc
+    of_disk _ _ (failed side rose only rests) = λ h. cc
     of_disk _ _ (refused fault real is same) = λ h. cc
 
     of_acts : (s : Status) (t : List ℕ) → ComesTo acts tells old new s t → s ≢ Read
     of_acts _ _ (unrecovered s t u) = of_disk s t u
-    of_acts _ _ (last_wal base next recovers is past only) = λ h. cc
-    of_acts _ _ (unwritten batches t r rose) = λ h. cc
-    of_acts _ _ (limited batches t r lacks logs) = λ h. cc
-    of_acts _ _ (committed batches t r all logs) = λ h. cc
+    of_acts _ _ (last_wal base next recovers is past only rests) = λ h. cc
+    of_acts _ _ (dead batches end t r died) = λ h. cc
+    of_acts _ _ (limited batches end t r lives lacks) = λ h. cc
+    of_acts _ _ (committed batches end t r lives all) = λ h. cc

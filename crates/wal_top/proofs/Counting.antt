@@ -1,5 +1,5 @@
 -- A replay whose commits all have their batches ends behind all their numbers, and where these are within the limit each commit has its batch.
-use Rattle.std.proofs.Common.{◌≡◌, ℕ, zero, suc, ◌+◌, ◌≤◌, List, [], ◌∷◌, ◌++◌, length, take, map, Some, refl, sym, ap, ◌∙◌, arith, subst}
+use Rattle.std.proofs.Common.{◌≡◌, ℕ, zero, suc, Bool, true, false, ◌+◌, ◌≤◌, List, [], ◌∷◌, ◌++◌, length, take, map, Some, refl, sym, ap, ◌∙◌, arith, subst}
 use Rattle.std.specs.Prelude.{sum_by, slice_get}
 use Rattle.std.specs.List.{filter_map}
 use Rattle.std.proofs.lemmas.List.{length-append, take_at}
@@ -11,7 +11,8 @@ use Rattle.batch_repr.specs.Batches.{count_of, end_of, IsContiguous, end_after}
 use Rattle.wal_top.proofs.Numbering.{end_after-append}
 use Rattle.wal_top.specs.declared.script.Act.{Act}
 use Rattle.wal_top.specs.declared.script.Act.TheVariants.{Commit, Get}
-use Rattle.wal_top.specs.Replay.{FIRST, committed, numbers_taken, visible_after, Answers, numbered, limited, read, AnswersAll, IsReplayText, AllCommitted, LacksBatch}
+use Rattle.wal_top.specs.declared.replies.JournalEnd.{JournalEnd}
+use Rattle.wal_top.specs.Replay.{FIRST, committed, numbers_taken, visible_after, Answers, numbered, limited, dead, read, AnswersAll, IsReplayText, AllCommitted, LacksBatch}
 
 -- ---- all numbers
 
@@ -35,8 +36,8 @@ taken_sum [] = refl
 taken_sum (Commit entries ∷ acts) = omega (arith, sum_by-cons numbers_taken (Commit entries) acts, taken_sum acts)
 taken_sum (Get key ∷ acts) = omega (arith, sum_by-cons numbers_taken (Get key) acts, taken_sum acts)
 
-pub all_numbers : (base : List Batch) (acts : List Act) (batches : List Batch) (text : List ℕ) → IsReplayText base acts batches text → AllCommitted acts batches → end_after FIRST base + sum_by numbers_taken acts ≤ NUMBER_MAX
-all_numbers base acts batches text is all =
+pub all_numbers : (base : List Batch) (acts : List Act) (batches : List Batch) (end : JournalEnd) (text : List ℕ) → IsReplayText base acts batches end text → AllCommitted acts batches → end_after FIRST base + sum_by numbers_taken acts ≤ NUMBER_MAX
+all_numbers base acts batches end text is all =
     let sums : sum_of (map (λ (b : Batch). b.entries) batches) ≡ sum_by numbers_taken acts = ap sum_of all ∙ sym (taken_sum acts) in
     omega (arith, is.within, end_after-append FIRST base batches, end_sum (end_after FIRST base) batches (contiguous_back FIRST base batches is.numbered), sums)
 
@@ -56,25 +57,26 @@ visible_next from (b ∷ store) (suc n) batch c is =
     let next : suc n + 1 ≡ suc (n + 1) = omega arith in ap (λ (k : ℕ). end_after from (take k (b ∷ store))) next ∙ visible_next (end_of b) store n batch c.2 is
 
 -- an act that reaches no limit, where those behind it reach none
-act_unlimited : (store : List Batch) (n : ℕ) (act : Act) (acts : List Act) (end next : ℕ) (line : List ℕ) → IsContiguous FIRST store → Answers store n act next line → visible_after store n + (numbers_taken act + sum_by numbers_taken acts) ≤ NUMBER_MAX
+act_unlimited : (store : List Batch) (died : Bool) (n : ℕ) (act : Act) (acts : List Act) (end next : ℕ) (line : List ℕ) → died ≡ false → IsContiguous FIRST store → Answers store died n act next line → visible_after store n + (numbers_taken act + sum_by numbers_taken acts) ≤ NUMBER_MAX
     → ((k : ℕ) → k ≡ next → visible_after store k + sum_by numbers_taken acts ≤ NUMBER_MAX → end ≡ k + length (filter_map committed acts)) → end ≡ n + length (filter_map committed (act ∷ acts))
-act_unlimited store n _ acts end _ _ c (numbered batch at) room rest =
+act_unlimited store died n _ acts end _ _ lives c (numbered batch at) room rest =
     let up = visible_next FIRST store n batch c at in
     let more = rest (n + 1) refl (omega (arith, up, room)) in
     omega (arith, more)
-act_unlimited store n _ acts end _ _ c (limited entries past) room rest = absurd (omega (arith, past, room))
-act_unlimited store n _ acts end _ _ c (read key) room rest = rest n refl (omega (arith, room))
+act_unlimited store died n _ acts end _ _ lives c (limited entries past) room rest = absurd (omega (arith, past, room))
+act_unlimited store died n _ acts end _ _ lives c (dead entries has_died) room rest = let clash : true ≡ false = sym has_died ∙ lives in absurd cc
+act_unlimited store died n _ acts end _ _ lives c (read key) room rest = rest n refl (omega (arith, room))
 
-none_limited : (store : List Batch) (n : ℕ) (acts : List Act) (end : ℕ) (lines : List ℕ) → IsContiguous FIRST store → AnswersAll store n acts end lines → visible_after store n + sum_by numbers_taken acts ≤ NUMBER_MAX
+none_limited : (store : List Batch) (died : Bool) (n : ℕ) (acts : List Act) (end : ℕ) (lines : List ℕ) → died ≡ false → IsContiguous FIRST store → AnswersAll store died n acts end lines → visible_after store n + sum_by numbers_taken acts ≤ NUMBER_MAX
     → end ≡ n + length (filter_map committed acts)
 unfolding AnswersAll
-none_limited store n [] end lines c h room = omega (arith, h.0)
-none_limited store n (act ∷ acts) end lines c h room =
-    act_unlimited store n act acts end h.0 h.1 c h.3 (omega (arith, room, sum_by-cons numbers_taken act acts))
-    (λ k is fits. none_limited store k acts end h.2 c (subst (λ (m : ℕ). AnswersAll store m acts end h.2) (sym is) h.4) fits)
+none_limited store died n [] end lines lives c h room = omega (arith, h.0)
+none_limited store died n (act ∷ acts) end lines lives c h room =
+    act_unlimited store died n act acts end h.0 h.1 lives c h.3 (omega (arith, room, sum_by-cons numbers_taken act acts))
+    (λ k is fits. none_limited store died k acts end h.2 lives c (subst (λ (m : ℕ). AnswersAll store died m acts end h.2) (sym is) h.4) fits)
 
-pub none_lacks : (base : List Batch) (acts : List Act) (batches : List Batch) (text : List ℕ) → IsReplayText base acts batches text → end_after FIRST base + sum_by numbers_taken acts ≤ NUMBER_MAX → LacksBatch acts batches → ⊥
-none_lacks base acts batches text is room lacks =
+pub none_lacks : (base : List Batch) (acts : List Act) (batches : List Batch) (end : JournalEnd) (text : List ℕ) → end.died ≡ false → IsReplayText base acts batches end text → end_after FIRST base + sum_by numbers_taken acts ≤ NUMBER_MAX → LacksBatch acts batches → ⊥
+none_lacks base acts batches end text lives is room lacks =
     let front : visible_after (base ++ batches) (length base) ≡ end_after FIRST base = ap (end_after FIRST) (take_at base batches (length base) refl) in
-    let all = none_limited (base ++ batches) (length base) acts (length (base ++ batches)) is.lines is.numbered is.answers (omega (arith, front, room)) in
+    let all = none_limited (base ++ batches) end.died (length base) acts (length (base ++ batches)) is.lines lives is.numbered is.answers (omega (arith, front, room)) in
     omega (arith, all, length-append base batches, lacks)

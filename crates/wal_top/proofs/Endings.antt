@@ -1,12 +1,12 @@
 -- How a run ends, by what it had to say and by how writing it ended.
-use Rattle.std.proofs.Common.{◌≡◌, ◌≢◌, ◌⊎◌, inl, inr, ℕ, ◌+◌, ◌<◌, ◌≤◌, Bool, List, [], ◌∷◌, ◌++◌, length, Option, Some, None, refl, sym, ap, ◌∙◌, arith, subst}
-use Rattle.std.specs.Prelude.{IfSome, IsTrue, sum_by}
+use Rattle.std.proofs.Common.{◌≡◌, ◌≢◌, ◌⊎◌, inl, inr, ℕ, ◌+◌, ◌<◌, ◌≤◌, Bool, List, [], ◌∷◌, ◌++◌, length, Option, Some, None, Result, Ok, refl, sym, ap, ◌∙◌, arith, subst}
+use Rattle.std.specs.Prelude.{IfSome, IfOk, IsTrue, sum_by}
+use Rattle.wal_base.specs.declared.error.NoMemory.{NoMemory as Shortage}
 use Rattle.std.proofs.lemmas.List.{append-nil, length-append}
 use Rattle.wal_base.specs.Told.{told_front}
 use Rattle.batch_repr.specs.declared.batch.Batch.{Batch}
 use Rattle.batch_repr.specs.declared.limits.TheConstants.{NUMBER_MAX}
 use Rattle.batch_repr.specs.Batches.{end_after}
-use Rattle.disk_face.specs.declared.Side.TheVariants.{Primary}
 use Rattle.disk_face.specs.View.{DiskView}
 use Rattle.wal_recovery.specs.declared.reports.Mode.{Mode}
 use Rattle.wal_recovery.specs.declared.reports.Mode.TheVariants.{Strict, Lenient}
@@ -22,6 +22,7 @@ use Rattle.wal_recovery.proofs.OneLenient.{lenient_or_refused}
 use Rattle.wal_top.specs.declared.status.Status.{Status}
 use Rattle.wal_top.specs.declared.status.Status.TheVariants.{Done, Usage, Script, Read, Write, Disk, Refused, NoMemory, Limit}
 use Rattle.wal_top.specs.declared.script.Act.{Act}
+use Rattle.wal_top.specs.declared.replies.JournalEnd.{JournalEnd}
 use Rattle.wal_top.specs.Words.{IsCommand, IsReplay, IsRecover, IsDump, RecoversIn}
 use Rattle.wal_top.specs.Cutting.{lines_of}
 use Rattle.wal_top.specs.Script.{LinesSay, IsAccepted, IsScript, IsFirstBad}
@@ -32,9 +33,20 @@ use Rattle.wal_top.specs.Reading.{ReadsWhole, ReadsScript, TellsScript, TellsNoS
 use Rattle.wal_top.specs.Outcomes.{RefusesScript, ReachesDisk, Unrecovered, Replays, IsDone, IsLimited, FailsDisk, RefusesDirectories, HasToSay, Wrote, WrotePart, WrotePartOf, YieldsTo, Ended, IsBeforeDisk, IsCalm}
 use Rattle.wal_top.specs.Outcomes as outcomes
 use Rattle.wal_top.specs.Outcomes.{usage, read_fault, no_script, refused, failed, limited, done, too_long, bad_line, whole, fault, shortage}
+use Rattle.wal_top.specs.declared.said.Said.{Said}
+use Rattle.wal_top.proofs.Saying.{ok_then}
 use Rattle.wal_top.proofs.OneScript.{one_script}
 use Rattle.wal_top.proofs.Coming.{one_next_wal}
 use Rattle.wal_top.proofs.Counting.{all_numbers, none_lacks}
+
+-- ---- what an answer has to say
+
+pub told_says : (words : List (List ℕ)) (before after : Option (List ℕ)) (tells : Bool) (old new : DiskView) (r : Result Said Shortage) (said : Said) → r ≡ Ok said → IfOk r (λ s. HasToSay words before after tells old new s.status s.text)
+    → HasToSay words before after tells old new said.status said.text
+told_says words before after tells old new r said e p = ok_then (λ (s : Said). HasToSay words before after tells old new s.status s.text) r said e p
+
+pub told_reads : (Failed : Type 0) (r : Result Said Shortage) (said : Said) → r ≡ Ok said → IfOk r (λ s. s.status ≡ Read → Failed) → said.status ≡ Read → Failed
+told_reads Failed r said e p = ok_then (λ (s : Said). s.status ≡ Read → Failed) r said e p
 
 -- ---- how writing ended
 
@@ -134,17 +146,17 @@ refused_leniently words Strict view why dump (inr recover) r = absurd (not_shown
 
 -- why directories are refused
 refusal_of : (mode : Mode) (tells : Bool) (old new : DiskView) (status : Status) (text : List ℕ) → Unrecovered mode tells old new status text → status ≡ Refused → (why : RecoverFault) × (IsTrue tells → IsRefusedBy mode (directories old) why)
-refusal_of mode tells old new _ _ (outcomes.failed side rose only) e = absurd cc
+refusal_of mode tells old new _ _ (outcomes.failed side rose only rests) e = absurd cc
 refusal_of mode tells old new _ _ (outcomes.refused why real is same) e = (why, is)
 
 -- a side that counts no fault has not failed
 calm_recovery : (mode : Mode) (tells : Bool) (old new : DiskView) (status : Status) (text : List ℕ) → Unrecovered mode tells old new status text → status ≡ Disk → IsCalm old new → ⊥
-calm_recovery mode tells old new _ _ (outcomes.failed side rose only) e calm = calm side rose
+calm_recovery mode tells old new _ _ (outcomes.failed side rose only rests) e calm = calm side rose
 calm_recovery mode tells old new _ _ (outcomes.refused why real is same) e calm = absurd cc
 
 never_failed : (words : List (List ℕ)) (before after : Option (List ℕ)) (tells : Bool) (old new : DiskView) (text : List ℕ) → FailsDisk words before after tells old new text → IsCalm old new → ⊥
 never_failed words before after tells old new _ (outcomes.in_recovery mode text is reaches u) calm = calm_recovery mode tells old new Disk text u refl calm
-never_failed words before after tells old new _ (outcomes.unwritten acts batches text is r rose) calm = calm Primary rose
+never_failed words before after tells old new _ (outcomes.dead acts batches end text is r died) calm = let rose = r.ends.failed died in calm rose.0 rose.1
 
 -- a status that is none of the three comes behind the disk
 not_before : (status : Status) → status ≢ Usage → status ≢ Script → status ≢ Read → IsBeforeDisk status → ⊥
@@ -252,14 +264,14 @@ module _ (words : List (List ℕ)) (before after : Option (List ℕ)) (tells : B
   -- whoever says something else has a command
   failed_command : (text : List ℕ) → FailsDisk words before after tells old new text → IsCommand words
   failed_command _ (outcomes.in_recovery mode text is reaches u) = is_command words mode is
-  failed_command _ (outcomes.unwritten acts batches text is r rose) = inl is
+  failed_command _ (outcomes.dead acts batches end text is r died) = inl is
 
   limited_replay : (text : List ℕ) → IsLimited words before after tells old new text → IsReplay words
-  limited_replay _ (outcomes.of_numbers acts batches text is r lacks logs) = is
-  limited_replay _ (outcomes.of_wals acts base next is reads recovers next_is past only) = is
+  limited_replay _ (outcomes.of_numbers acts batches end text is r lives lacks) = is
+  limited_replay _ (outcomes.of_wals acts base next is reads recovers next_is past only rests) = is
 
   done_command : (text : List ℕ) → IsDone words before after tells old new text → IsCommand words
-  done_command _ (outcomes.replayed acts batches text is r all logs) = inl is
+  done_command _ (outcomes.replayed acts batches end text is r lives all) = inl is
   done_command _ (outcomes.recovered batches store is unread recovers printed only rested) = inr (inl is)
   done_command _ (outcomes.dumped batches reports is unread recovers are same) = inr (inr is)
 
@@ -289,14 +301,14 @@ module _ (words : List (List ℕ)) (before after : Option (List ℕ)) (tells : B
 
   failed_accepted : (text : List ℕ) → IsReplay words → TellsNoScript before → FailsDisk words before after tells old new text → ⊥
   failed_accepted _ replay told (outcomes.in_recovery mode text is reaches u) = reached_accepted replay told reaches
-  failed_accepted _ replay told (outcomes.unwritten acts batches text is r rose) = not_accepted before after acts told r.accepts
+  failed_accepted _ replay told (outcomes.dead acts batches end text is r died) = not_accepted before after acts told r.accepts
 
   limited_accepted : (text : List ℕ) → TellsNoScript before → IsLimited words before after tells old new text → ⊥
-  limited_accepted _ told (outcomes.of_numbers acts batches text is r lacks logs) = not_accepted before after acts told r.accepts
-  limited_accepted _ told (outcomes.of_wals acts base next is reads recovers next_is past only) = not_accepted before after acts told reads
+  limited_accepted _ told (outcomes.of_numbers acts batches end text is r lives lacks) = not_accepted before after acts told r.accepts
+  limited_accepted _ told (outcomes.of_wals acts base next is reads recovers next_is past only rests) = not_accepted before after acts told reads
 
   done_accepted : (text : List ℕ) → IsReplay words → TellsNoScript before → IsDone words before after tells old new text → ⊥
-  done_accepted _ replay told (outcomes.replayed acts batches text is r all logs) = not_accepted before after acts told r.accepts
+  done_accepted _ replay told (outcomes.replayed acts batches end text is r lives all) = not_accepted before after acts told r.accepts
   done_accepted _ replay told (outcomes.recovered batches store is unread recovers printed only rested) = not_recover words replay is
   done_accepted _ replay told (outcomes.dumped batches reports is unread recovers are same) = not_dump words replay is
 
@@ -312,13 +324,13 @@ module _ (words : List (List ℕ)) (before after : Option (List ℕ)) (tells : B
   -- ---- directories that are refused
 
   limited_unrefused : (mode : Mode) (why : RecoverFault) (text : List ℕ) → RecoversIn words mode → IsTrue tells → IsRefusedBy mode (directories old) why → IsLimited words before after tells old new text → ⊥
-  limited_unrefused mode why _ in_mode told not_recovered (outcomes.of_numbers acts batches text is r lacks logs) =
+  limited_unrefused mode why _ in_mode told not_recovered (outcomes.of_numbers acts batches end text is r lives lacks) =
       recovered_or_refused (directories old) r.base why (r.recovers told) (refused_strictly words mode old why (inl is) in_mode not_recovered)
-  limited_unrefused mode why _ in_mode told not_recovered (outcomes.of_wals acts base next is reads recovers next_is past only) =
+  limited_unrefused mode why _ in_mode told not_recovered (outcomes.of_wals acts base next is reads recovers next_is past only rests) =
       recovered_or_refused (directories old) base why (recovers told) (refused_strictly words mode old why (inl is) in_mode not_recovered)
 
   done_unrefused : (mode : Mode) (why : RecoverFault) (text : List ℕ) → RecoversIn words mode → IsTrue tells → IsRefusedBy mode (directories old) why → IsDone words before after tells old new text → ⊥
-  done_unrefused mode why _ in_mode told not_recovered (outcomes.replayed acts batches text is r all logs) =
+  done_unrefused mode why _ in_mode told not_recovered (outcomes.replayed acts batches end text is r lives all) =
       recovered_or_refused (directories old) r.base why (r.recovers told) (refused_strictly words mode old why (inl is) in_mode not_recovered)
   done_unrefused mode why _ in_mode told not_recovered (outcomes.recovered batches store is unread recovers printed only rested) =
       recovered_or_refused (directories old) batches why (recovers told) (refused_strictly words mode old why (inr is) in_mode not_recovered)
@@ -344,22 +356,22 @@ module _ (words : List (List ℕ)) (before after : Option (List ℕ)) (tells : B
 
   module _ (told_words : IsReplay words) (source : TellsScript before) (told : IsTrue tells) (base : List Batch) (next : ℕ) (recovers : Recovers (directories old) base) (next_is : IsNextWal (directories old) next) where
     -- the base and the acts are those
-    replay_told : (acts : List Act) (batches : List Batch) (text : List ℕ) → Replays before after tells old acts batches text → IsReplayText base source.good.acts batches text
-    replay_told acts batches text r =
-        subst (λ (a : List Act). IsReplayText base a batches text) (acts_told before after acts source r.accepts)
-        (subst (λ (b : List Batch). IsReplayText b acts batches text) (recovers_once (directories old) r.base base (r.recovers told) recovers) r.answers)
+    replay_told : (acts : List Act) (batches : List Batch) (end : JournalEnd) (text : List ℕ) → Replays before after tells old new acts batches end text → IsReplayText base source.good.acts batches end text
+    replay_told acts batches end text r =
+        subst (λ (a : List Act). IsReplayText base a batches end text) (acts_told before after acts source r.accepts)
+        (subst (λ (b : List Batch). IsReplayText b acts batches end text) (recovers_once (directories old) r.base base (r.recovers told) recovers) r.answers)
 
     done_within : (text : List ℕ) → IsDone words before after tells old new text → (LAST_WAL < next) ⊎ (NUMBER_MAX < end_after FIRST base + sum_by numbers_taken source.good.acts) → ⊥
-    done_within _ (outcomes.replayed acts batches text is r all logs) (inl past) = omega (arith, past, logs.within, one_next_wal old logs.wal next (logs.next told) next_is)
-    done_within _ (outcomes.replayed acts batches text is r all logs) (inr past) =
-        omega (arith, past, all_numbers base source.good.acts batches text (replay_told acts batches text r) (subst (λ (a : List Act). AllCommitted a batches) (acts_told before after acts source r.accepts) all))
+    done_within _ (outcomes.replayed acts batches end text is r lives all) (inl past) = omega (arith, past, r.logs.within, one_next_wal old r.logs.wal next (r.logs.next told) next_is)
+    done_within _ (outcomes.replayed acts batches end text is r lives all) (inr past) =
+        omega (arith, past, all_numbers base source.good.acts batches end text (replay_told acts batches end text r) (subst (λ (a : List Act). AllCommitted a batches) (acts_told before after acts source r.accepts) all))
     done_within _ (outcomes.recovered batches store is unread rec printed only rested) past = not_recover words told_words is
     done_within _ (outcomes.dumped batches reports is unread rec are same) past = not_dump words told_words is
 
     limited_past : (text : List ℕ) → IsLimited words before after tells old new text → next ≤ LAST_WAL → end_after FIRST base + sum_by numbers_taken source.good.acts ≤ NUMBER_MAX → ⊥
-    limited_past _ (outcomes.of_numbers acts batches text is r lacks logs) within room =
-        none_lacks base source.good.acts batches text (replay_told acts batches text r) room (subst (λ (a : List Act). LacksBatch a batches) (acts_told before after acts source r.accepts) lacks)
-    limited_past _ (outcomes.of_wals acts b n is reads rec n_is past only) within room = omega (arith, past, within, one_next_wal old n next (n_is told) next_is)
+    limited_past _ (outcomes.of_numbers acts batches end text is r lives lacks) within room =
+        none_lacks base source.good.acts batches end text lives (replay_told acts batches end text r) room (subst (λ (a : List Act). LacksBatch a batches) (acts_told before after acts source r.accepts) lacks)
+    limited_past _ (outcomes.of_wals acts b n is reads rec n_is past only rests) within room = omega (arith, past, within, one_next_wal old n next (n_is told) next_is)
 
     pub limited_says_limit : (said : Status) (text : List ℕ) → Says said text → (LAST_WAL < next) ⊎ (NUMBER_MAX < end_after FIRST base + sum_by numbers_taken source.good.acts) → said ≢ Read → IsCalm old new → said ≡ Limit
     limited_says_limit _ _ (usage none unread same) past calm calm_disk = absurd (none (inl told_words))

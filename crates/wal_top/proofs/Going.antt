@@ -1,5 +1,5 @@
--- A replay that goes on act by act: whatever batches follow, the acts so far are answered by the text so far, and the queue holds the batches so far.
-use Rattle.std.proofs.Common.{◌≡◌, ℕ, suc, ◌+◌, ◌<◌, ◌≤◌, Bool, true, false, List, [], ◌∷◌, ◌++◌, length, take, map, Option, Some, refl, sym, ap, ◌∙◌, arith, append_assoc, subst}
+-- A replay that goes on act by act: whatever batches follow, the acts so far are answered by the text so far, and the journal has the batches so far.
+use Rattle.std.proofs.Common.{◌≡◌, ◌≢◌, ℕ, suc, ◌+◌, ◌<◌, ◌≤◌, Bool, true, false, List, [], ◌∷◌, ◌++◌, length, take, map, Option, Some, None, IsTrue, refl, sym, ap, ◌∙◌, arith, append_assoc, subst}
 use Rattle.std.specs.Prelude.{slice_get}
 use Rattle.std.specs.List.{filter_map}
 use Rattle.std.proofs.lemmas.List.{append-nil, length-append, take_at, take_all, map-append}
@@ -7,20 +7,25 @@ use Rattle.wal_base.specs.declared.entry.Entry.{Entry}
 use Rattle.batch_repr.specs.declared.batch.Batch.{Batch}
 use Rattle.batch_repr.specs.declared.limits.TheConstants.{NUMBER_MAX}
 use Rattle.batch_repr.specs.Batches.{count_of, IsContiguous, end_after, answer}
+use Rattle.disk_face.specs.View.{DiskView}
+use Rattle.failover_writer.specs.State.{State, len}
 use Rattle.wal_top.specs.declared.script.Act.{Act}
 use Rattle.wal_top.specs.declared.script.Act.TheVariants.{Commit, Get}
-use Rattle.wal_top.specs.Printing.{commit_line, limit_line, get_line, end_line}
-use Rattle.wal_top.specs.Replay.{FIRST, committed, visible_after, Answers, numbered, limited, read, AnswersAll, LacksBatch}
-use Rattle.record_queue.specs.Queue.{Queue}
-use Rattle.wal_top.specs.Doing.{numbered_behind, Commits, OnlyReplies, DoesAct, IsShort, IsReplay}
+use Rattle.wal_top.specs.declared.replies.JournalEnd.{JournalEnd}
+use Rattle.wal_top.specs.declared.status.Status.{Status}
+use Rattle.wal_top.specs.Printing.{commit_line, limit_line, dead_line, get_line, end_line}
+use Rattle.wal_top.specs.Replay.{FIRST, committed, visible_after, Answers, numbered, limited, dead, read, AnswersAll, LacksBatch}
+use Rattle.wal_top.specs.Journaling.{Runs}
+use Rattle.wal_top.specs.Doing.{numbered_behind, Stage, Commits, OnlyReplies, DoesCommit, commits, past, died, DoesGet, DoesAct, IsShort, EndsRun, IsBegun, ReplaysOver, status_after}
 
 -- one act more behind answered ones
-pub answers_push : (store : List Batch) (n : ℕ) (acts : List Act) (act : Act) (mid end : ℕ) (lines line : List ℕ) → AnswersAll store n acts mid lines → Answers store mid act end line → AnswersAll store n (acts ++ act ∷ []) end (lines ++ line)
+pub answers_push : (store : List Batch) (at_end : Bool) (n : ℕ) (acts : List Act) (act : Act) (mid end : ℕ) (lines line : List ℕ) → AnswersAll store at_end n acts mid lines → Answers store at_end mid act end line
+    → AnswersAll store at_end n (acts ++ act ∷ []) end (lines ++ line)
 unfolding AnswersAll
-answers_push store n [] act mid end lines line h a =
-    (end, line, [], subst (λ (k : ℕ). Answers store k act end line) h.0 a, (refl, refl), ap (λ (l : List ℕ). l ++ line) h.1 ∙ sym (append-nil line))
-answers_push store n (x ∷ acts) act mid end lines line h a =
-    (h.0, h.1, h.2 ++ line, h.3, answers_push store h.0 acts act mid end h.2 line h.4 a, ap (λ (l : List ℕ). l ++ line) h.5 ∙ append_assoc h.1 h.2 line)
+answers_push store at_end n [] act mid end lines line h a =
+    (end, line, [], subst (λ (k : ℕ). Answers store at_end k act end line) h.0 a, (refl, refl), ap (λ (l : List ℕ). l ++ line) h.1 ∙ sym (append-nil line))
+answers_push store at_end n (x ∷ acts) act mid end lines line h a =
+    (h.0, h.1, h.2 ++ line, h.3, answers_push store at_end h.0 acts act mid end h.2 line h.4 a, ap (λ (l : List ℕ). l ++ line) h.5 ∙ append_assoc h.1 h.2 line)
 
 -- ---- what stands behind some batches does not change what they show
 
@@ -39,23 +44,25 @@ get_behind (b ∷ batches) more batch = get_behind batches more batch
 
 -- ---- the acts so far
 
-pub record GoesOn (base : List Batch) (acts : List Act) (batches : List Batch) (rest : List Act) (text : List ℕ) (queue : Queue) (is_limited : Bool) : Type 0 where
+pub record GoesOn (tells : Bool) (base : List Batch) (start : DiskView) (wal : ℕ) (acts : List Act) (stage : Stage) (rest : List Act) : Type 0 where
   pub front : List Act
   pub acts_are : acts ≡ front ++ rest
-  pub store_is : batches ≡ base ++ queue.records
-  pub start : queue.start ≡ 0
-  pub answered : (more : List Batch) → AnswersAll (batches ++ more) (length base) front (length batches) text
-  pub short : IsShort is_limited front queue.records
+  pub own : List Batch
+  pub store_is : stage.batches ≡ base ++ own
+  pub runs : Runs tells start wal (end_after FIRST base) own stage.journal stage.view
+  pub answered : (more : List Batch) (at_end : Bool) → (stage.journal.dead ≢ None → IsTrue at_end) → AnswersAll (stage.batches ++ more) at_end (length base) front (length stage.batches) stage.text
+  pub short : stage.journal.dead ≡ None → IsShort stage.limited front own
 
-pub goes_from : (base : List Batch) (acts : List Act) (batches : List Batch) (text : List ℕ) (queue : Queue) → batches ≡ base → text ≡ [] → queue.records ≡ [] → queue.start ≡ 0 → GoesOn base acts batches acts text queue false
+pub goes_from : (tells : Bool) (base : List Batch) (start : DiskView) (wal : ℕ) (acts : List Act) (stage : Stage) → IsBegun tells base start wal stage → GoesOn tells base start wal acts stage acts
 unfolding AnswersAll
-goes_from base acts batches text queue is empty no_record start = record {
+goes_from tells base start wal acts stage begun = record {
   front = [];
   acts_are = refl;
-  store_is = is ∙ sym (append-nil base) ∙ ap (λ (r : List Batch). base ++ r) (sym no_record);
-  start = start;
-  answered = λ more. (ap length is, empty);
-  short = ap (map (λ (batch : Batch). batch.entries)) no_record;
+  own = [];
+  store_is = begun.batches ∙ sym (append-nil base);
+  runs = begun.runs;
+  answered = λ more at_end dies. (ap length begun.batches, begun.text);
+  short = λ lives. subst (λ (b : Bool). IsShort b [] []) (sym begun.limited) refl;
 }
 
 -- ---- one act more
@@ -93,87 +100,106 @@ one_short : (front : List Act) (entries : List Entry) (batches : List Batch) (is
 one_short front entries batches is_limited short =
     omega (arith, at_most front batches is_limited short, ap length (committed_push front (Commit entries)), length-append (filter_map committed front) (entries ∷ []))
 
-either_true : (is_limited : Bool) (acts : List Act) (batches : List Batch) → LacksBatch acts batches → is_limited ≡ true → IsShort is_limited acts batches
-either_true true acts batches lacks e = lacks
-either_true false acts batches lacks e = absurd cc
-
-module _ (base : List Batch) (acts : List Act) (old new : List Batch) (act : Act) (before rest : List Act) (text text' : List ℕ) (queue queue' : Queue) (was : Bool) (g : GoesOn base acts old before text queue was) (e : before ≡ act ∷ rest) where
+module _ (tells : Bool) (base : List Batch) (start : DiskView) (wal : ℕ) (acts : List Act) (old new : Stage) (act : Act) (before rest : List Act) (g : GoesOn tells base start wal acts old before) (e : before ≡ act ∷ rest) where
   acts_split : acts ≡ (g.front ++ act ∷ []) ++ rest
   acts_split = g.acts_are ∙ ap (λ (l : List Act). g.front ++ l) e ∙ sym (append_assoc g.front (act ∷ []) rest)
 
-  pub commit_goes : (entries : List Entry) → act ≡ Commit entries → Commits entries old new queue queue' text text' → GoesOn base acts new rest text' queue' was
+  commit_goes : (entries : List Entry) → act ≡ Commit entries → Commits tells entries old new → GoesOn tells base start wal acts new rest
   commit_goes entries is c =
-      let batch = numbered_behind old entries in
+      let batch = numbered_behind old.batches entries in
       record {
         front = g.front ++ act ∷ [];
         acts_are = acts_split;
-        store_is = c.batches ∙ ap (λ (l : List Batch). l ++ batch ∷ []) g.store_is ∙ append_assoc base queue.records (batch ∷ []) ∙ ap (λ (l : List Batch). base ++ l) (sym c.queued);
-        start = c.start ∙ g.start;
-        answered = λ more. subst (λ (l : List ℕ). AnswersAll (new ++ more) (length base) (g.front ++ act ∷ []) (length new) l) (sym c.reply)
-            (subst (λ (k : ℕ). AnswersAll (new ++ more) (length base) (g.front ++ act ∷ []) k (text ++ commit_line 0 (end_after FIRST old) (count_of entries))) (sym (ap length c.batches ∙ length-append old (batch ∷ [])))
-            (subst (λ (store : List Batch). AnswersAll store (length base) (g.front ++ act ∷ []) (length old + 1) (text ++ commit_line 0 (end_after FIRST old) (count_of entries))) (sym (whole more))
-            (answers_push (old ++ batch ∷ more) (length base) g.front act (length old) (length old + 1) text (commit_line 0 (end_after FIRST old) (count_of entries)) (g.answered (batch ∷ more))
-            (subst (λ (a : Act). Answers (old ++ batch ∷ more) (length old) a (length old + 1) (commit_line 0 (end_after FIRST old) (count_of entries))) (sym is) (numbered batch (get_behind old more batch))))));
-        short = subst (λ (a : Act). IsShort was (g.front ++ a ∷ []) queue'.records) (sym is)
-            (subst (λ (l : List Batch). IsShort was (g.front ++ Commit entries ∷ []) l) (sym c.queued) (one_more g.front entries queue.records batch refl was g.short));
+        own = g.own ++ batch ∷ [];
+        store_is = c.batches ∙ ap (λ (l : List Batch). l ++ batch ∷ []) g.store_is ∙ append_assoc base g.own (batch ∷ []);
+        runs = c.runs start wal (end_after FIRST base) g.own g.runs;
+        answered = λ more at_end dies. subst (λ (l : List ℕ). AnswersAll (new.batches ++ more) at_end (length base) (g.front ++ act ∷ []) (length new.batches) l) (sym c.reply)
+            (subst (λ (k : ℕ). AnswersAll (new.batches ++ more) at_end (length base) (g.front ++ act ∷ []) k (old.text ++ commit_line 0 (end_after FIRST old.batches) (count_of entries))) (sym (ap length c.batches ∙ length-append old.batches (batch ∷ [])))
+            (subst (λ (store : List Batch). AnswersAll store at_end (length base) (g.front ++ act ∷ []) (length old.batches + 1) (old.text ++ commit_line 0 (end_after FIRST old.batches) (count_of entries))) (sym (whole more))
+            (answers_push (old.batches ++ batch ∷ more) at_end (length base) g.front act (length old.batches) (length old.batches + 1) old.text (commit_line 0 (end_after FIRST old.batches) (count_of entries)) (g.answered (batch ∷ more) at_end (λ was. absurd (was c.lives)))
+            (subst (λ (a : Act). Answers (old.batches ++ batch ∷ more) at_end (length old.batches) a (length old.batches + 1) (commit_line 0 (end_after FIRST old.batches) (count_of entries))) (sym is) (numbered batch (get_behind old.batches more batch))))));
+        short = λ lives. subst (λ (b : Bool). IsShort b (g.front ++ act ∷ []) (g.own ++ batch ∷ [])) (sym c.limited)
+            (subst (λ (a : Act). IsShort old.limited (g.front ++ a ∷ []) (g.own ++ batch ∷ [])) (sym is) (one_more g.front entries g.own batch refl old.limited (g.short c.lives)));
       }
     where
-      whole : (more : List Batch) → new ++ more ≡ old ++ numbered_behind old entries ∷ more
-      whole more = ap (λ (l : List Batch). l ++ more) c.batches ∙ append_assoc old (numbered_behind old entries ∷ []) more
+      whole : (more : List Batch) → new.batches ++ more ≡ old.batches ++ numbered_behind old.batches entries ∷ more
+      whole more = ap (λ (l : List Batch). l ++ more) c.batches ∙ append_assoc old.batches (numbered_behind old.batches entries ∷ []) more
 
   -- a reply that adds no batch
-  reply_goes : (line : List ℕ) (now : Bool) → ((more : List Batch) → Answers (old ++ more) (length old) act (length old) line) → OnlyReplies line old new queue queue' text text' → IsShort now (g.front ++ act ∷ []) queue.records
-      → GoesOn base acts new rest text' queue' now
+  reply_goes : (line : List ℕ) (now : Bool) → ((more : List Batch) (at_end : Bool) → (old.journal.dead ≢ None → IsTrue at_end) → Answers (old.batches ++ more) at_end (length old.batches) act (length old.batches) line) → OnlyReplies line now old new
+      → (old.journal.dead ≡ None → IsShort now (g.front ++ act ∷ []) g.own) → GoesOn tells base start wal acts new rest
   reply_goes line now one o short = record {
     front = g.front ++ act ∷ [];
     acts_are = acts_split;
-    store_is = o.batches ∙ g.store_is ∙ ap (λ (q : Queue). base ++ q.records) (sym o.queued);
-    start = ap (λ (q : Queue). q.start) o.queued ∙ g.start;
-    answered = λ more. subst (λ (l : List ℕ). AnswersAll (new ++ more) (length base) (g.front ++ act ∷ []) (length new) l) (sym o.reply)
-        (subst (λ (bs : List Batch). AnswersAll (bs ++ more) (length base) (g.front ++ act ∷ []) (length bs) (text ++ line)) (sym o.batches)
-        (answers_push (old ++ more) (length base) g.front act (length old) (length old) text line (g.answered more) (one more)));
-    short = subst (λ (q : Queue). IsShort now (g.front ++ act ∷ []) q.records) (sym o.queued) short;
+    own = g.own;
+    store_is = o.batches ∙ g.store_is;
+    runs = subst (λ (s : State). Runs tells start wal (end_after FIRST base) g.own s new.view) (sym o.journal) (subst (λ (v : DiskView). Runs tells start wal (end_after FIRST base) g.own old.journal v) (sym o.view) g.runs);
+    answered = λ more at_end dies.
+        let was : old.journal.dead ≢ None → IsTrue at_end = λ dead_then. dies (λ lives. dead_then (sym (ap (λ (s : State). s.dead) o.journal) ∙ lives)) in
+        subst (λ (l : List ℕ). AnswersAll (new.batches ++ more) at_end (length base) (g.front ++ act ∷ []) (length new.batches) l) (sym o.reply)
+        (subst (λ (bs : List Batch). AnswersAll (bs ++ more) at_end (length base) (g.front ++ act ∷ []) (length bs) (old.text ++ line)) (sym o.batches)
+        (answers_push (old.batches ++ more) at_end (length base) g.front act (length old.batches) (length old.batches) old.text line (g.answered more at_end was) (one more at_end was)));
+    short = λ lives. subst (λ (b : Bool). IsShort b (g.front ++ act ∷ []) g.own) (sym o.limited_is) (short (sym (ap (λ (s : State). s.dead) o.journal) ∙ lives));
   }
 
-  pub limit_goes : (entries : List Entry) (now : Bool) → now ≡ true → act ≡ Commit entries → NUMBER_MAX < end_after FIRST old + count_of entries → OnlyReplies (limit_line 0) old new queue queue' text text' → GoesOn base acts new rest text' queue' now
-  limit_goes entries now now_is is past o =
-      reply_goes (limit_line 0) now
-      (λ more. subst (λ (a : Act). Answers (old ++ more) (length old) a (length old) (limit_line 0)) (sym is) (limited entries (omega (arith, past, visible_front old more)))) o
-      (subst (λ (a : Act). IsShort now (g.front ++ a ∷ []) queue.records) (sym is) (either_true now (g.front ++ Commit entries ∷ []) queue.records (one_short g.front entries queue.records was g.short) now_is))
+  limit_goes : (entries : List Entry) → act ≡ Commit entries → old.journal.dead ≡ None → NUMBER_MAX < end_after FIRST old.batches + count_of entries → OnlyReplies (limit_line 0) true old new → GoesOn tells base start wal acts new rest
+  limit_goes entries is lives beyond o =
+      reply_goes (limit_line 0) true
+      (λ more at_end dies. subst (λ (a : Act). Answers (old.batches ++ more) at_end (length old.batches) a (length old.batches) (limit_line 0)) (sym is) (limited entries (omega (arith, beyond, visible_front old.batches more)))) o
+      (λ still. subst (λ (a : Act). IsShort true (g.front ++ a ∷ []) g.own) (sym is) (one_short g.front entries g.own old.limited (g.short lives)))
 
-  pub read_goes : (key : List ℕ) → act ≡ Get key → OnlyReplies (get_line 0 key (answer old (length old) key) (end_after FIRST old)) old new queue queue' text text' → GoesOn base acts new rest text' queue' was
+  dead_goes : (entries : List Entry) → act ≡ Commit entries → old.journal.dead ≢ None → OnlyReplies (dead_line 0) old.limited old new → GoesOn tells base start wal acts new rest
+  dead_goes entries is has_died o =
+      reply_goes (dead_line 0) old.limited
+      (λ more at_end dies. subst (λ (a : Act). Answers (old.batches ++ more) at_end (length old.batches) a (length old.batches) (dead_line 0)) (sym is) (dead entries (dies has_died))) o
+      (λ still. absurd (has_died still))
+
+  read_goes : (key : List ℕ) → act ≡ Get key → DoesGet key old new → GoesOn tells base start wal acts new rest
   read_goes key is o =
-      reply_goes (get_line 0 key (answer old (length old) key) (end_after FIRST old)) was
-      (λ more. subst (λ (a : Act). Answers (old ++ more) (length old) a (length old) (get_line 0 key (answer old (length old) key) (end_after FIRST old))) (sym is)
-      (subst (λ (n : ℕ). Answers (old ++ more) (length old) (Get key) (length old) (get_line 0 key (answer old (length old) key) n)) (visible_front old more)
-      (subst (λ (v : Option (List ℕ)). Answers (old ++ more) (length old) (Get key) (length old) (get_line 0 key v (visible_after (old ++ more) (length old)))) (answer_front old more key) (read key)))) o
-      (subst (λ (a : Act). IsShort was (g.front ++ a ∷ []) queue.records) (sym is) (none_more g.front (Get key) queue.records refl was g.short))
+      reply_goes (get_line 0 key (answer old.batches (length old.batches) key) (end_after FIRST old.batches)) old.limited
+      (λ more at_end dies. subst (λ (a : Act). Answers (old.batches ++ more) at_end (length old.batches) a (length old.batches) (get_line 0 key (answer old.batches (length old.batches) key) (end_after FIRST old.batches))) (sym is)
+      (subst (λ (n : ℕ). Answers (old.batches ++ more) at_end (length old.batches) (Get key) (length old.batches) (get_line 0 key (answer old.batches (length old.batches) key) n)) (visible_front old.batches more)
+      (subst (λ (v : Option (List ℕ)). Answers (old.batches ++ more) at_end (length old.batches) (Get key) (length old.batches) (get_line 0 key v (visible_after (old.batches ++ more) (length old.batches)))) (answer_front old.batches more key) (read key)))) o
+      (λ still. subst (λ (a : Act). IsShort old.limited (g.front ++ a ∷ []) g.own) (sym is) (none_more g.front (Get key) g.own refl old.limited (g.short still)))
 
   -- by what the act did
-  pub goes_on : (here : Bool) → DoesAct act here old new queue queue' text text' → (here ≡ true → GoesOn base acts new rest text' queue' true) × (here ≡ false → GoesOn base acts new rest text' queue' was)
-  goes_on here d = by_act act here refl d
+  pub goes_on : DoesAct tells act old new → GoesOn tells base start wal acts new rest
+  goes_on d = by_act act refl d
     where
-      by_act : (a : Act) (here : Bool) → act ≡ a → DoesAct a here old new queue queue' text text' → (here ≡ true → GoesOn base acts new rest text' queue' true) × (here ≡ false → GoesOn base acts new rest text' queue' was)
-      by_act (Commit entries) false is c = (λ e. absurd cc, λ e. commit_goes entries is c)
-      by_act (Commit entries) true is c = (λ e. limit_goes entries true refl is c.0 c.1, λ e. absurd cc)
-      by_act (Get key) here is c = (λ e. let none : true ≡ false = sym e ∙ c.0 in absurd cc, λ e. read_goes key is c.1)
+      by_commit : (entries : List Entry) → act ≡ Commit entries → DoesCommit tells entries old new → GoesOn tells base start wal acts new rest
+      by_commit entries is (commits c) = commit_goes entries is c
+      by_commit entries is (past lives beyond o) = limit_goes entries is lives beyond o
+      by_commit entries is (died has_died o) = dead_goes entries is has_died o
+
+      by_act : (a : Act) → act ≡ a → DoesAct tells a old new → GoesOn tells base start wal acts new rest
+      by_act (Commit entries) is c = by_commit entries is c
+      by_act (Get key) is o = read_goes key is o
 
 -- the end: all acts are answered, and the last line ends the text
-pub has_gone : (base : List Batch) (acts : List Act) (batches : List Batch) (rest : List Act) (text text' : List ℕ) (queue : Queue) (is_limited : Bool) → GoesOn base acts batches rest text queue is_limited → rest ≡ [] → IsContiguous FIRST batches
-    → end_after FIRST batches ≤ NUMBER_MAX → text' ≡ text ++ end_line (end_after FIRST batches) (length queue.records) → IsReplay base acts text' queue is_limited
-has_gone base acts batches rest text text' queue is_limited g none contiguous within last =
+pub has_gone : (tells : Bool) (base : List Batch) (start : DiskView) (wal : ℕ) (acts : List Act) (stage new : Stage) (rest : List Act) (end : JournalEnd) (status : Status) → GoesOn tells base start wal acts stage rest → rest ≡ [] → EndsRun tells end stage new
+    → status ≡ status_after end.died new.limited → ReplaysOver base acts wal tells start new.view status new.text
+has_gone tells base start wal acts stage new rest end status g none e status_is =
     let all : acts ≡ g.front = g.acts_are ∙ ap (λ (l : List Act). g.front ++ l) none ∙ append-nil g.front in
-    let is : batches ≡ base ++ queue.records = g.store_is in
+    let is : stage.batches ≡ base ++ g.own = g.store_is in
+    let ended = e.ended start wal (end_after FIRST base) g.own g.runs in
     record {
+      batches = g.own;
+      end = end;
+      limited = stage.limited;
+      status_is = status_is ∙ ap (status_after end.died) e.limited;
       answers = record {
-        numbered = subst (IsContiguous FIRST) is contiguous;
-        within = subst (λ (bs : List Batch). end_after FIRST bs ≤ NUMBER_MAX) is within;
-        lines = text;
-        answers = subst (λ (bs : List Batch). AnswersAll bs (length base) acts (length bs) text) is
-            (subst (λ (l : List Act). AnswersAll batches (length base) l (length batches) text) (sym all)
-            (subst (λ (bs : List Batch). AnswersAll bs (length base) g.front (length batches) text) (append-nil batches) (g.answered [])));
-        text_is = last ∙ ap (λ (bs : List Batch). text ++ end_line (end_after FIRST bs) (length queue.records)) is;
+        numbered = subst (IsContiguous FIRST) is e.numbered;
+        within = subst (λ (bs : List Batch). end_after FIRST bs ≤ NUMBER_MAX) is e.within;
+        lines = stage.text;
+        answers = subst (λ (bs : List Batch). AnswersAll bs end.died (length base) acts (length bs) stage.text) is
+            (subst (λ (l : List Act). AnswersAll stage.batches end.died (length base) l (length stage.batches) stage.text) (sym all)
+            (subst (λ (bs : List Batch). AnswersAll bs end.died (length base) g.front (length stage.batches) stage.text) (append-nil stage.batches) (g.answered [] end.died (by_end end.died refl))));
+        text_is = e.reply ∙ ap (λ (bs : List Batch). stage.text ++ end_line (end_after FIRST bs) (len new.journal) end) is ∙ ap (λ (n : ℕ). stage.text ++ end_line (end_after FIRST (base ++ g.own)) n end) ended.0;
       };
-      start = g.start;
-      short = subst (λ (l : List Act). IsShort is_limited l queue.records) (sym all) g.short;
+      short = λ lives. subst (λ (l : List Act). IsShort stage.limited l g.own) (sym all) (g.short (e.lives lives));
+      ended = ended.1;
     }
+  where
+    by_end : (d : Bool) → end.died ≡ d → stage.journal.dead ≢ None → IsTrue end.died
+    by_end true is has_died = is
+    by_end false is has_died = absurd (has_died (e.lives is))

@@ -1,6 +1,8 @@
 mod Examples
 pub mod OneScript
-pub mod Logging
+pub mod Running
+pub mod Closings
+pub mod Telling
 pub mod Saying
 pub mod Unrecovering
 pub mod Shown

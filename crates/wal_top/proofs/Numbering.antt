@@ -39,3 +39,9 @@ kept_committed batches batches' next next' first count entries given numbered ke
     let count_given : count_of numbered.entries ≡ count_of given = ap (λ (b : Batch). count_of b.entries) is ∙ ap count_of (sym given_is) in
     let end_given : next' ≡ first + count_of given = end ∙ ap (λ (n : ℕ). n + count_of numbered.entries) (sym first_is) ∙ ap (λ (n : ℕ). first + n) count_given in
     kept_more batches batches' next next' (record { first = first; entries = given }) kept e same_first (omega arith) end_given small
+
+-- the number behind a batch that was numbered behind the others
+pub next_behind : (n m : ℕ) (history more : List Batch) (numbered : Batch) (entries : List Entry) → n ≡ m → m ≡ end_of numbered → numbered ≡ record { first = end_after FIRST history; entries = entries }
+    → more ≡ history ++ record { first = end_after FIRST history; entries = entries } ∷ [] → n ≡ end_after FIRST more
+next_behind n m history more numbered entries a b is added =
+    a ∙ b ∙ ap end_of is ∙ sym (end_after-push FIRST history (record { first = end_after FIRST history; entries = entries })) ∙ ap (end_after FIRST) (sym added)

@@ -14,3 +14,12 @@ on_ok_map (Err e) p f = tt
 -- a status and a text are as they are told
 pub as_told : (P : Status → List ℕ → Type 0) (status said : Status) (text told : List ℕ) → P said told → status ≡ said → text ≡ told → P status text
 as_told P status said text told h s t = subst (λ (x : Status). P x text) (sym s) (subst (λ (x : List ℕ). P said x) (sym t) h)
+
+pub ok_is : {T E : Type 0} (P : T → Type 0) (r : Result T E) (x : T) → r ≡ Ok x → P x → IfOk r P
+ok_is P r x e p = subst (λ (s : Result _ _). IfOk s P) (sym e) p
+
+pub err_is : {T E : Type 0} (P : T → Type 0) (r : Result T E) (x : E) → r ≡ Err x → IfOk r P
+err_is P r x e = subst (λ (s : Result _ _). IfOk s P) (sym e) tt
+
+pub ok_then : {T E : Type 0} (P : T → Type 0) (r : Result T E) (x : T) → r ≡ Ok x → IfOk r P → P x
+ok_then P r x e p = subst (λ (s : Result _ _). IfOk s P) e p

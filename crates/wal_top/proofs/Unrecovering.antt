@@ -1,6 +1,6 @@
 -- What is said of a fault of recovery is what a run has to say of directories that were not recovered.
 use Rattle.std.proofs.Common.{ℕ, Bool, List, IsTrue}
-use Rattle.disk_face.specs.View.{DiskView, files}
+use Rattle.disk_face.specs.View.{DiskView, files, NothingInFlight}
 use Rattle.disk_face.specs.Calls.{SameDisk}
 use Rattle.wal_recovery.specs.declared.reports.Mode.{Mode}
 use Rattle.wal_recovery.specs.declared.fault.RecoverFault.{RecoverFault}
@@ -13,10 +13,10 @@ use Rattle.wal_top.specs.Log.{directories}
 use Rattle.wal_top.specs.Outcomes.{Unrecovered, failed, refused}
 use Rattle.wal_top.proofs.Saying.{as_told}
 
-module _ (mode : Mode) (tells : Bool) (old new : DiskView) (only : IsTrue tells → OnlySynced (files old) (files new)) where
+module _ (mode : Mode) (tells : Bool) (old new : DiskView) (only : IsTrue tells → OnlySynced (files old) (files new)) (rests : NothingInFlight new) where
   pub says_unrecovered : (fault : RecoverFault) (status : Status) (text : List ℕ) → SaysFault fault status text → FaultRose old new fault → (IsTrue tells → DiskMemoryOr (IsRefusedBy mode (directories old)) fault) → (IsRefusal fault → SameDisk old new)
       → Unrecovered mode tells old new status text
-  says_unrecovered (faults.Disk side) status text (s, t) rose is same = as_told (Unrecovered mode tells old new) status _ text _ (failed side rose only) s t
+  says_unrecovered (faults.Disk side) status text (s, t) rose is same = as_told (Unrecovered mode tells old new) status _ text _ (failed side rose only rests) s t
   says_unrecovered (faults.DuplicateSegment wal index) status text (s, t) rose is same =
       as_told (Unrecovered mode tells old new) status _ text _ (refused (faults.DuplicateSegment wal index) tt is (same tt)) s t
   says_unrecovered (faults.BadBatch wal index place fault) status text (s, t) rose is same =

@@ -1,83 +1,144 @@
 -- How a replay goes on, act by act, and what it comes to. Nothing of it is seen from outside.
-use Rattle.std.specs.Prelude.{◌≡◌, ℕ, ◌+◌, ◌<◌, ◌≤◌, Bool, true, false, IsTrue, MatchBool, List, [], ◌∷◌, ◌++◌, length}
-use Rattle.wal_base.specs.Faults.{Rose}
+use Rattle.std.specs.Prelude.{◌≡◌, ◌≢◌, ℕ, ◌+◌, ◌<◌, ◌≤◌, Bool, true, false, IsTrue, MatchBool, List, [], ◌∷◌, ◌++◌, length, None}
 use Rattle.wal_base.specs.declared.entry.Entry.{Entry}
 use Rattle.batch_repr.specs.declared.batch.Batch.{Batch}
 use Rattle.batch_repr.specs.declared.limits.TheConstants.{NUMBER_MAX}
-use Rattle.batch_repr.specs.Batches.{count_of, end_after, answer}
-use Rattle.record_queue.specs.Queue.{Queue}
-use Rattle.disk_face.specs.declared.Side.TheVariants.{Primary}
-use Rattle.disk_face.specs.View.{DiskView, files}
+use Rattle.batch_repr.specs.Batches.{count_of, end_after, IsContiguous, answer}
+use Rattle.disk_face.specs.View.{DiskView, files, NothingInFlight}
 use Rattle.wal_recovery.specs.declared.reports.Mode.TheVariants.{Strict}
+use Rattle.wal_recovery.specs.Listing.{IsNextWal}
 use Rattle.wal_recovery.specs.Recovering.{Recovers}
 use Rattle.wal_recovery.specs.Resting.{OnlySynced}
+use Rattle.failover_writer.specs.State.{State, Held, len, acked}
 use Rattle.wal_top.specs.declared.script.Act.{Act}
 use Rattle.wal_top.specs.declared.script.Act.TheVariants.{Commit, Get}
+use Rattle.wal_top.specs.declared.replies.JournalEnd.{JournalEnd}
 use Rattle.wal_top.specs.declared.status.Status.{Status}
 use Rattle.wal_top.specs.declared.status.Status.TheVariants.{Done, Script, Disk, Limit}
 use Rattle.wal_top.specs.Cutting.{lines_of}
 use Rattle.wal_top.specs.Script.{IsScript, IsFirstBad}
-use Rattle.wal_top.specs.Printing.{commit_line, limit_line, get_line, bad_line_text, limit_wal_text}
+use Rattle.wal_top.specs.Printing.{commit_line, limit_line, dead_line, get_line, end_line, bad_line_text, limit_wal_text}
 use Rattle.wal_top.specs.Replay.{FIRST, IsReplayText, AllCommitted, LacksBatch}
-use Rattle.wal_recovery.specs.Listing.{IsNextWal}
-use Rattle.wal_top.specs.Log.{LAST_WAL, directories, LogsBatches}
-use Rattle.wal_top.specs.Storing.{KeepsLog}
+use Rattle.wal_top.specs.Log.{LAST_WAL, directories, EndsAs, LogsBatches}
+use Rattle.wal_top.specs.Journaling.{Runs, HasEnded}
 use Rattle.wal_top.specs.Outcomes.{Unrecovered}
 
 -- the batch of these entries, numbered behind the others
 abbrev pub numbered_behind : List Batch → List Entry → Batch
 numbered_behind batches entries = record { first = end_after FIRST batches; entries = entries }
 
--- A commit adds its batch behind the old ones and to the queue, and its reply behind the old text.
-pub record Commits (entries : List Entry) (old new : List Batch) (queue queue' : Queue) (text text' : List ℕ) : Type 0 where
-  pub room : end_after FIRST old + count_of entries ≤ NUMBER_MAX
-  pub batches : new ≡ old ++ numbered_behind old entries ∷ []
-  pub queued : queue'.records ≡ queue.records ++ numbered_behind old entries ∷ []
-  pub start : queue'.start ≡ queue.start
-  pub reply : text' ≡ text ++ commit_line 0 (end_after FIRST old) (count_of entries)
+-- a replay in its course: the batches of the store, the journal with its disk, the text of the answers, and whether a commit reached the limit
+pub record InCourse (Disk : Type 0) : Type 0 where
+  pub batches : List Batch
+  pub journal : Held Disk
+  pub text : List ℕ
+  pub limited : Bool
+
+-- the same, with the disk as it is seen
+pub record Stage : Type 0 where
+  pub batches : List Batch
+  pub journal : State
+  pub view : DiskView
+  pub text : List ℕ
+  pub limited : Bool
+
+abbrev pub stage_of : {Disk : Type 0} → (Disk → DiskView) → InCourse Disk → Stage
+stage_of view course = record { batches = course.batches; journal = course.journal.state; view = view course.journal.disk; text = course.text; limited = course.limited }
+
+-- A commit adds its batch behind the old ones and to the journal, and its reply behind the old text.
+pub record Commits (tells : Bool) (entries : List Entry) (old new : Stage) : Type 0 where
+  pub lives : old.journal.dead ≡ None
+  pub room : end_after FIRST old.batches + count_of entries ≤ NUMBER_MAX
+  pub batches : new.batches ≡ old.batches ++ numbered_behind old.batches entries ∷ []
+  pub reply : new.text ≡ old.text ++ commit_line 0 (end_after FIRST old.batches) (count_of entries)
+  pub limited : new.limited ≡ old.limited
+  pub runs : (start : DiskView) (wal first : ℕ) (own : List Batch) → Runs tells start wal first own old.journal old.view
+      → Runs tells start wal first (own ++ numbered_behind old.batches entries ∷ []) new.journal new.view
 
 -- Nothing but a reply is added.
-pub record OnlyReplies (line : List ℕ) (old new : List Batch) (queue queue' : Queue) (text text' : List ℕ) : Type 0 where
-  pub batches : new ≡ old
-  pub queued : queue' ≡ queue
-  pub reply : text' ≡ text ++ line
+pub record OnlyReplies (line : List ℕ) (limited : Bool) (old new : Stage) : Type 0 where
+  pub batches : new.batches ≡ old.batches
+  pub journal : new.journal ≡ old.journal
+  pub view : new.view ≡ old.view
+  pub reply : new.text ≡ old.text ++ line
+  pub limited_is : new.limited ≡ limited
 
--- What an act does: a commit adds its batch, or reaches the limit; a read is answered.
-abbrev pub DoesAct : Act → Bool → List Batch → List Batch → Queue → Queue → List ℕ → List ℕ → Type 0
-DoesAct (Commit entries) false old new queue queue' text text' = Commits entries old new queue queue' text text'
-DoesAct (Commit entries) true old new queue queue' text text' = (NUMBER_MAX < end_after FIRST old + count_of entries) × OnlyReplies (limit_line 0) old new queue queue' text text'
-DoesAct (Get key) limited old new queue queue' text text' = (limited ≡ false) × OnlyReplies (get_line 0 key (answer old (length old) key) (end_after FIRST old)) old new queue queue' text text'
+-- What a commit does: it adds its batch, reaches the limit, or finds a journal that has died.
+pub data DoesCommit (tells : Bool) (entries : List Entry) (old new : Stage) : Type 0 where
+  commits : Commits tells entries old new → DoesCommit tells entries old new
+  past : old.journal.dead ≡ None → NUMBER_MAX < end_after FIRST old.batches + count_of entries → OnlyReplies (limit_line 0) true old new → DoesCommit tells entries old new
+  died : old.journal.dead ≢ None → OnlyReplies (dead_line 0) old.limited old new → DoesCommit tells entries old new
 
--- Whether a commit has no batch.
+-- A read is answered.
+abbrev pub DoesGet : List ℕ → Stage → Stage → Type 0
+DoesGet key old new = OnlyReplies (get_line 0 key (answer old.batches (length old.batches) key) (end_after FIRST old.batches)) old.limited old new
+
+abbrev pub DoesAct : Bool → Act → Stage → Stage → Type 0
+DoesAct tells (Commit entries) old new = DoesCommit tells entries old new
+DoesAct tells (Get key) old new = DoesGet key old new
+
+-- Whether a commit has no batch, by limits alone.
 abbrev pub IsShort : Bool → List Act → List Batch → Type 0
 IsShort limited acts batches = MatchBool limited (LacksBatch acts batches) (AllCommitted acts batches)
 
--- A replay of the acts over the base: this text, the queue of the batches that it adds, and whether a commit has none.
-pub record IsReplay (base : List Batch) (acts : List Act) (text : List ℕ) (queue : Queue) (limited : Bool) : Type 0 where
-  pub answers : IsReplayText base acts queue.records text
-  pub start : queue.start ≡ 0
-  pub short : IsShort limited acts queue.records
+-- The journal was closed, or died.
+pub record Closes (tells died : Bool) (old new : Stage) : Type 0 where
+  pub batches : new.batches ≡ old.batches
+  pub text : new.text ≡ old.text
+  pub limited : new.limited ≡ old.limited
+  pub lives : died ≡ false → old.journal.dead ≡ None
+  pub ended : (start : DiskView) (wal first : ℕ) (own : List Batch) → Runs tells start wal first own old.journal old.view
+      → (len new.journal ≡ length own) × HasEnded tells start wal first own (record { acked = acked new.journal; segments = length new.journal.segments; died = died }) new.view
 
--- What a replay of the acts over the base comes to on a disk: its log was written to this WAL, or not.
-pub data ReplaysOver (base : List Batch) (acts : List Act) (wal : ℕ) (tells : Bool) (old new : DiskView) : Status → List ℕ → Type 0 where
-  unlogged : (batches : List Batch) (text : List ℕ) → IsReplayText base acts batches text → Rose (old.faults Primary) (new.faults Primary) → ReplaysOver base acts wal tells old new Disk text
-  short : (batches : List Batch) (text : List ℕ) → IsReplayText base acts batches text → LacksBatch acts batches → (IsTrue tells → KeepsLog wal batches (files old) (files new)) → ReplaysOver base acts wal tells old new Limit text
-  whole : (batches : List Batch) (text : List ℕ) → IsReplayText base acts batches text → AllCommitted acts batches → (IsTrue tells → KeepsLog wal batches (files old) (files new)) → ReplaysOver base acts wal tells old new Done text
+-- The journal was closed, or died, and the last line says so.
+pub record EndsRun (tells : Bool) (end : JournalEnd) (old new : Stage) : Type 0 where
+  pub batches : new.batches ≡ old.batches
+  pub limited : new.limited ≡ old.limited
+  pub lives : end.died ≡ false → old.journal.dead ≡ None
+  pub numbered : IsContiguous FIRST old.batches
+  pub within : end_after FIRST old.batches ≤ NUMBER_MAX
+  pub reply : new.text ≡ old.text ++ end_line (end_after FIRST old.batches) (len new.journal) end
+  pub ended : (start : DiskView) (wal first : ℕ) (own : List Batch) → Runs tells start wal first own old.journal old.view → (len new.journal ≡ length own) × HasEnded tells start wal first own end new.view
+
+-- how a run ends after its acts: by a journal that died, by a limit, or by neither
+abbrev pub status_after : Bool → Bool → Status
+status_after true limited = Disk
+status_after false true = Limit
+status_after false false = Done
+
+-- A replay before its first act.
+pub record IsBegun (tells : Bool) (base : List Batch) (start : DiskView) (wal : ℕ) (stage : Stage) : Type 0 where
+  pub batches : stage.batches ≡ base
+  pub text : stage.text ≡ []
+  pub limited : stage.limited ≡ false
+  pub runs : Runs tells start wal (end_after FIRST base) [] stage.journal stage.view
+
+-- What a replay of the acts over the base comes to on a disk: its text, how its journal ended, and what that leaves.
+pub record ReplaysOver (base : List Batch) (acts : List Act) (wal : ℕ) (tells : Bool) (old new : DiskView) (status : Status) (text : List ℕ) : Type 0 where
+  pub batches : List Batch
+  pub end : JournalEnd
+  pub limited : Bool
+  pub status_is : status ≡ status_after end.died limited
+  pub answers : IsReplayText base acts batches end text
+  pub short : end.died ≡ false → IsShort limited acts batches
+  pub ended : HasEnded tells old wal (end_after FIRST base) batches end new
 
 -- A replay of the acts over what the directories recover to.
-pub record ReplaysActs (acts : List Act) (tells : Bool) (old : DiskView) (batches : List Batch) (text : List ℕ) : Type 0 where
+pub record ReplaysActs (acts : List Act) (tells : Bool) (old new : DiskView) (batches : List Batch) (end : JournalEnd) (text : List ℕ) : Type 0 where
   pub base : List Batch
   pub recovers : IsTrue tells → Recovers (directories old) base
-  pub answers : IsReplayText base acts batches text
+  pub answers : IsReplayText base acts batches end text
+  pub ends : EndsAs (length batches) end old new
+  pub logs : LogsBatches tells base batches end.acked old new
 
 -- What the acts of a script come to over a disk.
 pub data ComesTo (acts : List Act) (tells : Bool) (old new : DiskView) : Status → List ℕ → Type 0 where
   unrecovered : (status : Status) (text : List ℕ) → Unrecovered Strict tells old new status text → ComesTo acts tells old new status text
   last_wal : (base : List Batch) (next : ℕ) → (IsTrue tells → Recovers (directories old) base) → (IsTrue tells → IsNextWal (directories old) next) → LAST_WAL < next
-      → (IsTrue tells → OnlySynced (files old) (files new)) → ComesTo acts tells old new Limit limit_wal_text
-  unwritten : (batches : List Batch) (text : List ℕ) → ReplaysActs acts tells old batches text → Rose (old.faults Primary) (new.faults Primary) → ComesTo acts tells old new Disk text
-  limited : (batches : List Batch) (text : List ℕ) → ReplaysActs acts tells old batches text → LacksBatch acts batches → LogsBatches tells batches old new → ComesTo acts tells old new Limit text
-  committed : (batches : List Batch) (text : List ℕ) → ReplaysActs acts tells old batches text → AllCommitted acts batches → LogsBatches tells batches old new → ComesTo acts tells old new Done text
+      → (IsTrue tells → OnlySynced (files old) (files new)) → NothingInFlight new → ComesTo acts tells old new Limit limit_wal_text
+  dead : (batches : List Batch) (end : JournalEnd) (text : List ℕ) → ReplaysActs acts tells old new batches end text → IsTrue end.died → ComesTo acts tells old new Disk text
+  limited : (batches : List Batch) (end : JournalEnd) (text : List ℕ) → ReplaysActs acts tells old new batches end text → end.died ≡ false → LacksBatch acts batches → ComesTo acts tells old new Limit text
+  committed : (batches : List Batch) (end : JournalEnd) (text : List ℕ) → ReplaysActs acts tells old new batches end text → end.died ≡ false → AllCommitted acts batches → ComesTo acts tells old new Done text
 
 -- What the bytes of a script come to over a disk: they have a first bad line, or they ask for acts.
 pub data ScriptComesTo (script : List ℕ) (tells : Bool) (old new : DiskView) : Status → List ℕ → Type 0 where

@@ -7,7 +7,7 @@ pub mod Printing
 pub mod Replay
 pub mod Log
 pub mod Kept
-pub mod Storing
+pub mod Journaling
 pub mod Reading
 pub mod Outcomes
 pub mod Doing

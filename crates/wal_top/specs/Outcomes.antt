@@ -1,12 +1,11 @@
 -- What a run has to say, and how writing it ends (docs/FORMATS.md, "Statuses").
-use Rattle.std.specs.Prelude.{◌≡◌, ◌⊎◌, ℕ, ◌<◌, Bool, IsTrue, List, ◌++◌, length, Option}
+use Rattle.std.specs.Prelude.{◌≡◌, ◌⊎◌, ℕ, ◌<◌, Bool, false, IsTrue, List, ◌++◌, length, Option}
 use Rattle.wal_base.specs.Faults.{Rose}
 use Rattle.wal_base.specs.Told.{told_back}
 use Rattle.batch_repr.specs.declared.batch.Batch.{Batch}
 use Rattle.batch_repr.specs.Batches.{end_after}
 use Rattle.disk_face.specs.declared.Side.{Side}
-use Rattle.disk_face.specs.declared.Side.TheVariants.{Primary}
-use Rattle.disk_face.specs.View.{DiskView, files}
+use Rattle.disk_face.specs.View.{DiskView, files, NothingInFlight}
 use Rattle.disk_face.specs.Image.{IsRested}
 use Rattle.disk_face.specs.Calls.{SameDisk}
 use Rattle.text_lines.specs.Store.{IsStoreText}
@@ -21,11 +20,12 @@ use Rattle.wal_recovery.specs.Answers.{IsRefusedBy, IsRefusal}
 use Rattle.wal_top.specs.declared.status.Status.{Status}
 use Rattle.wal_top.specs.declared.status.Status.TheVariants.{Done, Usage, Script, Read, Write, Disk, Refused, NoMemory, Limit}
 use Rattle.wal_top.specs.declared.script.Act.{Act}
+use Rattle.wal_top.specs.declared.replies.JournalEnd.{JournalEnd}
 use Rattle.wal_top.specs.Words.{IsCommand, IsReplay, IsRecover, IsDump, RecoversIn}
 use Rattle.wal_top.specs.Printing.{usage_text, read_fault_text, too_long_text, bad_line_text, disk_fault_text, refusal_text, limit_wal_text, segments_text}
 use Rattle.wal_top.specs.Replay.{FIRST, IsReplayText, AllCommitted, LacksBatch}
 use Rattle.wal_recovery.specs.Listing.{IsNextWal}
-use Rattle.wal_top.specs.Log.{LAST_WAL, directories, LogsBatches}
+use Rattle.wal_top.specs.Log.{LAST_WAL, directories, EndsAs, LogsBatches}
 use Rattle.wal_top.specs.Reading.{ReadsScript, ReadsTooMuch, ReadsBadLine}
 
 -- A script of the source was refused with this text: for its length, or for its first bad line.
@@ -38,21 +38,24 @@ pub data ReachesDisk (words : List (List ℕ)) (before after : Option (List ℕ)
   read : (acts : List Act) → IsReplay words → ReadsScript before acts after → ReachesDisk words before after
   unread : IsRecover words ⊎ IsDump words → after ≡ before → ReachesDisk words before after
 
--- The directories were not recovered: a side failed, or they are refused. No file was begun, and nothing was done to refused directories.
+-- The directories were not recovered: a side failed, or they are refused. No file was begun, nothing is in flight, and nothing was done to refused directories.
 pub data Unrecovered (mode : Mode) (tells : Bool) (old new : DiskView) : Status → List ℕ → Type 0 where
-  failed : (side : Side) → Rose (old.faults side) (new.faults side) → (IsTrue tells → OnlySynced (files old) (files new)) → Unrecovered mode tells old new Disk (disk_fault_text side)
+  failed : (side : Side) → Rose (old.faults side) (new.faults side) → (IsTrue tells → OnlySynced (files old) (files new)) → NothingInFlight new → Unrecovered mode tells old new Disk (disk_fault_text side)
   refused : (fault : RecoverFault) → IsRefusal fault → (IsTrue tells → IsRefusedBy mode (directories old) fault) → SameDisk old new → Unrecovered mode tells old new Refused (refusal_text fault)
 
--- The accepted script was replayed over what the directories recover to: these are its batches, and this is the text of its answers.
-pub record Replays (before after : Option (List ℕ)) (tells : Bool) (old : DiskView) (acts : List Act) (batches : List Batch) (text : List ℕ) : Type 0 where
+-- The accepted script was replayed over what the directories recover to: these are its batches, this is how their journal ended and
+-- the text of the answers, and the journal is left.
+pub record Replays (before after : Option (List ℕ)) (tells : Bool) (old new : DiskView) (acts : List Act) (batches : List Batch) (end : JournalEnd) (text : List ℕ) : Type 0 where
   pub accepts : ReadsScript before acts after
   pub base : List Batch
   pub recovers : IsTrue tells → Recovers (directories old) base
-  pub answers : IsReplayText base acts batches text
+  pub answers : IsReplayText base acts batches end text
+  pub ends : EndsAs (length batches) end old new
+  pub logs : LogsBatches tells base batches end.acked old new
 
--- What was done, and its text: a replay of which each batch is committed and logged, the store that was recovered, or the segments that were read.
+-- What was done, and its text: a replay of which each batch is committed and synced, the store that was recovered, or the segments that were read.
 pub data IsDone (words : List (List ℕ)) (before after : Option (List ℕ)) (tells : Bool) (old new : DiskView) : List ℕ → Type 0 where
-  replayed : (acts : List Act) (batches : List Batch) (text : List ℕ) → IsReplay words → Replays before after tells old acts batches text → AllCommitted acts batches → LogsBatches tells batches old new
+  replayed : (acts : List Act) (batches : List Batch) (end : JournalEnd) (text : List ℕ) → IsReplay words → Replays before after tells old new acts batches end text → end.died ≡ false → AllCommitted acts batches
       → IsDone words before after tells old new text
   recovered : (batches : List Batch) (store : List ℕ) → IsRecover words → after ≡ before → (IsTrue tells → Recovers (directories old) batches) → IsStoreText batches store
       → (IsTrue tells → OnlySynced (files old) (files new)) → (IsTrue tells → IsRested (files old) → AreSegmentsStable (files new))
@@ -62,15 +65,15 @@ pub data IsDone (words : List (List ℕ)) (before after : Option (List ℕ)) (te
 
 -- A limit was reached: the script was replayed but for commits that would end past the numbers, or the last WAL is taken.
 pub data IsLimited (words : List (List ℕ)) (before after : Option (List ℕ)) (tells : Bool) (old new : DiskView) : List ℕ → Type 0 where
-  of_numbers : (acts : List Act) (batches : List Batch) (text : List ℕ) → IsReplay words → Replays before after tells old acts batches text → LacksBatch acts batches → LogsBatches tells batches old new
+  of_numbers : (acts : List Act) (batches : List Batch) (end : JournalEnd) (text : List ℕ) → IsReplay words → Replays before after tells old new acts batches end text → end.died ≡ false → LacksBatch acts batches
       → IsLimited words before after tells old new text
   of_wals : (acts : List Act) (base : List Batch) (next : ℕ) → IsReplay words → ReadsScript before acts after → (IsTrue tells → Recovers (directories old) base) → (IsTrue tells → IsNextWal (directories old) next) → LAST_WAL < next
-      → (IsTrue tells → OnlySynced (files old) (files new)) → IsLimited words before after tells old new limit_wal_text
+      → (IsTrue tells → OnlySynced (files old) (files new)) → NothingInFlight new → IsLimited words before after tells old new limit_wal_text
 
--- The disk failed, and this is the text: in recovery, or where the log of the answered script was not written.
+-- The disk failed, and this is the text: in recovery, or so often that the journal of the answered script died.
 pub data FailsDisk (words : List (List ℕ)) (before after : Option (List ℕ)) (tells : Bool) (old new : DiskView) : List ℕ → Type 0 where
   in_recovery : (mode : Mode) (text : List ℕ) → RecoversIn words mode → ReachesDisk words before after → Unrecovered mode tells old new Disk text → FailsDisk words before after tells old new text
-  unwritten : (acts : List Act) (batches : List Batch) (text : List ℕ) → IsReplay words → Replays before after tells old acts batches text → Rose (old.faults Primary) (new.faults Primary)
+  dead : (acts : List Act) (batches : List Batch) (end : JournalEnd) (text : List ℕ) → IsReplay words → Replays before after tells old new acts batches end text → IsTrue end.died
       → FailsDisk words before after tells old new text
 
 -- The directories are refused, with this text.

@@ -1,5 +1,5 @@
 -- The lines of the texts (docs/FORMATS.md, "The text of a replay").
-use Rattle.std.specs.Prelude.{ℕ, List, [], ◌∷◌, ◌++◌, length, Option, Some, None, codes}
+use Rattle.std.specs.Prelude.{ℕ, Bool, true, false, List, [], ◌∷◌, ◌++◌, length, Option, Some, None, codes}
 use Rattle.std.specs.List.{flat_map}
 use Rattle.std.specs.Fmt.{decimal}
 use Rattle.disk_face.specs.declared.Side.{Side}
@@ -11,6 +11,7 @@ use Rattle.wal_recovery.specs.declared.reports.SegReport.{SegReport}
 use Rattle.wal_recovery.specs.declared.fault.RecoverFault.{RecoverFault}
 use Rattle.wal_recovery.specs.declared.fault.RecoverFault.TheVariants as faults
 use Rattle.wal_recovery.specs.Listing.{name_in}
+use Rattle.wal_top.specs.declared.replies.JournalEnd.{JournalEnd}
 
 -- `sS commit FIRST COUNT`
 unfoldable pub commit_line : ℕ → ℕ → ℕ → List ℕ
@@ -19,6 +20,10 @@ commit_line session first count = codes "s" ++ decimal session ++ codes " commit
 -- `sS commit limit`
 unfoldable pub limit_line : ℕ → List ℕ
 limit_line session = codes "s" ++ decimal session ++ codes " commit limit" ++ 10 ∷ []
+
+-- `sS commit dead`
+unfoldable pub dead_line : ℕ → List ℕ
+dead_line session = codes "s" ++ decimal session ++ codes " commit dead" ++ 10 ∷ []
 
 -- ` = V`, or ` none`
 abbrev pub printed_answer : Option (List ℕ) → List ℕ
@@ -29,9 +34,15 @@ printed_answer (Some value) = codes " = " ++ printed value
 unfoldable pub get_line : ℕ → List ℕ → Option (List ℕ) → ℕ → List ℕ
 get_line session key value visible = codes "s" ++ decimal session ++ codes " get " ++ printed key ++ printed_answer value ++ codes " @" ++ decimal visible ++ 10 ∷ []
 
--- `end visible V batches B`
-unfoldable pub end_line : ℕ → ℕ → List ℕ
-end_line visible batches = codes "end visible " ++ decimal visible ++ codes " batches " ++ decimal batches ++ 10 ∷ []
+-- how a journal ended: ` dead`, or ` closed`
+abbrev pub how_ended : Bool → List ℕ
+how_ended true = codes " dead\n"
+how_ended false = codes " closed\n"
+
+-- `end visible V batches B acked A segments G W`
+unfoldable pub end_line : ℕ → ℕ → JournalEnd → List ℕ
+end_line visible batches end =
+    codes "end visible " ++ decimal visible ++ codes " batches " ++ decimal batches ++ codes " acked " ++ decimal end.acked ++ codes " segments " ++ decimal end.segments ++ how_ended end.died
 
 -- what is said of a segment and its batches
 abbrev pub report_lines : SegReport → List ℕ

@@ -1,5 +1,5 @@
 -- What a replay makes and answers (docs/FORMATS.md, "The text of a replay").
-use Rattle.std.specs.Prelude.{◌≡◌, ℕ, ◌+◌, ◌<◌, ◌≤◌, List, [], ◌∷◌, ◌++◌, length, map, take, Option, Some, None, slice_get}
+use Rattle.std.specs.Prelude.{◌≡◌, ℕ, ◌+◌, ◌<◌, ◌≤◌, Bool, List, [], ◌∷◌, ◌++◌, length, map, take, Option, Some, None, slice_get, IsTrue}
 use Rattle.std.specs.List.{filter_map}
 use Rattle.wal_base.specs.declared.entry.Entry.{Entry}
 use Rattle.batch_repr.specs.declared.batch.Batch.{Batch}
@@ -7,7 +7,8 @@ use Rattle.batch_repr.specs.declared.limits.TheConstants.{NUMBER_MAX}
 use Rattle.batch_repr.specs.Batches.{count_of, IsContiguous, end_after, answer}
 use Rattle.wal_top.specs.declared.script.Act.{Act}
 use Rattle.wal_top.specs.declared.script.Act.TheVariants.{Commit, Get}
-use Rattle.wal_top.specs.Printing.{commit_line, limit_line, get_line, end_line}
+use Rattle.wal_top.specs.declared.replies.JournalEnd.{JournalEnd}
+use Rattle.wal_top.specs.Printing.{commit_line, limit_line, dead_line, get_line, end_line}
 
 -- the first number ever given
 abbrev pub FIRST : ℕ
@@ -28,25 +29,27 @@ abbrev pub visible_after : List Batch → ℕ → ℕ
 visible_after store n = end_after FIRST (take n store)
 
 -- How an act is answered behind the first n batches of the store, and how many batches then stand: a commit is the next batch, or
--- would end past the numbers; a read answers after those n.
-pub data Answers (store : List Batch) (n : ℕ) : Act → ℕ → List ℕ → Type 0 where
-  numbered : (batch : Batch) → slice_get store n ≡ Some batch → Answers store n (Commit batch.entries) (n + 1) (commit_line 0 batch.first (count_of batch.entries))
-  limited : (entries : List Entry) → NUMBER_MAX < visible_after store n + count_of entries → Answers store n (Commit entries) n (limit_line 0)
-  read : (key : List ℕ) → Answers store n (Get key) n (get_line 0 key (answer store n key) (visible_after store n))
+-- would end past the numbers, or finds a journal that has died; a read answers after those n.
+pub data Answers (store : List Batch) (died : Bool) (n : ℕ) : Act → ℕ → List ℕ → Type 0 where
+  numbered : (batch : Batch) → slice_get store n ≡ Some batch → Answers store died n (Commit batch.entries) (n + 1) (commit_line 0 batch.first (count_of batch.entries))
+  limited : (entries : List Entry) → NUMBER_MAX < visible_after store n + count_of entries → Answers store died n (Commit entries) n (limit_line 0)
+  dead : (entries : List Entry) → IsTrue died → Answers store died n (Commit entries) n (dead_line 0)
+  read : (key : List ℕ) → Answers store died n (Get key) n (get_line 0 key (answer store n key) (visible_after store n))
 
 -- The acts are answered by these lines one after another, the first behind n batches. So many batches stand behind the last.
-unfoldable pub AnswersAll : List Batch → ℕ → List Act → ℕ → List ℕ → Type 0
-AnswersAll store n [] end lines = (end ≡ n) × (lines ≡ [])
-AnswersAll store n (act ∷ acts) end lines =
-    (next : ℕ) × (line : List ℕ) × (rest : List ℕ) × Answers store n act next line × AnswersAll store next acts end rest × (lines ≡ line ++ rest)
+unfoldable pub AnswersAll : List Batch → Bool → ℕ → List Act → ℕ → List ℕ → Type 0
+AnswersAll store died n [] end lines = (end ≡ n) × (lines ≡ [])
+AnswersAll store died n (act ∷ acts) end lines =
+    (next : ℕ) × (line : List ℕ) × (rest : List ℕ) × Answers store died n act next line × AnswersAll store died next acts end rest × (lines ≡ line ++ rest)
 
--- The text answers the acts over a store that begins with the base, adds these batches to it, and then says how the run ended.
-pub record IsReplayText (base : List Batch) (acts : List Act) (batches : List Batch) (text : List ℕ) : Type 0 where
+-- The text answers the acts over a store that begins with the base, adds these batches to it, and then says how the run and its
+-- journal ended.
+pub record IsReplayText (base : List Batch) (acts : List Act) (batches : List Batch) (end : JournalEnd) (text : List ℕ) : Type 0 where
   pub numbered : IsContiguous FIRST (base ++ batches)
   pub within : end_after FIRST (base ++ batches) ≤ NUMBER_MAX
   pub lines : List ℕ
-  pub answers : AnswersAll (base ++ batches) (length base) acts (length (base ++ batches)) lines
-  pub text_is : text ≡ lines ++ end_line (end_after FIRST (base ++ batches)) (length batches)
+  pub answers : AnswersAll (base ++ batches) end.died (length base) acts (length (base ++ batches)) lines
+  pub text_is : text ≡ lines ++ end_line (end_after FIRST (base ++ batches)) (length batches) end
 
 -- Each commit has its batch.
 abbrev pub AllCommitted : List Act → List Batch → Type 0

@@ -1,14 +1,13 @@
 //! The top call: `run` does all that the program does, over streams, a disk and a gate that are handed in.
 //!
 //! Stands on `wal_recovery` for what the directories hold, on `text_lines` for how that is printed, on `batch_repr` for
-//! the batches, on `record_queue` and `log_writer` for the log, on `disk_face` for what a disk is, and on `wal_base` for
-//! bytes and streams. The program above uses one contract, that of `run`: which text is written, with which status, and
-//! which log is left, by the words, the source and the disk.
+//! the batches, on `failover_writer` for the journal, on `disk_face` for what a disk is, and on `wal_base` for bytes and
+//! streams. The program above uses one contract, that of `run`: which text is written, with which status, and
+//! which journal is left, by the words, the source and the disk.
 //!
 //! A run goes through the rooms in this order, and writes no text before the last: `words` (which command); of a replay
 //! `reading` (the script's bytes), `script` with `pieces` (its lines), `replaying` (what the directories
-//! recover to, and the log that is left) with `replay`, `history` and `replies` (the acts, one after another) and
-//! `storing` (the log); of the other commands `showing` (the store, or the segments); `said` (which text and status);
+//! recover to) with `replay`, `history` and `replies` (the acts, one after another, over a journal); of the other commands `showing` (the store, or the segments); `said` (which text and status);
 //! `writing` (the text, built whole by then).
 #![tactic(auto)]
 
@@ -24,7 +23,6 @@ mod said;
 mod script;
 mod showing;
 mod status;
-mod storing;
 mod top;
 mod words;
 mod writing;

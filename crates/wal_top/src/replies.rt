@@ -1,11 +1,22 @@
 //! The lines of the text of a replay.
 
 ghost use Rattle.std.specs.Prelude.{◌≡◌, ◌++◌, OnOk, option_map};
-ghost use Rattle.wal_top.specs.Printing.{printed_answer, commit_line, limit_line, get_line, end_line};
+ghost use Rattle.wal_top.specs.Printing.{printed_answer, commit_line, limit_line, dead_line, get_line, end_line};
 
 use std::alloc::Global;
 use text_lines::put_printed;
 use wal_base::{Buf, NoMemory};
+
+/// How the journal of a run ended.
+#[derive(Clone, Copy, Debug)]
+pub(crate) struct JournalEnd {
+    /// How many of its batches a sync covers.
+    pub(crate) acked: u64,
+    /// How many segments it began.
+    pub(crate) segments: u32,
+    /// Whether it died. Otherwise it was closed.
+    pub(crate) died: bool,
+}
 
 /// Adds the answer to a read.
 fn put_answer(out: &mut Buf, value: Option<&[u8]>) -> Result<(), NoMemory>
@@ -42,6 +53,14 @@ pub(crate) fn put_limit(alloc: Global, out: &mut Buf, session: u32) -> Result<()
     out.append(line.as_bytes())
 }
 
+/// Adds the reply to a commit to a journal that has died. After an `Err` a part of it may stand there.
+pub(crate) fn put_dead(alloc: Global, out: &mut Buf, session: u32) -> Result<(), NoMemory>
+    ensures { OnOk result (out.new ≡ out.old ++ dead_line session) }
+{
+    let line = format!(in alloc; "s{session} commit dead\n")?;
+    out.append(line.as_bytes())
+}
+
 /// Adds the reply to a read. After an `Err` a part of it may stand there.
 pub(crate) fn put_get(
     alloc: Global,
@@ -67,9 +86,18 @@ pub(crate) fn put_end(
     out: &mut Buf,
     visible: u64,
     batches: u64,
+    end: &JournalEnd,
 ) -> Result<(), NoMemory>
-    ensures { OnOk result (out.new ≡ out.old ++ end_line visible batches) }
+    ensures { OnOk result (out.new ≡ out.old ++ end_line visible batches end.now) }
 {
-    let line = format!(in alloc; "end visible {visible} batches {batches}\n")?;
-    out.append(line.as_bytes())
+    let (acked, segments) = (end.acked, end.segments);
+    let line = format!(in alloc;
+        "end visible {visible} batches {batches} acked {acked} segments {segments}"
+    )?;
+    out.append(line.as_bytes())?;
+    if end.died {
+        out.append(b" dead\n")
+    } else {
+        out.append(b" closed\n")
+    }
 }

@@ -19,6 +19,13 @@ pub(crate) struct Said {
     pub(crate) text: Buf,
 }
 
+/// What a run has to say, if memory allows, and the disk as it stands then.
+#[derive(Debug, Drop)]
+pub(crate) struct Answered<D> {
+    pub(crate) said: Result<Said, NoMemory>,
+    pub(crate) disk: D,
+}
+
 /// What is said by this text alone.
 pub(crate) fn saying(alloc: Global, status: Status, text: &str) -> Result<Said, NoMemory>
     ensures { IfOk result (λ said. (said.status ≡ status) × (said.text ≡ text.now)) }

@@ -3,7 +3,7 @@ ghost use Rattle.std.specs.Prelude.{◌≤◌, length};
 use crate::{Gate, GatePoint, NoGate, Ran, Status, run};
 use crc_chunk::{ChunkKind, put_chunk};
 use disk_face::{Disk, SegName, Side};
-use mem_disk::MemDisk;
+use mem_disk::{CrashPick, FilePicks, MemDisk};
 use std::alloc::{AllocError, Global};
 use std::marker::Model;
 use std::process::Abort;
@@ -59,10 +59,29 @@ impl Rig {
         self.disk.fail_op(number).expect(rt, "memory");
     }
 
-    /// What the first segment of a WAL has, on one side.
-    fn log(&self, side: Side, wal: u64) -> Option<&[u8]> {
-        self.disk.content(side, SegName { wal, index: 0 })
+    /// The disk after a crash that leaves no more than what is stable.
+    fn after_crash(rt: &impl Abort, alloc: Global, disk: MemDisk) -> Rig {
+        let picks = CrashPick {
+            files: FilePicks::new(alloc),
+        };
+        let disk = disk.crash(&picks).expect(rt, "memory");
+        Rig { disk }
     }
+}
+
+/// What a segment of WAL 1 has, which stands on the primary side where its index is even.
+fn segment_at(disk: &MemDisk, index: u32) -> Option<&[u8]> {
+    let side = if index % 2 == 0 {
+        Side::Primary
+    } else {
+        Side::Secondary
+    };
+    disk.content(side, SegName { wal: 1, index })
+}
+
+/// What the first segment of a WAL has.
+fn log_at(disk: &MemDisk, wal: u64) -> Option<&[u8]> {
+    disk.content(Side::Primary, SegName { wal, index: 0 })
 }
 
 /// The end of a run over these streams and this disk.
@@ -73,11 +92,10 @@ fn ran_over<S: Source, K: Sink, R: Threads + Wait + Sync>(
     source: &mut S,
     sink: &mut K,
     rig: Rig,
-) -> Result<(Status, Rig), AllocError> {
+) -> Result<(Status, MemDisk), AllocError> {
     let words = words_of(alloc, words)?;
-    let Rig { disk } = rig;
-    let Ran { status, disk } = run(rt, alloc, &words, source, sink, disk, &NoGate);
-    Ok((status, Rig { disk }))
+    let Ran { status, disk } = run(rt, alloc, &words, source, sink, rig.disk, &NoGate);
+    Ok((status, disk))
 }
 
 /// The status of a run over these streams and a new disk.
@@ -121,13 +139,17 @@ fn a_script_gives_its_text(rt: HostRuntime) -> Result<(), Fail> {
         (
             "commit 0 nosync set a 1\nget 0 a\n",
             Status::Done,
-            "s0 commit 10 1\ns0 get a = 1 @11\nend visible 11 batches 1\n",
+            "s0 commit 10 1\ns0 get a = 1 @11\nend visible 11 batches 1 acked 1 segments 1 closed\n",
         ),
-        ("", Status::Done, "end visible 10 batches 0\n"),
+        (
+            "",
+            Status::Done,
+            "end visible 10 batches 0 acked 0 segments 0 closed\n",
+        ),
         (
             "get 0 a\ncommit 0 nosync set a 1\n# over it\n\ncommit\t0 nosync set a \\\nget 0 a\nget 0 b",
             Status::Done,
-            "s0 get a none @10\ns0 commit 10 1\ns0 commit 11 1\ns0 get a = \\x5c @12\ns0 get b none @12\nend visible 12 batches 2\n",
+            "s0 get a none @10\ns0 commit 10 1\ns0 commit 11 1\ns0 get a = \\x5c @12\ns0 get b none @12\nend visible 12 batches 2 acked 2 segments 1 closed\n",
         ),
         ("commit 64 sync set a 1", Status::Script, "script line 1\n"),
         ("commit 0 sync note x", Status::Script, "script line 1\n"),
@@ -151,7 +173,11 @@ fn comment_of(alloc: Global, len: usize) -> Result<Vec<u8>, AllocError> {
 #[test]
 fn a_script_ends_at_its_greatest_length(rt: HostRuntime) -> Result<(), Fail> {
     for (len, status, text) in [
-        (8_388_608, Status::Done, "end visible 10 batches 0\n"),
+        (
+            8_388_608,
+            Status::Done,
+            "end visible 10 batches 0 acked 0 segments 0 closed\n",
+        ),
         (8_388_609, Status::Script, "script too long\n"),
     ] {
         let script = comment_of(rt.alloc(), len)?;
@@ -213,7 +239,8 @@ impl<K: Sink> Sink for Drip<K> {
 #[test]
 fn a_failing_stream_ends_the_run(rt: HostRuntime) -> Result<(), Fail> {
     let script = b"commit 0 nosync set a 1\nget 0 a\n";
-    let whole = b"s0 commit 10 1\ns0 get a = 1 @11\nend visible 11 batches 1\n";
+    let whole =
+        b"s0 commit 10 1\ns0 get a = 1 @11\nend visible 11 batches 1 acked 1 segments 1 closed\n";
     // Which call of the source and of the sink fails, and what comes then.
     for (take, put, status, written) in [
         (0, 1_000, Status::Read, b"read fault\n".as_slice()),
@@ -244,9 +271,9 @@ fn check_log<R: Threads + Wait + Sync + Abort>(
     text: &str,
     log: Option<&[u8]>,
 ) -> Result<(), Fail> {
-    let rig = check_command(rt, alloc, rig, &["replay"], script, status, text)?;
-    assert!(rt; rig.log(Side::Primary, 1) == log);
-    assert!(rt; rig.log(Side::Secondary, 1).is_none());
+    let disk = check_command(rt, alloc, rig, &["replay"], script, status, text)?;
+    assert!(rt; log_at(&disk, 1) == log);
+    assert!(rt; segment_at(&disk, 1).is_none());
     Ok(())
 }
 
@@ -260,30 +287,70 @@ const FIRST_LOG: &[u8] = &[
 fn a_run_leaves_its_log(rt: HostRuntime) -> Result<(), Fail> {
     let (alloc, rig) = (rt.alloc(), Rig::new(rt.alloc())?);
     let script = b"commit 0 nosync set a 1\nget 0 a\n";
-    let text = "s0 commit 10 1\ns0 get a = 1 @11\nend visible 11 batches 1\n";
+    let text =
+        "s0 commit 10 1\ns0 get a = 1 @11\nend visible 11 batches 1 acked 1 segments 1 closed\n";
     let log = Some(FIRST_LOG);
     check_log(&rt, alloc, rig, script, Status::Done, text, log)?;
     let rig = Rig::new(alloc)?;
-    let end = "end visible 10 batches 0\n";
+    let end = "end visible 10 batches 0 acked 0 segments 0 closed\n";
     check_log(&rt, alloc, rig, b"", Status::Done, end, None)
 }
 
 #[test]
-fn a_failing_disk_ends_the_run(rt: HostRuntime) -> Result<(), Fail> {
+fn a_failing_directory_ends_the_run(rt: HostRuntime) -> Result<(), Fail> {
     let script = b"commit 0 nosync set a 1\n";
-    let text = "s0 commit 10 1\nend visible 11 batches 1\n";
     let alloc = rt.alloc();
-    // Which operation fails: the creation, the write or the sync.
-    for (number, log) in [(0, None), (1, Some(b"".as_slice())), (2, Some(FIRST_LOG))] {
-        let mut rig = Rig::new(alloc)?;
-        rig.fail_op(&rt, number);
-        check_log(&rt, alloc, rig, script, Status::Disk, text, log)?;
-    }
     for (number, text) in [(0, "disk fault primary\n"), (1, "disk fault secondary\n")] {
         let mut rig = Rig::new(alloc)?;
         rig.fail_call(&rt, number);
         check_log(&rt, alloc, rig, script, Status::Disk, text, None)?;
     }
+    Ok(())
+}
+
+#[test]
+fn a_failing_segment_is_followed_by_the_next(rt: HostRuntime) -> Result<(), Fail> {
+    let script = b"commit 0 nosync set a 1\n";
+    let text = "s0 commit 10 1\nend visible 11 batches 1 acked 1 segments 2 closed\n";
+    let alloc = rt.alloc();
+    // Which operation fails: the creation, the write or the sync.
+    for (number, first) in [(0, None), (1, Some(b"".as_slice())), (2, Some(FIRST_LOG))] {
+        let mut rig = Rig::new(alloc)?;
+        rig.fail_op(&rt, number);
+        let disk = check_command(&rt, alloc, rig, &["replay"], script, Status::Done, text)?;
+        assert!(rt; segment_at(&disk, 0) == first);
+        assert!(rt; segment_at(&disk, 1) == Some(FIRST_LOG));
+        let rig = Rig::after_crash(&rt, alloc, disk);
+        let store = "a = 1\nend batches 1 next 11\n";
+        check_command(&rt, alloc, rig, &["recover"], b"", Status::Done, store)?;
+    }
+    Ok(())
+}
+
+#[test]
+fn ten_failing_segments_end_the_journal(rt: HostRuntime) -> Result<(), Fail> {
+    let script = b"commit 0 nosync set a 1\ncommit 0 nosync set a 2\nget 0 a\n";
+    let alloc = rt.alloc();
+    // The second write fails, and then the sync of each segment, so the journal dies as it is closed.
+    let mut rig = Rig::new(alloc)?;
+    for index in 0..10 {
+        rig.fail_op(&rt, 2 + 3 * index);
+    }
+    let text =
+        "s0 commit 10 1\ns0 commit 11 1\ns0 get a = 2 @12\nend visible 12 batches 2 acked 0 segments 10 dead\n";
+    let disk = check_command(&rt, alloc, rig, &["replay"], script, Status::Disk, text)?;
+    let rig = Rig::after_crash(&rt, alloc, disk);
+    let store = "end batches 0 next 10\n";
+    check_command(&rt, alloc, rig, &["recover"], b"", Status::Done, store)?;
+    // Each creation fails, so the journal dies within the first commit.
+    let mut rig = Rig::new(alloc)?;
+    for number in 0..10 {
+        rig.fail_op(&rt, number);
+    }
+    let text =
+        "s0 commit 10 1\ns0 commit dead\ns0 get a = 1 @11\nend visible 11 batches 1 acked 0 segments 10 dead\n";
+    let disk = check_command(&rt, alloc, rig, &["replay"], script, Status::Disk, text)?;
+    assert!(rt; segment_at(&disk, 0).is_none());
     Ok(())
 }
 
@@ -334,13 +401,13 @@ fn check_command<R: Threads + Wait + Sync + Abort>(
     script: &[u8],
     status: Status,
     text: &str,
-) -> Result<Rig, Fail> {
+) -> Result<MemDisk, Fail> {
     let mut source = MemSource::new(Blob::copy_of(alloc, script)?);
     let mut sink = MemSink::new(alloc)?;
-    let (ended, rig) = ran_over(rt, alloc, words, &mut source, &mut sink, rig)?;
+    let (ended, disk) = ran_over(rt, alloc, words, &mut source, &mut sink, rig)?;
     assert!(rt; sink.written() == text.as_bytes());
     assert_eq!(rt; ended, status);
-    Ok(rig)
+    Ok(disk)
 }
 
 #[test]
@@ -458,12 +525,13 @@ fn an_index_may_be_missing(rt: HostRuntime) -> Result<(), Fail> {
     );
     rig.put(&rt, Side::Primary, SegName { wal: 3, index: 0 }, b"");
     let store = "a = 3\nend batches 3 next 13\n";
-    let rig = check_command(&rt, alloc, rig, &["recover"], b"", Status::Done, store)?;
+    let disk = check_command(&rt, alloc, rig, &["recover"], b"", Status::Done, store)?;
+    let rig = Rig::after_crash(&rt, alloc, disk);
     // The empty segment has a WAL of its own, and the log stands behind it.
     let script = b"commit 0 nosync set a 4\n";
-    let text = "s0 commit 13 1\nend visible 14 batches 1\n";
-    let rig = check_command(&rt, alloc, rig, &["replay"], script, Status::Done, text)?;
-    assert_eq!(rt; rig.log(Side::Primary, 4).map(|log| log.len()), Some(28));
+    let text = "s0 commit 13 1\nend visible 14 batches 1 acked 1 segments 1 closed\n";
+    let disk = check_command(&rt, alloc, rig, &["replay"], script, Status::Done, text)?;
+    assert_eq!(rt; log_at(&disk, 4).map(|log| log.len()), Some(28));
     Ok(())
 }
 
@@ -474,22 +542,23 @@ fn a_replay_goes_on_where_one_stopped(rt: HostRuntime) -> Result<(), Fail> {
     for (script, text) in [
         (
             b"commit 0 nosync set a 1\n".as_slice(),
-            "s0 commit 10 1\nend visible 11 batches 1\n",
+            "s0 commit 10 1\nend visible 11 batches 1 acked 1 segments 1 closed\n",
         ),
         (
             b"get 0 a\ncommit 0 nosync set b 2\nget 0 b\n".as_slice(),
-            "s0 get a = 1 @11\ns0 commit 11 1\ns0 get b = 2 @12\nend visible 12 batches 1\n",
+            "s0 get a = 1 @11\ns0 commit 11 1\ns0 get b = 2 @12\nend visible 12 batches 1 acked 1 segments 1 closed\n",
         ),
         (
             b"get 0 b\n".as_slice(),
-            "s0 get b = 2 @12\nend visible 12 batches 0\n",
+            "s0 get b = 2 @12\nend visible 12 batches 0 acked 0 segments 0 closed\n",
         ),
     ] {
-        rig = check_command(&rt, alloc, rig, &["replay"], script, Status::Done, text)?;
+        let disk = check_command(&rt, alloc, rig, &["replay"], script, Status::Done, text)?;
+        rig = Rig::after_crash(&rt, alloc, disk);
     }
-    assert!(rt; rig.log(Side::Primary, 1) == Some(FIRST_LOG));
-    assert_eq!(rt; rig.log(Side::Primary, 2).map(|log| log.len()), Some(28));
-    assert!(rt; rig.log(Side::Primary, 3).is_none());
+    assert!(rt; log_at(&rig.disk, 1) == Some(FIRST_LOG));
+    assert_eq!(rt; log_at(&rig.disk, 2).map(|log| log.len()), Some(28));
+    assert!(rt; log_at(&rig.disk, 3).is_none());
     let store = "a = 1\nb = 2\nend batches 2 next 12\n";
     check_command(&rt, alloc, rig, &["recover"], b"", Status::Done, store)?;
     Ok(())
@@ -505,7 +574,8 @@ fn limits_are_told(rt: HostRuntime) -> Result<(), Fail> {
     let mut rig = Rig::new(alloc)?;
     rig.put(&rt, Side::Primary, last, b"");
     let text = "limit wal\n";
-    let rig = check_command(&rt, alloc, rig, &["replay"], b"", Status::Limit, text)?;
+    let disk = check_command(&rt, alloc, rig, &["replay"], b"", Status::Limit, text)?;
+    let rig = Rig::after_crash(&rt, alloc, disk);
     let text = "end batches 0 next 10\n";
     check_command(&rt, alloc, rig, &["recover"], b"", Status::Done, text)?;
     Ok(())
@@ -558,9 +628,9 @@ fn a_log_goes_on_in_the_next_block(rt: HostRuntime) -> Result<(), Fail> {
         let mut source = MemSource::new(Blob::copy_of(rt.alloc(), &script)?);
         let mut sink = MemSink::new(rt.alloc())?;
         let rig = Rig::new(rt.alloc())?;
-        let (status, rig) = ran_over(&rt, rt.alloc(), &["replay"], &mut source, &mut sink, rig)?;
+        let (status, disk) = ran_over(&rt, rt.alloc(), &["replay"], &mut source, &mut sink, rig)?;
         assert_eq!(rt; status, Status::Done);
-        let log = rig.log(Side::Primary, 1).unwrap_or(&[]);
+        let log = log_at(&disk, 1).unwrap_or(&[]);
         assert_eq!(rt; log.len(), len);
         assert!(rt; bytes_at(log, &places) == types);
     }

@@ -26,7 +26,7 @@ ghost use Rattle.wal_top.specs.Outcomes.{RefusesScript, RefusesDirectories, Fail
 use crate::gate::Gate;
 use crate::reading::{ReadError, read_script_bytes};
 use crate::replaying::said_of;
-use crate::said::{Said, saying};
+use crate::said::{Answered, Said, saying};
 use crate::showing::{segments_said, store_said};
 use crate::status::{Ran, Status};
 use crate::words::{Command, command_of};
@@ -40,20 +40,28 @@ use wal_base::{NoMemory, PutErr, Sink, Source};
 const USAGE: &str = "usage: replay [--threshold N] | recover | dump | load SEED COUNT\n";
 
 /// What a replay of the source's script has to say.
-fn replayed<S: Source, D: Disk>(alloc: Global, src: &mut S, disk: &mut D) -> Result<Said, NoMemory>
-    requires { NothingInFlight (D.view disk.old) }
-    ensures goes_on { GoesOn (D.view disk.old) (D.view disk.new) }
-    ensures idle { NothingInFlight (D.view disk.new) }
-    ensures others { IsTrue D.tells → (wal : ℕ) → IsNextWal (directories (D.view disk.old)) wal → OthersStay wal (files (D.view disk.old)) (files (D.view disk.new)) }
-    ensures says { IfOk result (λ said. (words : List (List ℕ)) → IsReplay words → HasToSay words (S.left src.old) (S.left src.new) D.tells (D.view disk.old) (D.view disk.new) said.status said.text) }
-    ensures read { IfOk result (λ said. said.status ≡ statuses.Read → Rose (S.faults src.old) (S.faults src.new)) }
+fn replayed<S: Source, D: Disk>(alloc: Global, src: &mut S, disk: D) -> Answered<D>
+    requires { NothingInFlight (D.view disk) }
+    ensures goes_on { GoesOn (D.view disk) (D.view result.disk) }
+    ensures others { IsTrue D.tells → (wal : ℕ) → IsNextWal (directories (D.view disk)) wal → OthersStay wal (files (D.view disk)) (files (D.view result.disk)) }
+    ensures says { IfOk result.said (λ said. (words : List (List ℕ)) → IsReplay words → HasToSay words (S.left src.old) (S.left src.new) D.tells (D.view disk) (D.view result.disk) said.status said.text) }
+    ensures read { IfOk result.said (λ said. said.status ≡ statuses.Read → Rose (S.faults src.old) (S.faults src.new)) }
     ensures took { TookAtMost (SCRIPT_MAX + 1) (S.left src.old) (S.left src.new) }
 {
     match read_script_bytes(alloc, src) {
         Ok(script) => said_of(alloc, script.as_slice(), disk),
-        Err(ReadError::NoMemory) => Err(NoMemory),
-        Err(ReadError::Fault) => saying(alloc, Status::Read, "read fault\n"),
-        Err(ReadError::TooLong) => saying(alloc, Status::Script, "script too long\n"),
+        Err(ReadError::NoMemory) => Answered {
+            said: Err(NoMemory),
+            disk,
+        },
+        Err(ReadError::Fault) => Answered {
+            said: saying(alloc, Status::Read, "read fault\n"),
+            disk,
+        },
+        Err(ReadError::TooLong) => Answered {
+            said: saying(alloc, Status::Script, "script too long\n"),
+            disk,
+        },
     }
 }
 
@@ -62,25 +70,34 @@ fn answered<S: Source, D: Disk>(
     alloc: Global,
     words: &[String],
     src: &mut S,
-    disk: &mut D,
-) -> Result<Said, NoMemory>
-    requires { NothingInFlight (D.view disk.old) }
-    ensures goes_on { GoesOn (D.view disk.old) (D.view disk.new) }
-    ensures idle { NothingInFlight (D.view disk.new) }
-    ensures others { IsTrue D.tells → (wal : ℕ) → IsNextWal (directories (D.view disk.old)) wal → OthersStay wal (files (D.view disk.old)) (files (D.view disk.new)) }
-    ensures no_log { (IsReplay (map string_bytes words.now) → ⊥) → IsTrue D.tells → OnlySynced (files (D.view disk.old)) (files (D.view disk.new)) }
-    ensures starts_nothing { IsDump (map string_bytes words.now) → SameDisk (D.view disk.old) (D.view disk.new) }
-    ensures each_moment { (IsReplay (map string_bytes words.now) → ⊥) → IsTrue D.tells → AtEachMoment ((D.view disk.old).clock) (D.view disk.new) (AddsNoImage (files (D.view disk.old))) }
-    ensures says { IfOk result (λ said. HasToSay (map string_bytes words.now) (S.left src.old) (S.left src.new) D.tells (D.view disk.old) (D.view disk.new) said.status said.text) }
-    ensures read { IfOk result (λ said. said.status ≡ statuses.Read → Rose (S.faults src.old) (S.faults src.new)) }
+    mut disk: D,
+) -> Answered<D>
+    requires { NothingInFlight (D.view disk) }
+    ensures goes_on { GoesOn (D.view disk) (D.view result.disk) }
+    ensures idle { (IsReplay (map string_bytes words.now) → ⊥) → NothingInFlight (D.view result.disk) }
+    ensures others { IsTrue D.tells → (wal : ℕ) → IsNextWal (directories (D.view disk)) wal → OthersStay wal (files (D.view disk)) (files (D.view result.disk)) }
+    ensures no_log { (IsReplay (map string_bytes words.now) → ⊥) → IsTrue D.tells → OnlySynced (files (D.view disk)) (files (D.view result.disk)) }
+    ensures starts_nothing { IsDump (map string_bytes words.now) → SameDisk (D.view disk) (D.view result.disk) }
+    ensures each_moment { (IsReplay (map string_bytes words.now) → ⊥) → IsTrue D.tells → AtEachMoment ((D.view disk).clock) (D.view result.disk) (AddsNoImage (files (D.view disk))) }
+    ensures says { IfOk result.said (λ said. HasToSay (map string_bytes words.now) (S.left src.old) (S.left src.new) D.tells (D.view disk) (D.view result.disk) said.status said.text) }
+    ensures read { IfOk result.said (λ said. said.status ≡ statuses.Read → Rose (S.faults src.old) (S.faults src.new)) }
     ensures took { TookAtMost (SCRIPT_MAX + 1) (S.left src.old) (S.left src.new) }
     ensures unread { (IsReplay (map string_bytes words.now) → ⊥) → src.new ≡ src.old }
 {
     match command_of(words) {
         Some(Command::Replay) => replayed(alloc, src, disk),
-        Some(Command::Recover) => store_said(alloc, disk),
-        Some(Command::Dump) => segments_said(alloc, disk),
-        None => saying(alloc, Status::Usage, USAGE),
+        Some(Command::Recover) => {
+            let said = store_said(alloc, &mut disk);
+            Answered { said, disk }
+        }
+        Some(Command::Dump) => {
+            let said = segments_said(alloc, &mut disk);
+            Answered { said, disk }
+        }
+        None => Answered {
+            said: saying(alloc, Status::Usage, USAGE),
+            disk,
+        },
     }
 }
 
@@ -105,12 +122,12 @@ pub fn run<S: Source, K: Sink, D: Disk + Send, G: Gate + Sync, R: Threads + Wait
     words: &[String],
     src: &mut S,
     out: &mut K,
-    mut disk: D,
+    disk: D,
     gate: &G,
 ) -> Ran<D>
     requires idle { NothingInFlight (D.view disk) }
 
-    // Status 0: the whole text of the command is written. A replay is answered over what the directories recover to, and the log of its batches is written and synced; the store is that of all batches; the segments are reported as they read.
+    // Status 0: the whole text of the command is written. A replay is answered over what the directories recover to, and its batches are written to a journal and synced; the store is that of all batches; the segments are reported as they read.
     ensures done { result.status ≡ statuses.Done → (text : List ℕ) × IsDone (map string_bytes words.now) (S.left src.old) (S.left src.new) D.tells (D.view disk) (D.view result.disk) text × Wrote (K.written out.old) (K.written out.new) text }
 
     // Status 1: exactly where the words are no command. Only a replay reads the source.
@@ -130,7 +147,7 @@ pub fn run<S: Source, K: Sink, D: Disk + Send, G: Gate + Sync, R: Threads + Wait
     ensures part { result.status ≡ statuses.Write
         → WrotePartOf (map string_bytes words.now) (S.left src.old) (S.left src.new) D.tells (D.view disk) (D.view result.disk) (K.written out.old) (K.written out.new) }
 
-    // Status 5: only where a side failed in recovery, where no file is begun, or an operation on the log failed.
+    // Status 5: only where a side failed in recovery, where no file is begun, or where the journal died, for which operations have to fail.
     ensures disk { result.status ≡ statuses.Disk → (text : List ℕ) × FailsDisk (map string_bytes words.now) (S.left src.old) (S.left src.new) D.tells (D.view disk) (D.view result.disk) text
         × Wrote (K.written out.old) (K.written out.new) text }
 
@@ -167,14 +184,15 @@ pub fn run<S: Source, K: Sink, D: Disk + Send, G: Gate + Sync, R: Threads + Wait
     ensures untouched { IsBeforeDisk result.status → D.view result.disk ≡ D.view disk }
     ensures goes_on { GoesOn (D.view disk) (D.view result.disk) }
 
-    // Whatever the status, no file but the log of the next WAL changes unless by a sync, only a replay has a log, a dump starts nothing, and nothing is left in flight. Without a replay a crash at any moment leaves only what one before the run might have left.
+    // Whatever the status, no file but segments of the next WAL changes unless by a sync, only a replay has a journal, and a dump starts nothing. Without a replay nothing is left in flight, and a crash at any moment leaves only what one before the run might have left.
     ensures others { IsTrue D.tells → (wal : ℕ) → IsNextWal (directories (D.view disk)) wal → OthersStay wal (files (D.view disk)) (files (D.view result.disk)) }
     ensures no_log { (IsReplay (map string_bytes words.now) → ⊥) → IsTrue D.tells → OnlySynced (files (D.view disk)) (files (D.view result.disk)) }
     ensures starts_nothing { IsDump (map string_bytes words.now) → SameDisk (D.view disk) (D.view result.disk) }
     ensures each_moment { (IsReplay (map string_bytes words.now) → ⊥) → IsTrue D.tells → AtEachMoment ((D.view disk).clock) (D.view result.disk) (AddsNoImage (files (D.view disk))) }
-    ensures idle { NothingInFlight (D.view result.disk) }
+    ensures idle { (IsReplay (map string_bytes words.now) → ⊥) → NothingInFlight (D.view result.disk) }
 {
-    match answered(alloc, words, src, &mut disk) {
+    let Answered { said, disk } = answered(alloc, words, src, disk);
+    match said {
         Ok(said) => {
             let status = ended(out, &said);
             Ran { status, disk }

@@ -1,32 +1,41 @@
-use Rattle.std.proofs.Common.{◌≡◌, ◌≤◌, ◌++◌, [], ℕ, length, ap, ◌∙◌, arith}
-use Rattle.std.proofs.lemmas.List.{nil_from_length, length-drop}
-use Rattle.batch_repr.specs.declared.limits.TheConstants.{NUMBER_MAX}
+-- What the journal tells of the stalled disk is told of the disk within.
+use Rattle.std.proofs.Common.{[], List, sym, subst}
+use Rattle.batch_repr.specs.declared.batch.Batch.{Batch}
 use Rattle.batch_repr.specs.Batches.{end_after}
-use Rattle.wal_top.specs.Printing.{end_line}
+use Rattle.disk_face.specs.declared.script_disk.ScriptDisk.{ScriptDisk}
+use Rattle.disk_face.specs.View.{DiskView}
+use Rattle.disk_face.specs.Script.{TellsOf, stalled}
 use Rattle.wal_top.specs.Replay.{FIRST}
-use Rattle.wal_top.proofs.Going.{goes_from, goes_on, has_gone}
+use Rattle.wal_top.specs.Journaling.{Runs}
+use Rattle.wal_top.specs.Doing.{ReplaysOver}
+use Rattle.wal_top.proofs.Saying.{ok_map, ok_then}
+use Rattle.wal_top.proofs.Telling.{goes_told, runs_others, replays_told}
 use Rattle.wal_top.proofs.replay.replay.Goals as goal
 
-pub loop-act-init : goal.loop-act-init
-loop-act-init c =
-    goes_from c.args.base c.args.acts.items c.over-history.result c.in_ok-text.text c.in_ok-records.records c.over-history.ensures c.in_ok-text.ensures c.in_ok-records.ensures.records c.in_ok-records.ensures.start
+-- a disk that a script stalls, as it is seen
+abbrev seen : {D : Type 0} → (D → DiskView) → ScriptDisk D → DiskView
+seen view d = stalled (view d.inner) d.primary_polls d.secondary_polls
 
-pub loop-act-preserved-then-branch : goal.loop-act-preserved-then-branch
-loop-act-preserved-then-branch c =
-    (goes_on c.args.base c.args.acts.items c.loop-act.history c.do_act.new.history c.in-Some.act c.loop-act.acts.items c.pop_front.new.self.items c.loop-act.text c.do_act.new.text
-    c.loop-act.records c.do_act.new.records c.loop-act.limited c.loop-act.invariant c.in-Some.ensures.items c.in_ok-do_act.field-0 c.in_ok-do_act.ensures).0 c.if-branch.true
+after : (g : _) (c : goal.After-into_inner g) → TellsOf (g.D.Disk.view c.into_inner.result) (seen g.D.Disk.view c.go-ended.new.self.journal.disk)
+after g c = subst (λ (d : ScriptDisk _). TellsOf (g.D.Disk.view c.into_inner.result) (seen g.D.Disk.view d)) c.answered-said.ensures.disk c.into_inner.ensures.tells
 
-pub loop-act-preserved : goal.loop-act-preserved
-loop-act-preserved c =
-    (goes_on c.args.base c.args.acts.items c.loop-act.history c.do_act.new.history c.in-Some.act c.loop-act.acts.items c.pop_front.new.self.items c.loop-act.text c.do_act.new.text
-    c.loop-act.records c.do_act.new.records c.loop-act.limited c.loop-act.invariant c.in-Some.ensures.items c.in_ok-do_act.field-0 c.in_ok-do_act.ensures).1 c.if-branch.false
+ran : (g : _) (c : goal.After-into_inner g)
+    → (more : List Batch) × Runs g.D.Disk.tells (seen g.D.Disk.view c.new-disk.result) c.args.wal (end_after FIRST c.args.base) more c.go-ended.new.self.journal.state (seen g.D.Disk.view c.go-ended.new.self.journal.disk)
+ran g c = c.go-ended.ensures.runs (seen g.D.Disk.view c.new-disk.result) c.args.wal (end_after FIRST c.args.base) [] c.in-Ok.ensures.begins.runs
 
-pub returns : goal.returns
-returns c =
-    let none_left : c.loop-act.acts.items ≡ [] =
-    nil_from_length c.loop-act.acts.items (omega (arith, ap length (c.in_default.ensures.items ∙ c.in_default.ensures.rest), length-drop 1 c.loop-act.acts.items)) in
-    let few : c.end.result ≡ length c.loop-act.records.records = omega (arith, c.end.ensures, c.loop-act.invariant.start) in
-    let last : c.put_end.new.out ≡ c.loop-act.text ++ end_line (end_after FIRST c.loop-act.history) (length c.loop-act.records.records) =
-    c.in_ok-put_end.ensures ∙ ap (λ (n : ℕ). c.loop-act.text ++ end_line n c.end.result) c.visible.ensures.visible ∙ ap (λ (n : ℕ). c.loop-act.text ++ end_line (end_after FIRST c.loop-act.history) n) few in
-    let small : end_after FIRST c.loop-act.history ≤ NUMBER_MAX = omega (arith, c.visible.ensures.visible, c.visible.ensures.within) in
-    has_gone c.args.base c.args.acts.items c.loop-act.history c.loop-act.acts.items c.loop-act.text c.put_end.new.out c.loop-act.records c.loop-act.limited c.loop-act.invariant none_left c.visible.ensures.numbered small last
+pub returns-in-Ok-clause-goes_on : goal.returns-in-Ok-clause-goes_on
+returns-in-Ok-clause-goes_on g c =
+    goes_told (g.D.Disk.view c.args.disk) (seen g.D.Disk.view c.new-disk.result) (seen g.D.Disk.view c.go-ended.new.self.journal.disk) (g.D.Disk.view c.into_inner.result) c.new-disk.ensures.tells c.new-disk.ensures.no_polls (after g c) (ran g c).1.goes
+
+pub returns-in-Ok-clause-others : goal.returns-in-Ok-clause-others
+returns-in-Ok-clause-others g c told =
+    runs_others (g.D.Disk.view c.args.disk) (seen g.D.Disk.view c.new-disk.result) (seen g.D.Disk.view c.go-ended.new.self.journal.disk) (g.D.Disk.view c.into_inner.result) c.new-disk.ensures.tells c.new-disk.ensures.no_polls (after g c)
+    g.D.Disk.tells c.args.wal (end_after FIRST c.args.base) (ran g c).0 c.go-ended.new.self.journal.state (ran g c).1 told
+
+pub returns-in-Ok-clause-replays : goal.returns-in-Ok-clause-replays
+returns-in-Ok-clause-replays g c =
+    ok_map c.answered-said.result.said c.answered-said.ensures.said
+    (λ said p. subst (ReplaysOver c.args.base c.args.acts.items c.args.wal g.D.Disk.tells (g.D.Disk.view c.args.disk) (g.D.Disk.view c.into_inner.result) said.status) (sym p.1)
+    (replays_told (g.D.Disk.view c.args.disk) (seen g.D.Disk.view c.new-disk.result) (seen g.D.Disk.view c.go-ended.new.self.journal.disk) (g.D.Disk.view c.into_inner.result) c.new-disk.ensures.tells c.new-disk.ensures.no_polls (after g c)
+    c.args.base c.args.acts.items c.args.wal g.D.Disk.tells said.status c.go-ended.new.self.text
+    (ok_then _ c.go-ended.result said.status p.0 c.go-ended.ensures.replays c.args.base (seen g.D.Disk.view c.new-disk.result) c.args.wal c.in-Ok.ensures.begins)))

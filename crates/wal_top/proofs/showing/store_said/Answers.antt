@@ -16,4 +16,4 @@ pub returns-in-Err-clause-shows : goal.returns-in-Err-clause-shows
 returns-in-Err-clause-shows g c =
     let e = c.in-Err.ensures in
     ok_map c.unrecovered.result c.unrecovered.ensures (λ said p.
-    unrecovered said.status said.text (says_unrecovered Strict g.D.Disk.tells (g.D.Disk.view c.args.disk.now) (g.D.Disk.view c.recover.new.disk) e.files c.in-Err.fault said.status said.text p e.disk e.refused e.untouched))
+    unrecovered said.status said.text (says_unrecovered Strict g.D.Disk.tells (g.D.Disk.view c.args.disk.now) (g.D.Disk.view c.recover.new.disk) e.files e.idle c.in-Err.fault said.status said.text p e.disk e.refused e.untouched))

@@ -10,12 +10,12 @@ use Rattle.wal_top.proofs.top.answered.Goals as goal
 
 pub returns-in-Some-Recover-clause-says : goal.returns-in-Some-Recover-clause-says
 returns-in-Some-Recover-clause-says g c =
-    ok_map c.store_said.result c.store_said.ensures.shows (λ said p. says_of_store (map string_bytes c.args.words.now) (g.S.Source.left c.args.src.now) (g.S.Source.left c.args.src.now) g.D.Disk.tells (g.D.Disk.view c.args.disk.now) (g.D.Disk.view c.store_said.new.disk) said.status said.text
+    ok_map c.store_said-said.result c.store_said-said.ensures.shows (λ said p. says_of_store (map string_bytes c.args.words.now) (g.S.Source.left c.args.src.now) (g.S.Source.left c.args.src.now) g.D.Disk.tells (g.D.Disk.view c.args.disk) (g.D.Disk.view c.store_said-said.new.disk) said.status said.text
     (subst (λ (k : Command). IsWordOf k (map string_bytes c.args.words.now)) c.in-Some-Recover.field-0-is c.in-Some-Recover.ensures.found) refl p)
 
 pub returns-in-Some-Dump-clause-says : goal.returns-in-Some-Dump-clause-says
 returns-in-Some-Dump-clause-says g c =
-    ok_map c.segments_said.result c.segments_said.ensures.shows (λ said p. says_of_segments (map string_bytes c.args.words.now) (g.S.Source.left c.args.src.now) (g.S.Source.left c.args.src.now) g.D.Disk.tells (g.D.Disk.view c.args.disk.now) (g.D.Disk.view c.segments_said.new.disk) said.status said.text
+    ok_map c.segments_said-said.result c.segments_said-said.ensures.shows (λ said p. says_of_segments (map string_bytes c.args.words.now) (g.S.Source.left c.args.src.now) (g.S.Source.left c.args.src.now) g.D.Disk.tells (g.D.Disk.view c.args.disk) (g.D.Disk.view c.segments_said-said.new.disk) said.status said.text
     (subst (λ (k : Command). IsWordOf k (map string_bytes c.args.words.now)) c.in-Some-Dump.field-0-is c.in-Some-Dump.ensures.found) refl p)
 
 pub returns-in-None-clause-says : goal.returns-in-None-clause-says

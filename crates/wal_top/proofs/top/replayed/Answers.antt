@@ -9,11 +9,11 @@ use Rattle.wal_top.proofs.top.replayed.Goals as goal
 
 pub returns-in-Ok-clause-says : goal.returns-in-Ok-clause-says
 returns-in-Ok-clause-says g c =
-    ok_map c.said_of.result c.said_of.ensures.comes (λ said p words is. says_of_script words (g.S.Source.left c.args.src.now) (g.S.Source.left c.read_script_bytes.new.src) g.D.Disk.tells (g.D.Disk.view c.args.disk.now) (g.D.Disk.view c.said_of.new.disk) c.in-Ok.script is c.in-Ok.ensures.whole c.in-Ok.ensures.within said.status said.text
-    (subst (λ (t : List ℕ). ScriptComesTo t g.D.Disk.tells (g.D.Disk.view c.args.disk.now) (g.D.Disk.view c.said_of.new.disk) said.status said.text) c.as_slice.ensures p))
+    ok_map c.said_of.result.said c.said_of.ensures.comes (λ said p words is. says_of_script words (g.S.Source.left c.args.src.now) (g.S.Source.left c.read_script_bytes.new.src) g.D.Disk.tells (g.D.Disk.view c.args.disk) (g.D.Disk.view c.said_of.result.disk) c.in-Ok.script is c.in-Ok.ensures.whole c.in-Ok.ensures.within said.status said.text
+    (subst (λ (t : List ℕ). ScriptComesTo t g.D.Disk.tells (g.D.Disk.view c.args.disk) (g.D.Disk.view c.said_of.result.disk) said.status said.text) c.as_slice.ensures p))
 
 pub returns-in-Ok-clause-read : goal.returns-in-Ok-clause-read
-returns-in-Ok-clause-read g c = ok_map c.said_of.result c.said_of.ensures.comes (λ said p e. absurd (never_reads _ _ _ _ said.status said.text p e))
+returns-in-Ok-clause-read g c = ok_map c.said_of.result.said c.said_of.ensures.comes (λ said p e. absurd (never_reads _ _ _ _ said.status said.text p e))
 
 pub returns-in-Err-Fault-clause-says : goal.returns-in-Err-Fault-clause-says
 returns-in-Err-Fault-clause-says g c =
