@@ -21,3 +21,4 @@ pub mod Stepped
 pub mod Closing
 pub mod Settling
 pub mod Opening
+pub mod Reading

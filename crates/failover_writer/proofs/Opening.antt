@@ -107,7 +107,7 @@ by_number_filled dirs low (wal ∷ wals) by =
 -- ---- files at rest
 
 -- A file at rest reads as it was sent.
-reads_sent : (o : Option File) (f : File) → o ≡ Some f → IsRestedFile f → as_read o ≡ Some f.sent
+pub reads_sent : (o : Option File) (f : File) → o ≡ Some f → IsRestedFile f → as_read o ≡ Some f.sent
 reads_sent o f is rests = ap as_read is ∙ rw rests.created (ap Some rests.reads)
 
 -- What reads is a file at rest that was sent so.

@@ -64,7 +64,7 @@ busy_found None (Some index) seen state answer same is is_late rests (last, (w, 
 
 -- ---- how many are broken
 
-count_head : (w : Writer) (writers : List Writer) → count_by is_broken (w ∷ writers) ≡ cond (is_broken w) 1 0 + count_by is_broken writers
+pub count_head : (w : Writer) (writers : List Writer) → count_by is_broken (w ∷ writers) ≡ cond (is_broken w) 1 0 + count_by is_broken writers
 count_head w writers = sum_by-cons (λ (v : Writer). cond (is_broken v) 1 0) w writers
 
 count_at : (front : List Writer) (w : Writer) (back : List Writer) → count_by is_broken (front ++ w ∷ back) ≡ count_by is_broken front + (cond (is_broken w) 1 0 + count_by is_broken back)

@@ -1,18 +1,19 @@
 //! Laws of what a stop leaves of a journal (docs/FORMATS.md, "What a stop leaves of a journal").
 
 ghost use Rattle.std.specs.Prelude.{◌≡◌, ◌<◌, ℕ, Bool, List, Some, IsTrue};
+ghost use Rattle.crc_chunk.specs.Chunk.{IsChunkOf};
 ghost use Rattle.batch_repr.specs.declared.batch.Batch.{Batch};
 ghost use Rattle.batch_repr.specs.Batches.{end_after};
 ghost use Rattle.disk_face.specs.declared.Side.{Side};
 ghost use Rattle.disk_face.specs.declared.SegName.{SegName};
 ghost use Rattle.disk_face.specs.Listing.{IsSegmentName};
 ghost use Rattle.disk_face.specs.View.{segment, File, Files, DiskView, files};
-ghost use Rattle.disk_face.specs.Image.{IsRested, dirs_as_read};
+ghost use Rattle.disk_face.specs.Image.{IsImage, IsChanceFree, IsRested, dirs_as_read};
 ghost use Rattle.wal_recovery.specs.Recovering.{FIRST_NUMBER, Recovers};
 ghost use Rattle.wal_recovery.specs.Resting.{AreSegmentsStable};
-ghost use Rattle.failover_writer.specs.State.{State, acked};
+ghost use Rattle.failover_writer.specs.State.{State, acked, broken_count};
 ghost use Rattle.failover_writer.specs.Ranges.{StandsFor};
-ghost use Rattle.failover_writer.specs.Keeping.{KeepsRun, RecoversTo, IsOpenedOn, IsOpening, KeepsBase};
+ghost use Rattle.failover_writer.specs.Keeping.{KeepsRun, RecoversTo, OthersStay, IsOpenedOn, IsOpening, KeepsBase};
 
 /// A journal keeps its run: in each image its segments merge to the first of its records, with all that are acked, and every
 /// other file is as it was when the journal was begun.
@@ -29,4 +30,9 @@ pub fn a_journal_keeps_its_base()
 /// to what they read as.
 pub fn stable_files_open_a_journal()
     ensures { (wal : ℕ) (base : List Batch) (now : Files) → IsRested now → AreSegmentsStable now → Recovers (dirs_as_read now) base → ((side : Side) (name : SegName) (f : File) → IsSegmentName name → now (segment side name) ≡ Some f → name.wal < wal) → IsOpening wal (end_after FIRST_NUMBER base) base now }
+{}
+
+/// A journal of which no segment has failed, begun on files at rest, reads as an image of its disk that no torn chunk deceives.
+pub fn a_journal_without_failures_reads_as_an_image()
+    ensures { (tells : Bool) (records : List Batch) (opening : Files) (state : State) (v : DiskView) → IsTrue tells → StandsFor tells records state v → broken_count state ≡ 0 → IsRested opening → OthersStay opening state (files v) → IsImage (files v) (dirs_as_read (files v)) × IsChanceFree IsChunkOf (files v) (dirs_as_read (files v)) }
 {}

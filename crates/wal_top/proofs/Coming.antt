@@ -10,7 +10,8 @@ use Rattle.disk_face.proofs.Moments.{rose_later}
 use Rattle.log_writer.specs.Fits.{IsUnsent}
 use Rattle.failover_writer.specs.Ranges.{side_at, AreUnsent}
 use Rattle.failover_writer.specs.Answered.{FaultsRose}
-use Rattle.failover_writer.proofs.Opening.{read_synced, recovered_opens}
+use Rattle.failover_writer.specs.Keeping.{RecoversTo}
+use Rattle.failover_writer.proofs.Opening.{read_synced, rested_synced, recovered_opens}
 use Rattle.wal_recovery.specs.Listing.{Stored, StandsIn, name_in, IsNextWal}
 use Rattle.wal_recovery.specs.declared.reports.Mode.TheVariants.{Strict}
 use Rattle.wal_recovery.specs.Recovering.{Recovers}
@@ -78,6 +79,9 @@ module _ (old mid new : DiskView) (wal : ℕ) (tells : Bool) (only : IsTrue tell
         record { within = e.within; all = e.all; rests = e.rests; begun = e.begun; none = e.none; more = λ many. more_since (e.more many); failed = λ died. rose_since (e.failed died); ten = e.ten }
 
     module _ (stable : IsTrue tells → IsRested (files old) → AreSegmentsStable (files mid)) (within : wal ≤ LAST_WAL) (next : IsTrue tells → IsNextWal (directories old) wal) (recovers : IsTrue tells → Recovers (directories old) base) where
+      recovers_since : IsTrue tells → IsRested (files old) → RecoversTo base batches end.acked (files new)
+      recovers_since told rested = ended.recovers told base (recovered_opens wal base (files old) (files mid) rested (only told) (stable told rested) (recovers told) (next told))
+
       logs_since : LogsBatches tells base batches end.acked old new
       logs_since = record {
         wal = wal;
@@ -85,7 +89,10 @@ module _ (old mid new : DiskView) (wal : ℕ) (tells : Bool) (only : IsTrue tell
         next = next;
         others = others_stay ended.others;
         nothing = λ told empty p. subst (IsAsOrSynced (files old p)) (sym (ended.nothing told empty p)) (only told p);
-        recovers = λ told rested. ended.recovers told base (recovered_opens wal base (files old) (files mid) rested (only told) (stable told rested) (recovers told) (next told));
+        recovers = recovers_since;
+        read = λ told rested calm.
+            let whole = ended.read told (rested_synced (files old) (files mid) rested (only told)) (λ rose. calm (rose_since rose)) in
+            recovers_since told rested (directories new) whole.0 whole.1;
         stable = λ told rested side name f listed other is. stable told rested side name f listed (sym (ended.others told (segment side name) other) ∙ is);
       }
 

@@ -1,5 +1,6 @@
 -- What the calls of a run's journal keep of it, one after another.
 use Rattle.std.proofs.Common.{◌≡◌, ◌≢◌, ◌⊎◌, inl, inr, ℕ, suc, ◌≤◌, ◌<◌, Bool, true, false, List, [], ◌∷◌, ◌++◌, length, map, Option, Some, None, IsTrue, Result, Ok, ap, sym, subst, ◌∙◌, refl, arith, append_assoc}
+use native.Mathlib.Decide.{dec_le}
 use Rattle.std.specs.Prelude.{max, Contains}
 use Rattle.std.specs.List.{AllByRecursion}
 use Rattle.std.proofs.lemmas.List.{append-nil, length-append, length-drop, nil_from_length}
@@ -14,7 +15,7 @@ use Rattle.log_writer.specs.Fits.{file_of}
 use Rattle.failover_writer.specs.declared.fault.JournalFault.{JournalFault}
 use Rattle.failover_writer.specs.declared.fault.Step.{Step}
 use Rattle.failover_writer.specs.declared.fault.DeadMark.{DeadMark}
-use Rattle.failover_writer.specs.State.{State, Held, len, acked, most_synced}
+use Rattle.failover_writer.specs.State.{State, Held, len, acked, most_synced, broken_count}
 use Rattle.failover_writer.specs.Ranges.{AreJoined, StandsFor, KeepsRecords}
 use Rattle.failover_writer.specs.Stepping.{HasWork, Polls, StepRule}
 use Rattle.failover_writer.specs.Stepping as stepping
@@ -25,6 +26,7 @@ use Rattle.failover_writer.specs.Keeping.{IsElsewhere, KeepsBase, Passes}
 use Rattle.failover_writer.proofs.Stepped.{still_of}
 use Rattle.failover_writer.proofs.Segments.{not_theirs, synced_within}
 use Rattle.failover_writer.proofs.Kept.{run_kept_now}
+use Rattle.failover_writer.proofs.Reading.{reads_as_image}
 use Rattle.failover_writer.proofs.OverBase.{base_recovers, none_of_opening}
 use Rattle.wal_top.specs.declared.replies.JournalEnd.{JournalEnd}
 use Rattle.wal_top.specs.Log.{PollsLeft, EndsAs}
@@ -318,6 +320,12 @@ module _ (tells : Bool) (start : DiskView) (wal base : ℕ) (own : List Batch) (
       ten = λ d. r.ten (dead d);
     }
 
+    not_broken : (FaultsRose start v → ⊥) → broken_count state ≡ 0
+    not_broken calm = elim (dec_le 1 (broken_count state)) [
+      | yes some ↦ absurd (calm (r.harmed (inr some)))
+      | no none ↦ omega (arith, none)
+    ]
+
     pub has_ended : HasEnded tells start wal base own end v
     has_ended = record {
       ends = ends;
@@ -326,4 +334,5 @@ module _ (tells : Bool) (start : DiskView) (wal base : ℕ) (own : List Batch) (
       recovers = λ told b opening.
           let keeps = r.kept told b opening in
           base_recovers state.wal state.base own b (acked state) keeps.opening (files v) keeps.begun (run_kept_now tells own keeps.opening state v told r.stands (record { absent = none_of_opening state.wal state.base b keeps.opening keeps.begun; others = keeps.others told }));
+      read = λ told rested calm. reads_as_image tells own (files start) state v told r.stands (not_broken calm) rested (r.others told);
     }

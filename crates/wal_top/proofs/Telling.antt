@@ -5,6 +5,7 @@ use Rattle.batch_repr.specs.Batches.{end_after}
 use Rattle.disk_face.specs.declared.Side.{Side}
 use Rattle.disk_face.specs.declared.OpId.{OpId}
 use Rattle.disk_face.specs.View.{DiskView, Files, Flight, files, NothingInFlight}
+use Rattle.disk_face.specs.Image.{IsRested}
 use Rattle.disk_face.specs.Calls.{GoesOn}
 use Rattle.disk_face.specs.Script.{TellsOf}
 use Rattle.failover_writer.specs.State.{State}
@@ -14,7 +15,7 @@ use Rattle.wal_top.specs.declared.script.Act.{Act}
 use Rattle.wal_top.specs.declared.replies.JournalEnd.{JournalEnd}
 use Rattle.wal_top.specs.declared.status.Status.{Status}
 use Rattle.wal_top.specs.Log.{PollsLeft, EndsAs}
-use Rattle.wal_top.specs.Journaling.{Runs, OthersSame, HasEnded}
+use Rattle.wal_top.specs.Journaling.{Runs, OthersSame, ReadsAsImage, HasEnded}
 use Rattle.wal_top.specs.Doing.{ReplaysOver}
 use Rattle.wal_top.proofs.Running.{others_same}
 
@@ -82,6 +83,7 @@ module _ (old start v new : DiskView) (before : TellsOf old start) (polls : (sid
         let same : files v p ≡ files start p = e.nothing told empty p in
         ap (λ (fs : Files). fs p) (sym now_files) ∙ same ∙ ap (λ (fs : Files). fs p) was_files;
     recovers = λ told base opening. subst (RecoversTo base own end.acked) now_files (e.recovers told base (subst (IsOpening wal first base) (sym was_files) opening));
+    read = λ told rested calm. subst ReadsAsImage now_files (e.read told (subst IsRested (sym was_files) rested) (λ rose. calm (rose_told rose)));
   }
 
   pub replays_told : (base : List Batch) (acts : List Act) (wal : ℕ) (tells : Bool) (status : Status) (text : List ℕ) → ReplaysOver base acts wal tells start v status text → ReplaysOver base acts wal tells old new status text

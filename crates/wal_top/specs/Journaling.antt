@@ -2,7 +2,9 @@
 use Rattle.std.specs.Prelude.{◌≡◌, ◌≢◌, ◌⊎◌, ℕ, Bool, List, [], ◌++◌, length, None, IsTrue}
 use Rattle.batch_repr.specs.declared.batch.Batch.{Batch}
 use Rattle.disk_face.specs.View.{Place, Files, DiskView, files}
+use Rattle.disk_face.specs.Image.{IsImage, IsChanceFree, IsRested, dirs_as_read}
 use Rattle.disk_face.specs.Calls.{GoesOn}
+use Rattle.crc_chunk.specs.Chunk.{IsChunkOf}
 use Rattle.failover_writer.specs.State.{State}
 use Rattle.failover_writer.specs.Ranges.{StandsFor}
 use Rattle.failover_writer.specs.Answered.{FaultsRose, IsHarmed, IsSmooth}
@@ -28,12 +30,17 @@ pub record Runs (tells : Bool) (start : DiskView) (wal first : ℕ) (own : List 
 abbrev pub OthersSame : ℕ → Files → Files → Type 0
 OthersSame wal old new = (p : Place) → IsElsewhere wal p → new p ≡ old p
 
+-- The directories as they read are an image in which no torn chunk deceives.
+abbrev pub ReadsAsImage : Files → Type 0
+ReadsAsImage files = IsImage files (dirs_as_read files) × IsChanceFree IsChunkOf files (dirs_as_read files)
+
 -- The journal was closed, or died, with these numbers, over the disk as it is now.
 pub record HasEnded (tells : Bool) (start : DiskView) (wal first : ℕ) (own : List Batch) (end : JournalEnd) (v : DiskView) : Type 0 where
   pub ends : EndsAs (length own) end start v
   pub others : IsTrue tells → OthersSame wal (files start) (files v)
   pub nothing : IsTrue tells → own ≡ [] → (p : Place) → files v p ≡ files start p
   pub recovers : IsTrue tells → (base : List Batch) → IsOpening wal first base (files start) → RecoversTo base own end.acked (files v)
+  pub read : IsTrue tells → IsRested (files start) → (FaultsRose start v → ⊥) → ReadsAsImage (files v)
 
 -- It went on so, and some batches may have come behind the others.
 abbrev pub RunsOn : Bool → State → DiskView → State → DiskView → Type 0

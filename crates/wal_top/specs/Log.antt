@@ -9,7 +9,7 @@ use Rattle.disk_face.specs.Listing.{IsSegmentName}
 use Rattle.wal_recovery.specs.Listing.{IsNextWal}
 use Rattle.wal_recovery.specs.Resting.{IsAsOrSynced, OnlySynced, IsStable}
 use Rattle.failover_writer.specs.Answered.{FaultsRose}
-use Rattle.failover_writer.specs.Keeping.{IsElsewhere, RecoversTo}
+use Rattle.failover_writer.specs.Keeping.{IsElsewhere, RecoversTo, RecoversWith}
 use Rattle.wal_top.specs.declared.replies.JournalEnd.{JournalEnd}
 
 -- the greatest number of a WAL
@@ -47,7 +47,7 @@ pub record EndsAs (batches : ℕ) (end : JournalEnd) (old new : DiskView) : Type
 
 -- The journal of the batches stands in the next WAL of the directories, where the disk tells its files. No other file changed but
 -- by a sync, and no file at all where there is no batch. Where the files were at rest, whatever a crash leaves recovers to the base
--- followed by the first of the batches, with all that are acked.
+-- followed by the first of the batches, with all that are acked; and so do the directories as they read, where no fault rose.
 pub record LogsBatches (tells : Bool) (base batches : List Batch) (acked : ℕ) (old new : DiskView) : Type 0 where
   pub wal : ℕ
   pub within : wal ≤ LAST_WAL
@@ -55,4 +55,5 @@ pub record LogsBatches (tells : Bool) (base batches : List Batch) (acked : ℕ) 
   pub others : IsTrue tells → OthersStay wal (files old) (files new)
   pub nothing : IsTrue tells → batches ≡ [] → OnlySynced (files old) (files new)
   pub recovers : IsTrue tells → IsRested (files old) → RecoversTo base batches acked (files new)
+  pub read : IsTrue tells → IsRested (files old) → (FaultsRose old new → ⊥) → RecoversWith base batches acked (directories new)
   pub stable : IsTrue tells → IsRested (files old) → AreOthersStable wal (files new)

@@ -1,15 +1,16 @@
 //! The acts of a script, done one after another over a journal.
 
-ghost use Rattle.std.specs.Prelude.{◌≡◌, ◌+◌, ◌≤◌, ◌∷◌, ◌++◌, ℕ, [], Ok, None, List, IfOk, IfErr, IsTrue, OnOk};
+ghost use Rattle.std.specs.Prelude.{◌≡◌, ◌↔◌, ◌+◌, ◌≤◌, ℕ, Ok, None, List, IfOk, IfErr, IsTrue, OnOk};
 ghost use Rattle.batch_repr.specs.declared.batch.Batch.{Batch};
 ghost use Rattle.batch_repr.specs.declared.limits.TheConstants.{NUMBER_MAX};
 ghost use Rattle.batch_repr.specs.Batches.{count_of, end_after, IsContiguous};
 ghost use Rattle.disk_face.specs.View.{DiskView, files, NothingInFlight};
 ghost use Rattle.disk_face.specs.Calls.{GoesOn};
+ghost use Rattle.failover_writer.specs.declared.fault.Step.TheVariants as steps;
 ghost use Rattle.failover_writer.specs.Ranges.{AreUnsent};
 ghost use Rattle.wal_top.specs.declared.replies.JournalEnd.{JournalEnd};
 ghost use Rattle.wal_top.specs.Replay.{FIRST};
-ghost use Rattle.wal_top.specs.Journaling.{Runs, RunsOn, RunsStill, OthersSame};
+ghost use Rattle.wal_top.specs.Journaling.{RunsOn, RunsStill, OthersSame};
 ghost use Rattle.wal_top.specs.Doing as doing;
 ghost use Rattle.wal_top.specs.Doing.{IsBegun, stage_of, Commits, DoesCommit, DoesGet, DoesAct, Closes, EndsRun, ReplaysOver};
 
@@ -33,7 +34,9 @@ const SESSION: u32 = 0;
 const THRESHOLD: u32 = 3;
 
 /// Whether the next step may do more at once.
-fn moved(stepped: Result<Step, JournalFault>) -> Result<bool, NoMemory> {
+fn moved(stepped: Result<Step, JournalFault>) -> Result<bool, NoMemory>
+    ensures { IfOk result (λ more. IsTrue more ↔ (stepped ≡ Ok steps.Moved)) }
+{
     match stepped {
         Ok(Step::Moved) => Ok(true),
         Ok(Step::Idle | Step::Waited) | Err(JournalFault::Dead { .. }) => Ok(false),

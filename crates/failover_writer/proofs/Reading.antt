@@ -1,0 +1,142 @@
+-- A journal of which no segment has failed reads as an image of its disk: each file is one of its segments', which reads a front
+-- of what was sent, or is as it was at rest.
+use Rattle.std.proofs.Common.{◌≡◌, ◌≢◌, ◌⊎◌, inl, inr, ℕ, suc, ◌+◌, ◌≤◌, Bool, true, false, List, [], ◌∷◌, ◌++◌, length, take, drop, Option, Some, None, IsTrue, ap, sym, subst, ◌∙◌, refl, arith, cond}
+use Rattle.std.specs.Prelude.{max, count_by}
+use Rattle.std.specs.List.{AllByRecursion}
+use Rattle.std.proofs.lemmas.List.{length-drop, take-append-drop, take-append-le, drop-append-le}
+use Rattle.crc_chunk.specs.Chunk.{chunk, IsChunkOf}
+use Rattle.crc_chunk.proofs.Places.{stands_within}
+use Rattle.block_record.proofs.Fragments.{chunk_len}
+use Rattle.block_record.specs.Framing.{laid}
+use Rattle.batch_repr.specs.declared.batch.Batch.{Batch}
+use Rattle.disk_face.specs.View.{Place, segment, table, File, Files, DiskView, files}
+use Rattle.disk_face.specs.Image.{IsImageOf, IsImage, IsChanceFree, IsRestedFile, IsRested, log_of, as_read, dirs_as_read}
+use Rattle.disk_face.specs.Calls.{fresh}
+use Rattle.disk_face.proofs.Places.{same_place}
+use Rattle.log_writer.specs.declared.phase.Operation.TheVariants.{Create, Write, Sync}
+use Rattle.log_writer.specs.declared.phase.Phase.{Phase}
+use Rattle.log_writer.specs.declared.phase.Phase.TheVariants.{New, InFlight, Idle, Broken}
+use Rattle.log_writer.specs.Writer.{Writer}
+use Rattle.log_writer.specs.Parts.{part, texts, segment_bytes}
+use Rattle.log_writer.specs.Fits.{file_of, file_with, IsOrdered, HoldsRecords, HasFile, Fits}
+use Rattle.log_writer.proofs.Parts.{bytes_split, bytes_front}
+use Rattle.failover_writer.specs.State.{State, phase_is_broken, is_broken, broken_count}
+use Rattle.failover_writer.specs.Ranges.{AreJoined, StandsFor}
+use Rattle.failover_writer.specs.Keeping.{OthersStay}
+use Rattle.failover_writer.proofs.Opening.{reads_sent}
+use Rattle.failover_writer.proofs.Polled.{count_head}
+use Rattle.failover_writer.proofs.Segments.{not_theirs}
+
+-- ---- one file
+
+-- What a read finds of a file is one of its images, and each chunk that stands there was sent so.
+record ReadsAsImage (place : Place) (f : Option File) : Type 0 where
+  image : IsImageOf place f (as_read f)
+  was_sent : (g : File) (bytes : List ℕ) (at size : ℕ) → f ≡ Some g → as_read f ≡ Some bytes → IsChunkOf bytes at (log_of place) size → take size (drop at bytes) ≡ take size (drop at g.sent)
+
+-- What was sent to a file is an image of it.
+sent_is_image : (place : Place) (f : File) → IsImageOf place (Some f) (Some f.sent)
+sent_is_image (segment side name) f = λ made. (drop f.stable f.sent, sym (take-append-drop f.stable f.sent))
+sent_is_image (table upto) f = λ made. refl
+
+rested_reads : (place : Place) (f : Option File) → ((g : File) → f ≡ Some g → IsRestedFile g) → ReadsAsImage place f
+rested_reads place None rested = record { image = tt; was_sent = λ g bytes at size is read here. absurd cc }
+rested_reads place (Some f) rested =
+    let read_is : as_read (Some f) ≡ Some f.sent = reads_sent (Some f) f refl (rested f refl) in
+    record {
+      image = subst (λ (o : Option (List ℕ)). IsImageOf place (Some f) o) (sym read_is) (sent_is_image place f);
+      was_sent = λ g bytes at size is read here.
+          let same : Some bytes ≡ Some f.sent = sym read ∙ read_is in
+          let bytes_are : bytes ≡ g.sent = cc in
+          ap (λ (l : List ℕ). take size (drop at l)) bytes_are;
+    }
+
+-- A chunk that stands in a front has the same bytes in the whole.
+chunk_in_front : (front more : List ℕ) (at log size : ℕ) → IsChunkOf front at log size → take size (drop at front) ≡ take size (drop at (front ++ more))
+chunk_in_front front more at log size here =
+    let long : length (chunk here.kind log here.payload) ≡ 11 + length here.payload = chunk_len here.kind log here.payload in
+    let fits : at + length (chunk here.kind log here.payload) ≤ length front = stands_within here.stands.stands (omega (arith, long)) in
+    sym (ap (take size) (drop-append-le at front more (omega (arith, fits))) ∙ take-append-le size (drop at front) more (omega (arith, fits, long, here.size_is, length-drop at front)))
+
+-- ---- one segment
+
+fresh_reads : (w : Writer) (f : Option File) → f ≡ Some fresh → ReadsAsImage (file_of w) f
+fresh_reads w f is = subst (ReadsAsImage (file_of w)) (sym is) (record { image = λ e. absurd cc; was_sent = λ g bytes at size same read here. absurd cc })
+
+module _ (records : List Batch) (w : Writer) (ordered : IsOrdered records w) where
+  -- the bytes of its records up to this one
+  abbrev upto : ℕ → List ℕ
+  upto to = segment_bytes w.log w.from to records
+
+  -- the bytes of its records from this one on, up to another
+  abbrev behind : ℕ → ℕ → List ℕ
+  behind mid to = laid w.log (length (upto mid)) (texts (part mid to records))
+
+  written_reads : ReadsAsImage (file_of w) (Some (file_with records w (upto w.written)))
+  written_reads = record {
+    image = λ made. (
+      behind w.synced w.written,
+      bytes_split w.log w.from w.synced w.written records ordered.from ordered.synced
+          ∙ ap (λ (front : List ℕ). front ++ behind w.synced w.written) (sym (bytes_front w.log w.from w.synced w.sent records ordered.from (omega (arith, ordered.synced, ordered.written)))),
+    );
+    was_sent = λ g bytes at size is read here.
+        let bytes_are : upto w.written ≡ bytes = cc in
+        let sent_is : upto w.sent ≡ g.sent = ap (λ (o : Option File). sent_of o) is in
+        let split : upto w.sent ≡ upto w.written ++ behind w.written w.sent = bytes_split w.log w.from w.written w.sent records (omega (arith, ordered.from, ordered.synced)) ordered.written in
+        subst (λ (l : List ℕ). take size (drop at l) ≡ take size (drop at g.sent)) bytes_are
+        (chunk_in_front (upto w.written) (behind w.written w.sent) at (log_of (file_of w)) size (subst (λ (l : List ℕ). IsChunkOf l at (log_of (file_of w)) size) (sym bytes_are) here)
+        ∙ ap (λ (l : List ℕ). take size (drop at l)) (sym split ∙ sent_is));
+  }
+    where
+      sent_of : Option File → List ℕ
+      sent_of None = []
+      sent_of (Some f) = f.sent
+
+  held_reads : (f : Option File) → HoldsRecords records w f → ReadsAsImage (file_of w) f
+  held_reads f holds = subst (ReadsAsImage (file_of w)) (sym holds) written_reads
+
+  phase_reads : (phase : Phase) (f : Option File) → phase ≢ New → phase_is_broken phase ≡ false → HasFile phase records w f → ReadsAsImage (file_of w) f
+  phase_reads New f begun whole has = absurd (begun refl)
+  phase_reads (InFlight Create id) f begun whole is = fresh_reads w f is
+  phase_reads (InFlight Write id) f begun whole holds = held_reads f holds
+  phase_reads (InFlight Sync id) f begun whole holds = held_reads f holds
+  phase_reads Idle f begun whole holds = held_reads f holds
+  phase_reads Broken f begun whole has = absurd cc
+
+-- ---- all files
+
+none_counted : (b : Bool) (n : ℕ) → cond b 1 0 + n ≡ 0 → (b ≡ false) × (n ≡ 0)
+none_counted true n none = absurd (omega (arith, none))
+none_counted false n none = (refl, omega (arith, none))
+
+all_read : (tells : Bool) (records : List Batch) (v : DiskView) → IsTrue tells → (wal index synced : ℕ) (ws : List Writer) → AreJoined wal index synced ws → AllByRecursion (λ (w : Writer). Fits tells records w v) ws → count_by is_broken ws ≡ 0
+    → AllByRecursion (λ (w : Writer). ReadsAsImage (file_of w) (files v (file_of w))) ws
+unfolding AreJoined
+all_read tells records v told wal index synced [] joined fit none = tt
+all_read tells records v told wal index synced (w ∷ ws) joined fit none =
+    let counted = none_counted (is_broken w) (count_by is_broken ws) (sym (count_head w ws) ∙ none) in (
+      phase_reads records w fit.0.ordered w.phase (files v (file_of w)) joined.0.begun counted.0 (fit.0.file told),
+      all_read tells records v told wal (suc index) (max synced w.synced) ws joined.2 fit.1 counted.1,
+    )
+
+-- What holds at the place of each holds here, or the place is none of theirs.
+holds_or_apart : (P : Place → Type 0) (ws : List Writer) (place : Place) → AllByRecursion (λ (w : Writer). P (file_of w)) ws → P place ⊎ AllByRecursion (λ (w : Writer). file_of w ≢ place) ws
+holds_or_apart P [] place all = inr tt
+holds_or_apart P (w ∷ ws) place all = elim (same_place (file_of w) place) [
+  | inl here ↦ inl (subst P here all.0)
+  | inr other ↦ elim (holds_or_apart P ws place all.1) [ inl here ↦ inl here | inr apart ↦ inr (other, apart) ]
+]
+
+each_reads : (tells : Bool) (records : List Batch) (opening : Files) (state : State) (v : DiskView) → IsTrue tells → StandsFor tells records state v → broken_count state ≡ 0 → IsRested opening → OthersStay opening state (files v)
+    → (place : Place) → ReadsAsImage place (files v place)
+each_reads tells records opening state v told stands none rested others place =
+    elim (holds_or_apart (λ (p : Place). ReadsAsImage p (files v p)) state.segments place (all_read tells records v told state.wal 0 0 state.segments stands.joined stands.fit none)) [
+      | inl own ↦ own
+      | inr apart ↦ subst (ReadsAsImage place) (sym (others place (not_theirs state.segments place apart))) (rested_reads place (opening place) (rested place))
+    ]
+
+pub reads_as_image : (tells : Bool) (records : List Batch) (opening : Files) (state : State) (v : DiskView) → IsTrue tells → StandsFor tells records state v → broken_count state ≡ 0 → IsRested opening → OthersStay opening state (files v)
+    → IsImage (files v) (dirs_as_read (files v)) × IsChanceFree IsChunkOf (files v) (dirs_as_read (files v))
+reads_as_image tells records opening state v told stands none rested others =
+    let each : (place : Place) → ReadsAsImage place (files v place) = each_reads tells records opening state v told stands none rested others in
+    (λ p. (each p).image, λ p f bytes at size is read here. (each p).was_sent f bytes at size is read here)
