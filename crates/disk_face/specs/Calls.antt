@@ -103,7 +103,7 @@ pub record ChangesFile (place : Place) (Change : Option File → Option File →
 
 -- Pending: one poll less is left on its side, and nothing else happened
 pub record StaysPending (id : OpId) (old new : DiskView) : Type 0 where
-  pub fell : new.polls_left id.side < old.polls_left id.side
+  pub fell : new.polls_left id.side + 1 ≡ old.polls_left id.side
   pub same : SameDisk old new
 
 -- Done: the operation ended, and one moment passed, in which its file changed as it is done

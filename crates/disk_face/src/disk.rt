@@ -1,7 +1,8 @@
 //! What a disk does, and what it means to contracts: one view, `DiskView`.
 
-ghost use Rattle.std.specs.Prelude.{◌≡◌, ◌≤◌, ℕ, Bool, length, drop, IfOk, OnErr, IsErrOf, IsSome, IsTrue, Some, None};
+ghost use Rattle.std.specs.Prelude.{◌≡◌, ◌≢◌, ◌≤◌, ℕ, Bool, length, drop, IfOk, OnErr, IsErrOf, IsSome, IsTrue, Some, None};
 ghost use Rattle.wal_base.specs.Faults.{Rose};
+ghost use Rattle.disk_face.specs.declared.Side.{Side};
 ghost use Rattle.disk_face.specs.View.{DiskView, Place, segment, File, files, IsFree, IsFiniteFiles};
 ghost use Rattle.disk_face.specs.Image.{IsSound};
 ghost use Rattle.disk_face.specs.Listing.{IsAscending, AreSegmentNames, IsListing};
@@ -24,6 +25,8 @@ pub trait Disk {
         ensures goes_on { GoesOn (view self.old) (view self.new) }
         ensures same { SameDisk (view self.old) (view self.new) }
         ensures failed { IsErrOf result DiskErr.Failed → Rose ((view self.old).faults side) ((view self.new).faults side) }
+        ensures steady { (s : Side) → (IsErrOf result DiskErr.Failed × (s ≡ side) → ⊥) → (view self.new).faults s ≡ (view self.old).faults s }
+        ensures stalls { (view self.new).polls_left ≡ (view self.old).polls_left }
         ensures ascending { IfOk result IsAscending }
         ensures numbers { IfOk result AreSegmentNames }
         ensures names { IfOk result (λ names. IsTrue tells → IsListing (files (view self.old)) side names) };
@@ -35,6 +38,8 @@ pub trait Disk {
         ensures goes_on { GoesOn (view self.old) (view self.new) }
         ensures same { SameDisk (view self.old) (view self.new) }
         ensures failed { IsErrOf result DiskErr.Failed → Rose ((view self.old).faults side) ((view self.new).faults side) }
+        ensures steady { (s : Side) → (IsErrOf result DiskErr.Failed × (s ≡ side) → ⊥) → (view self.new).faults s ≡ (view self.old).faults s }
+        ensures stalls { (view self.new).polls_left ≡ (view self.old).polls_left }
         ensures within { IfOk result (λ n. n ≤ length buf.new) }
         ensures behind { IfOk result (λ n. drop n buf.new ≡ drop n buf.old) }
         ensures bytes { IfOk result (λ n. IsTrue tells → (f : File) → files (view self.old) (segment side name) ≡ Some f → FillsFrom f.reads at buf.new n) }
@@ -47,6 +52,7 @@ pub trait Disk {
         ensures goes_on { GoesOn (view self.old) (view self.new) }
         ensures starts { IfOk result (λ id. Starts (flight_of op.entry) (side_of op.entry) id (view self.old) (view self.new)) }
         ensures file { IfOk result (λ id. IsTrue tells → ChangesFile (place_of op.entry) (λ f g. g ≡ after_start (flight_of op.entry).act (bytes_of op.entry) f) (view self.old) (view self.new)) }
+        ensures stalls { (view self.new).polls_left ≡ (view self.old).polls_left }
         ensures err { OnErr result (view self.new ≡ view self.old) };
 
     /// Asks how an operation in flight stands. `Done` and `Failed` end it; `Failed` comes only where its side
@@ -54,6 +60,8 @@ pub trait Disk {
     fn poll(&mut self, id: OpId) -> Progress
         requires { IsSome ((view self.old).in_flight id) }
         ensures goes_on { GoesOn (view self.old) (view self.new) }
+        ensures steady { (s : Side) → ((result ≡ Progress.Failed) × (s ≡ id.side) → ⊥) → (view self.new).faults s ≡ (view self.old).faults s }
+        ensures stalls { (s : Side) → ((result ≡ Progress.Pending) × (s ≡ id.side) → ⊥) → (view self.new).polls_left s ≡ (view self.old).polls_left s }
         ensures polled { Polled tells id (view self.old) (view self.new) result };
 
     /// At each moment no more than the places of some list have a file.

@@ -83,6 +83,8 @@ impl<D: Disk> Disk for ScriptDisk<D> {
         ensures goes_on { GoesOn (⟦<ScriptDisk<D> as Disk>⟧.view self.old) (⟦<ScriptDisk<D> as Disk>⟧.view self.new) }
         ensures same { SameDisk (⟦<ScriptDisk<D> as Disk>⟧.view self.old) (⟦<ScriptDisk<D> as Disk>⟧.view self.new) }
         ensures failed { IsErrOf result DiskErr.Failed → Rose ((⟦<ScriptDisk<D> as Disk>⟧.view self.old).faults side) ((⟦<ScriptDisk<D> as Disk>⟧.view self.new).faults side) }
+        ensures steady { (s : Side) → (IsErrOf result DiskErr.Failed × (s ≡ side) → ⊥) → (⟦<ScriptDisk<D> as Disk>⟧.view self.new).faults s ≡ (⟦<ScriptDisk<D> as Disk>⟧.view self.old).faults s }
+        ensures stalls { (⟦<ScriptDisk<D> as Disk>⟧.view self.new).polls_left ≡ (⟦<ScriptDisk<D> as Disk>⟧.view self.old).polls_left }
         ensures ascending { IfOk result IsAscending }
         ensures numbers { IfOk result AreSegmentNames }
         ensures names { IfOk result (λ names. IsTrue D.tells → IsListing (files (⟦<ScriptDisk<D> as Disk>⟧.view self.old)) side names) }
@@ -97,6 +99,8 @@ impl<D: Disk> Disk for ScriptDisk<D> {
         ensures goes_on { GoesOn (⟦<ScriptDisk<D> as Disk>⟧.view self.old) (⟦<ScriptDisk<D> as Disk>⟧.view self.new) }
         ensures same { SameDisk (⟦<ScriptDisk<D> as Disk>⟧.view self.old) (⟦<ScriptDisk<D> as Disk>⟧.view self.new) }
         ensures failed { IsErrOf result DiskErr.Failed → Rose ((⟦<ScriptDisk<D> as Disk>⟧.view self.old).faults side) ((⟦<ScriptDisk<D> as Disk>⟧.view self.new).faults side) }
+        ensures steady { (s : Side) → (IsErrOf result DiskErr.Failed × (s ≡ side) → ⊥) → (⟦<ScriptDisk<D> as Disk>⟧.view self.new).faults s ≡ (⟦<ScriptDisk<D> as Disk>⟧.view self.old).faults s }
+        ensures stalls { (⟦<ScriptDisk<D> as Disk>⟧.view self.new).polls_left ≡ (⟦<ScriptDisk<D> as Disk>⟧.view self.old).polls_left }
         ensures within { IfOk result (λ n. n ≤ length buf.new) }
         ensures behind { IfOk result (λ n. drop n buf.new ≡ drop n buf.old) }
         ensures bytes { IfOk result (λ n. IsTrue D.tells → (f : File) → files (⟦<ScriptDisk<D> as Disk>⟧.view self.old) (segment side name) ≡ Some f → FillsFrom f.reads at buf.new n) }
@@ -114,6 +118,7 @@ impl<D: Disk> Disk for ScriptDisk<D> {
         ensures goes_on { GoesOn (⟦<ScriptDisk<D> as Disk>⟧.view self.old) (⟦<ScriptDisk<D> as Disk>⟧.view self.new) }
         ensures starts { IfOk result (λ id. Starts (flight_of op.entry) (side_of op.entry) id (⟦<ScriptDisk<D> as Disk>⟧.view self.old) (⟦<ScriptDisk<D> as Disk>⟧.view self.new)) }
         ensures file { IfOk result (λ id. IsTrue D.tells → ChangesFile (place_of op.entry) (λ f g. g ≡ after_start (flight_of op.entry).act (bytes_of op.entry) f) (⟦<ScriptDisk<D> as Disk>⟧.view self.old) (⟦<ScriptDisk<D> as Disk>⟧.view self.new)) }
+        ensures stalls { (⟦<ScriptDisk<D> as Disk>⟧.view self.new).polls_left ≡ (⟦<ScriptDisk<D> as Disk>⟧.view self.old).polls_left }
         ensures err { OnErr result (⟦<ScriptDisk<D> as Disk>⟧.view self.new ≡ ⟦<ScriptDisk<D> as Disk>⟧.view self.old) }
 
         // The polls that this disk answers itself stay.
@@ -125,6 +130,8 @@ impl<D: Disk> Disk for ScriptDisk<D> {
     fn poll(&mut self, id: OpId) -> Progress
         requires { IsSome ((⟦<ScriptDisk<D> as Disk>⟧.view self.old).in_flight id) }
         ensures goes_on { GoesOn (⟦<ScriptDisk<D> as Disk>⟧.view self.old) (⟦<ScriptDisk<D> as Disk>⟧.view self.new) }
+        ensures steady { (s : Side) → ((result ≡ Progress.Failed) × (s ≡ id.side) → ⊥) → (⟦<ScriptDisk<D> as Disk>⟧.view self.new).faults s ≡ (⟦<ScriptDisk<D> as Disk>⟧.view self.old).faults s }
+        ensures stalls { (s : Side) → ((result ≡ Progress.Pending) × (s ≡ id.side) → ⊥) → (⟦<ScriptDisk<D> as Disk>⟧.view self.new).polls_left s ≡ (⟦<ScriptDisk<D> as Disk>⟧.view self.old).polls_left s }
         ensures polled { Polled D.tells id (⟦<ScriptDisk<D> as Disk>⟧.view self.old) (⟦<ScriptDisk<D> as Disk>⟧.view self.new) result }
 
         // It answers itself while the side has own polls left, and else passes the poll on.

@@ -1,6 +1,6 @@
 //! The disk over files.
 
-ghost use Rattle.std.specs.Prelude.{◌≡◌, false, IfOk, IsOk, IsErr};
+ghost use Rattle.std.specs.Prelude.{◌≡◌, ◌≢◌, false, IfOk, IsOk, IsErr};
 ghost use Rattle.disk_face.specs.declared.Side.{Side};
 ghost use Rattle.disk_face.specs.View.{NothingInFlight};
 ghost use Rattle.disk_face.specs.Calls as spec;
@@ -45,6 +45,7 @@ impl<R: Files + AllocGlobal + Clone + Drop> FileDisk<R> {
         ensures goes_on { GoesOn (file_view self.old.primary self.old.secondary) (file_view self.new.primary self.new.secondary) }
         ensures same { SameDisk (file_view self.old.primary self.old.secondary) (file_view self.new.primary self.new.secondary) }
         ensures rose { Rose ((file_view self.old.primary self.old.secondary).faults side) ((file_view self.new.primary self.new.secondary).faults side) }
+        ensures others { (s : Side) → s ≢ side → (file_view self.new.primary self.new.secondary).faults s ≡ (file_view self.old.primary self.old.secondary).faults s }
     {
         match side {
             Side::Primary => self.primary.raise(),
@@ -57,6 +58,7 @@ impl<R: Files + AllocGlobal + Clone + Drop> FileDisk<R> {
         ensures goes_on { GoesOn (file_view self.old.primary self.old.secondary) (file_view self.new.primary self.new.secondary) }
         ensures same { SameDisk (file_view self.old.primary self.old.secondary) (file_view self.new.primary self.new.secondary) }
         ensures done { IsOk answer → result ≡ Progress.Done }
+        ensures steady { (s : Side) → (IsErr answer × (s ≡ side) → ⊥) → (file_view self.new.primary self.new.secondary).faults s ≡ (file_view self.old.primary self.old.secondary).faults s }
         ensures failed { IsErr answer → (result ≡ Progress.Failed) × Rose ((file_view self.old.primary self.old.secondary).faults side) ((file_view self.new.primary self.new.secondary).faults side) }
     {
         match answer {
@@ -72,6 +74,7 @@ impl<R: Files + AllocGlobal + Clone + Drop> FileDisk<R> {
     fn end(&mut self, id: OpId) -> Option<Started>
         ensures goes_on { GoesOn (file_view self.old.primary self.old.secondary) (file_view self.new.primary self.new.secondary) }
         ensures ends { Ends id (file_view self.old.primary self.old.secondary) (file_view self.new.primary self.new.secondary) }
+        ensures steady { (s : Side) → (file_view self.new.primary self.new.secondary).faults s ≡ (file_view self.old.primary self.old.secondary).faults s }
     {
         match id.side {
             Side::Primary => self.primary.end(id.number),

@@ -22,6 +22,8 @@ impl BySide {
         ensures taken { MatchBool result (by_side self.new.primary self.new.secondary side < by_side self.old.primary self.old.secondary side) (self.new ≡ self.old) }
         ensures none { MatchBool result (0 < by_side self.old.primary self.old.secondary side) (by_side self.old.primary self.old.secondary side ≡ 0) }
         ensures others { (s : Side) → by_side self.new.primary self.new.secondary s ≤ by_side self.old.primary self.old.secondary s }
+        ensures exact { MatchBool result (by_side self.new.primary self.new.secondary side + 1 ≡ by_side self.old.primary self.old.secondary side) (self.new ≡ self.old) }
+        ensures others_stay { (s : Side) → s ≢ side → by_side self.new.primary self.new.secondary s ≡ by_side self.old.primary self.old.secondary s }
     {
         match side {
             Side::Primary => {
@@ -56,6 +58,8 @@ impl BySide {
     pub fn raise(&mut self, side: Side)
         ensures here { Rose (by_side self.old.primary self.old.secondary side) (by_side self.new.primary self.new.secondary side) }
         ensures others { (s : Side) → by_side self.old.primary self.old.secondary s ≤ by_side self.new.primary self.new.secondary s }
+        ensures exact { by_side self.new.primary self.new.secondary side ≡ min (by_side self.old.primary self.old.secondary side + 1) (2 ^ 64 - 1) }
+        ensures others_stay { (s : Side) → s ≢ side → by_side self.new.primary self.new.secondary s ≡ by_side self.old.primary self.old.secondary s }
     {
         match side {
             Side::Primary => self.primary = self.primary.saturating_add(1),

@@ -1,7 +1,7 @@
 //! The disk in memory.
 #![tactic(auto, unfolding(crate::specs::Mem::mem_view))]
 
-ghost use Rattle.std.specs.Prelude.{◌≡◌, ◌↔◌, ◌+◌, ◌≤◌, true, [], ◌∷◌, ◌++◌, length, drop, vec_capacity, IfOk, IfNone, IfSome, OnOk, OnErr, IsErrOf, IsSome, IsTrue, None, Some};
+ghost use Rattle.std.specs.Prelude.{◌≡◌, ◌≢◌, ◌↔◌, ◌+◌, ◌≤◌, true, [], ◌∷◌, ◌++◌, length, drop, vec_capacity, IfOk, IfNone, IfSome, OnOk, OnErr, IsErrOf, IsSome, IsTrue, None, Some};
 ghost use Rattle.disk_face.specs.declared.Side.{Side};
 ghost use Rattle.disk_face.specs.View.{Place, File, segment, files, by_side, IsFree, NothingInFlight};
 ghost use Rattle.disk_face.specs.Image.{IsImage, IsChanceFree, IsRested, as_read, as_sent, dirs_as_read};
@@ -82,6 +82,8 @@ impl MemDisk {
         ensures flights { (⟦<MemDisk as Disk>⟧.view self.new).in_flight ≡ (⟦<MemDisk as Disk>⟧.view self.old).in_flight }
         ensures put { OnOk result (ChangesFile (segment side name) (λ f g. g ≡ Some (whole bytes.now)) (⟦<MemDisk as Disk>⟧.view self.old) (⟦<MemDisk as Disk>⟧.view self.new)) }
         ensures err { OnErr result (⟦<MemDisk as Disk>⟧.view self.new ≡ ⟦<MemDisk as Disk>⟧.view self.old) }
+        ensures stalls { (⟦<MemDisk as Disk>⟧.view self.new).polls_left ≡ (⟦<MemDisk as Disk>⟧.view self.old).polls_left }
+        ensures steady { (⟦<MemDisk as Disk>⟧.view self.new).faults ≡ (⟦<MemDisk as Disk>⟧.view self.old).faults }
         ensures plan { ⟦<MemDisk as Planned>⟧.plan self.new ≡ ⟦<MemDisk as Planned>⟧.plan self.old }
         ensures rested { IsRested (files (⟦<MemDisk as Disk>⟧.view self.old)) → IsRested (files (⟦<MemDisk as Disk>⟧.view self.new)) }
     {
@@ -206,6 +208,10 @@ impl Disk for MemDisk {
         // It fails exactly at the calls that were to fail.
         ensures fails { IsErrOf result DiskErr.Failed ↔ FailsNext (⟦<MemDisk as Planned>⟧.plan self.old) }
         ensures counts { ⟦<MemDisk as Planned>⟧.plan self.new ≡ after_call (⟦<MemDisk as Planned>⟧.plan self.old) }
+
+        // No poll to stall is taken, and nothing is counted but the failure that is answered.
+        ensures stalls { (⟦<MemDisk as Disk>⟧.view self.new).polls_left ≡ (⟦<MemDisk as Disk>⟧.view self.old).polls_left }
+        ensures steady { (s : Side) → (IsErrOf result DiskErr.Failed × (s ≡ side) → ⊥) → (⟦<MemDisk as Disk>⟧.view self.new).faults s ≡ (⟦<MemDisk as Disk>⟧.view self.old).faults s }
     {
         if self.calls.next() {
             self.faults.raise(side);
@@ -227,6 +233,10 @@ impl Disk for MemDisk {
         // It fails exactly at the calls that were to fail.
         ensures fails { IsErrOf result DiskErr.Failed ↔ FailsNext (⟦<MemDisk as Planned>⟧.plan self.old) }
         ensures counts { ⟦<MemDisk as Planned>⟧.plan self.new ≡ after_call (⟦<MemDisk as Planned>⟧.plan self.old) }
+
+        // No poll to stall is taken, and nothing is counted but the failure that is answered.
+        ensures stalls { (⟦<MemDisk as Disk>⟧.view self.new).polls_left ≡ (⟦<MemDisk as Disk>⟧.view self.old).polls_left }
+        ensures steady { (s : Side) → (IsErrOf result DiskErr.Failed × (s ≡ side) → ⊥) → (⟦<MemDisk as Disk>⟧.view self.new).faults s ≡ (⟦<MemDisk as Disk>⟧.view self.old).faults s }
     {
         if self.calls.next() {
             self.faults.raise(side);
@@ -246,6 +256,7 @@ impl Disk for MemDisk {
         // The operations are numbered as they are started.
         ensures number { IfOk result (λ id. id.number ≡ (⟦<MemDisk as Planned>⟧.plan self.old).starts) }
         ensures counts { OnOk result (⟦<MemDisk as Planned>⟧.plan self.new ≡ after_op (⟦<MemDisk as Planned>⟧.plan self.old)) }
+        ensures stalls { (⟦<MemDisk as Disk>⟧.view self.new).polls_left ≡ (⟦<MemDisk as Disk>⟧.view self.old).polls_left }
         ensures not_counted { OnErr result (⟦<MemDisk as Planned>⟧.plan self.new ≡ ⟦<MemDisk as Planned>⟧.plan self.old) }
     {
         let made = op_of(op);
@@ -272,6 +283,11 @@ impl Disk for MemDisk {
         // It fails exactly where the operation was to fail, once it is not stalled.
         ensures answers { AnswersAsPlanned (⟦<MemDisk as Planned>⟧.plan self.old) id.number ((⟦<MemDisk as Disk>⟧.view self.old).polls_left id.side) result }
         ensures plan { ⟦<MemDisk as Planned>⟧.plan self.new ≡ ⟦<MemDisk as Planned>⟧.plan self.old }
+
+        // A stalled poll takes one poll of its side, and no other one does. Nothing is counted but the failure that is answered.
+        ensures took { result ≡ Progress.Pending → (⟦<MemDisk as Disk>⟧.view self.new).polls_left id.side + 1 ≡ (⟦<MemDisk as Disk>⟧.view self.old).polls_left id.side }
+        ensures stalls { (s : Side) → ((result ≡ Progress.Pending) × (s ≡ id.side) → ⊥) → (⟦<MemDisk as Disk>⟧.view self.new).polls_left s ≡ (⟦<MemDisk as Disk>⟧.view self.old).polls_left s }
+        ensures steady { (s : Side) → ((result ≡ Progress.Failed) × (s ≡ id.side) → ⊥) → (⟦<MemDisk as Disk>⟧.view self.new).faults s ≡ (⟦<MemDisk as Disk>⟧.view self.old).faults s }
 
         // A failed operation leaves each file as it stands.
         ensures kept { result ≡ Progress.Failed → files (⟦<MemDisk as Disk>⟧.view self.new) ≡ files (⟦<MemDisk as Disk>⟧.view self.old) }

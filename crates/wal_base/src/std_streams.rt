@@ -1,6 +1,8 @@
 //! The standard streams. They tell no content, and are part of the trusted edge.
 
-ghost use Rattle.std.specs.Prelude.{◌≡◌};
+ghost use Rattle.std.specs.Prelude.{◌≡◌, ◌≤◌, ◌<◌, length, IfOk, IsErr, IsErrOf};
+ghost use Rattle.std.specs.Io.KnownBytes.{ReadConsumes, WriteAppends};
+ghost use Rattle.wal_base.specs.Faults.{HasCause, StaysUnless};
 
 use crate::stream::{PutErr, ReadFault, Sink, Source};
 use std::io::{Read, Write};
@@ -13,18 +15,11 @@ pub struct StdSource<I: Read + Drop> {
     faults: u64,
 }
 
-impl<I: Read + Drop> Model for StdSource<I> {
-    ghost use Rattle.std.specs.Prelude.{ℕ};
-
-    ghost Value = { ℕ };
-
-    ghost view = { λ s. s.faults };
-}
-
 impl<I: Read + Drop> StdSource<I> {
     /// Has not failed yet.
     pub fn new(input: I) -> Self
-        ensures { result ≡ 0 }
+        ensures faults { result.faults ≡ 0 }
+        ensures input { result.input ≡ input }
     {
         StdSource { input, faults: 0 }
     }
@@ -35,9 +30,16 @@ impl<I: Read + Drop> Source for StdSource<I> {
 
     ghost left = { λ _. None };
 
-    ghost faults = { λ s. s };
+    ghost faults = { λ s. s.faults };
 
-    fn take(&mut self, buf: &mut [u8]) -> Result<usize, ReadFault> {
+    fn take(&mut self, buf: &mut [u8]) -> Result<usize, ReadFault>
+        ensures within { IfOk result (λ n. n ≤ length buf.old) }
+        ensures cause { HasCause (IsErr result) self.old.faults self.new.faults }
+        ensures steady { StaysUnless (IsErr result) self.old.faults self.new.faults }
+
+        // It hands out what the reader gives, and where that gives nothing it is at its end.
+        ensures passed { ReadConsumes (I.remaining self.old.input) (I.remaining self.new.input) result buf.new }
+    {
         match self.input.read(buf) {
             Ok(count) => Ok(count),
             Err(_) => {
@@ -55,18 +57,11 @@ pub struct StdSink<O: Write + Drop> {
     faults: u64,
 }
 
-impl<O: Write + Drop> Model for StdSink<O> {
-    ghost use Rattle.std.specs.Prelude.{ℕ};
-
-    ghost Value = { ℕ };
-
-    ghost view = { λ s. s.faults };
-}
-
 impl<O: Write + Drop> StdSink<O> {
     /// Has not failed yet.
     pub fn new(output: O) -> Self
-        ensures { result ≡ 0 }
+        ensures faults { result.faults ≡ 0 }
+        ensures output { result.output ≡ output }
     {
         StdSink { output, faults: 0 }
     }
@@ -77,12 +72,21 @@ impl<O: Write + Drop> Sink for StdSink<O> {
 
     ghost written = { λ _. None };
 
-    ghost faults = { λ s. s };
+    ghost faults = { λ s. s.faults };
 
     ghost shortages = { λ _. 0 };
 
     /// A write that takes nothing of a piece that is not empty is an error, and counted.
-    fn put(&mut self, bytes: &[u8]) -> Result<usize, PutErr> {
+    fn put(&mut self, bytes: &[u8]) -> Result<usize, PutErr>
+        ensures within { IfOk result (λ n. n ≤ length bytes.now) }
+        ensures some { IfOk result (λ n. 0 < length bytes.now → 0 < n) }
+        ensures cause { HasCause (IsErrOf result PutErr.Failed) self.old.faults self.new.faults }
+        ensures steady { StaysUnless (IsErrOf result PutErr.Failed) self.old.faults self.new.faults }
+        ensures no_shortage { IsErrOf result PutErr.NoMemory → ⊥ }
+
+        // The writer takes what is answered, from the front, and nothing where it failed.
+        ensures passed { WriteAppends (O.contents self.old.output) (O.contents self.new.output) result bytes.now }
+    {
         match self.output.write(bytes) {
             Ok(count) if count > 0 || bytes.is_empty() => Ok(count),
             _ => {

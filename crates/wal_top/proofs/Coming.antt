@@ -106,6 +106,9 @@ module _ (old mid new : DiskView) (wal : ℕ) (tells : Bool) (only : IsTrue tell
         recovers = recovers;
         answers = r.answers;
         ends = ends_since base r.batches r.end goes r.ended;
+        wal = wal;
+        next = next;
+        of = r.ended.of;
         logs = logs_since base r.batches r.end goes r.ended stable within next recovers;
       }
 

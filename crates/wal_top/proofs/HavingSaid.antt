@@ -25,7 +25,7 @@ module _ (words : List (List ℕ)) (before after : Option (List ℕ)) (tells : B
 
   module _ (script : List ℕ) (is : IsReplay words) (whole : ReadsWhole before script after) (short : length script ≤ SCRIPT_MAX) where
     replays : (acts : List Act) (batches : List Batch) (end : JournalEnd) (text : List ℕ) → ReadsScript before acts after → ReplaysActs acts tells old new batches end text → Replays before after tells old new acts batches end text
-    replays acts batches end text reads r = record { accepts = reads; base = r.base; recovers = r.recovers; answers = r.answers; ends = r.ends; logs = r.logs }
+    replays acts batches end text reads r = record { accepts = reads; base = r.base; recovers = r.recovers; answers = r.answers; ends = r.ends; wal = r.wal; next = r.next; of = r.of; logs = r.logs }
 
     of_acts : (acts : List Act) → ReadsScript before acts after → (status : Status) (text : List ℕ) → ComesTo acts tells old new status text → HasToSay words before after tells old new status text
     of_acts acts reads status text (doing.unrecovered _ _ u) = of_disk Strict status text (inl is) (outcomes.read acts is reads) u

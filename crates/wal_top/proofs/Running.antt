@@ -329,6 +329,7 @@ module _ (tells : Bool) (start : DiskView) (wal base : ℕ) (own : List Batch) (
     pub has_ended : HasEnded tells start wal base own end v
     has_ended = record {
       ends = ends;
+      of = record { journal = state; stands = r.stands; wal_is = r.wal_is; base_is = r.base_is; threshold_is = r.threshold; acked_is = refl; segments_is = refl };
       others = others_same;
       nothing = none_changed;
       recovers = λ told b opening.

@@ -15,6 +15,7 @@ use Rattle.wal_top.specs.declared.script.Act.{Act}
 use Rattle.wal_top.specs.declared.replies.JournalEnd.{JournalEnd}
 use Rattle.wal_top.specs.declared.status.Status.{Status}
 use Rattle.wal_top.specs.Log.{PollsLeft, EndsAs}
+use Rattle.failover_writer.proofs.Standing.{same_stands}
 use Rattle.wal_top.specs.Journaling.{Runs, OthersSame, ReadsAsImage, HasEnded}
 use Rattle.wal_top.specs.Doing.{ReplaysOver}
 use Rattle.wal_top.proofs.Running.{others_same}
@@ -78,6 +79,15 @@ module _ (old start v new : DiskView) (before : TellsOf old start) (polls : (sid
   ended_told : (tells : Bool) (wal first : ℕ) (own : List Batch) (end : JournalEnd) → HasEnded tells start wal first own end v → HasEnded tells old wal first own end new
   ended_told tells wal first own end e = record {
     ends = ends_told (length own) end e.ends;
+    of = record {
+      journal = e.of.journal;
+      stands = same_stands tells own e.of.journal v new (record { in_flight = sym after.in_flight; clock = sym after.clock; history = sym after.history }) e.of.stands;
+      wal_is = e.of.wal_is;
+      base_is = e.of.base_is;
+      threshold_is = e.of.threshold_is;
+      acked_is = e.of.acked_is;
+      segments_is = e.of.segments_is;
+    };
     others = λ told. others_told wal (e.others told);
     nothing = λ told empty p.
         let same : files v p ≡ files start p = e.nothing told empty p in

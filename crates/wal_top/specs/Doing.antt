@@ -19,7 +19,7 @@ use Rattle.wal_top.specs.Cutting.{lines_of}
 use Rattle.wal_top.specs.Script.{IsScript, IsFirstBad}
 use Rattle.wal_top.specs.Printing.{commit_line, limit_line, dead_line, get_line, end_line, bad_line_text, limit_wal_text}
 use Rattle.wal_top.specs.Replay.{FIRST, IsReplayText, AllCommitted, LacksBatch}
-use Rattle.wal_top.specs.Log.{LAST_WAL, directories, EndsAs, LogsBatches}
+use Rattle.wal_top.specs.Log.{LAST_WAL, directories, EndsAs, EndsOf, LogsBatches}
 use Rattle.wal_top.specs.Journaling.{Runs, HasEnded}
 use Rattle.wal_top.specs.Outcomes.{Unrecovered}
 
@@ -129,6 +129,9 @@ pub record ReplaysActs (acts : List Act) (tells : Bool) (old new : DiskView) (ba
   pub recovers : IsTrue tells → Recovers (directories old) base
   pub answers : IsReplayText base acts batches end text
   pub ends : EndsAs (length batches) end old new
+  pub wal : ℕ
+  pub next : IsTrue tells → IsNextWal (directories old) wal
+  pub of : EndsOf tells wal (end_after FIRST base) batches end new
   pub logs : LogsBatches tells base batches end.acked old new
 
 -- What the acts of a script come to over a disk.

@@ -10,7 +10,7 @@ use Rattle.failover_writer.specs.Ranges.{StandsFor}
 use Rattle.failover_writer.specs.Answered.{FaultsRose, IsHarmed, IsSmooth}
 use Rattle.failover_writer.specs.Keeping.{IsElsewhere, OthersStay, IsOpening, KeepsBase, RecoversTo}
 use Rattle.wal_top.specs.declared.replies.JournalEnd.{JournalEnd}
-use Rattle.wal_top.specs.Log.{PollsLeft, EndsAs}
+use Rattle.wal_top.specs.Log.{PollsLeft, EndsAs, EndsOf}
 
 -- A journal of this WAL and first number, begun over a disk as it was then, holds these batches over the disk as it is now.
 pub record Runs (tells : Bool) (start : DiskView) (wal first : ℕ) (own : List Batch) (state : State) (v : DiskView) : Type 0 where
@@ -37,6 +37,7 @@ ReadsAsImage files = IsImage files (dirs_as_read files) × IsChanceFree IsChunkO
 -- The journal was closed, or died, with these numbers, over the disk as it is now.
 pub record HasEnded (tells : Bool) (start : DiskView) (wal first : ℕ) (own : List Batch) (end : JournalEnd) (v : DiskView) : Type 0 where
   pub ends : EndsAs (length own) end start v
+  pub of : EndsOf tells wal first own end v
   pub others : IsTrue tells → OthersSame wal (files start) (files v)
   pub nothing : IsTrue tells → own ≡ [] → (p : Place) → files v p ≡ files start p
   pub recovers : IsTrue tells → (base : List Batch) → IsOpening wal first base (files start) → RecoversTo base own end.acked (files v)

@@ -1,5 +1,5 @@
 -- The journal of a run, and what it leaves (docs/FORMATS.md, "The journal of a run").
-use Rattle.std.specs.Prelude.{◌≡◌, ◌≢◌, ◌⊎◌, ℕ, ◌<◌, ◌≤◌, Bool, false, List, [], Some, IsTrue}
+use Rattle.std.specs.Prelude.{◌≡◌, ◌≢◌, ◌⊎◌, ℕ, ◌<◌, ◌≤◌, Bool, false, List, [], length, Some, IsTrue}
 use Rattle.batch_repr.specs.declared.batch.Batch.{Batch}
 use Rattle.disk_face.specs.declared.Side.{Side}
 use Rattle.disk_face.specs.declared.SegName.{SegName}
@@ -9,6 +9,8 @@ use Rattle.disk_face.specs.Listing.{IsSegmentName}
 use Rattle.wal_recovery.specs.Listing.{IsNextWal}
 use Rattle.wal_recovery.specs.Resting.{IsAsOrSynced, OnlySynced, IsStable}
 use Rattle.failover_writer.specs.Answered.{FaultsRose}
+use Rattle.failover_writer.specs.State.{State, acked}
+use Rattle.failover_writer.specs.Ranges.{StandsFor}
 use Rattle.failover_writer.specs.Keeping.{IsElsewhere, RecoversTo, RecoversWith}
 use Rattle.wal_top.specs.declared.replies.JournalEnd.{JournalEnd}
 
@@ -44,6 +46,16 @@ pub record EndsAs (batches : ℕ) (end : JournalEnd) (old new : DiskView) : Type
   pub more : 1 < end.segments → FaultsRose old new ⊎ PollsLeft old
   pub failed : IsTrue end.died → FaultsRose old new
   pub ten : IsTrue end.died → end.segments ≡ 10
+
+-- These are the numbers of a journal of the batches as it stands on the disk.
+pub record EndsOf (tells : Bool) (wal first : ℕ) (batches : List Batch) (end : JournalEnd) (v : DiskView) : Type 0 where
+  pub journal : State
+  pub stands : StandsFor tells batches journal v
+  pub wal_is : journal.wal ≡ wal
+  pub base_is : journal.base ≡ first
+  pub threshold_is : journal.threshold ≡ 3
+  pub acked_is : end.acked ≡ acked journal
+  pub segments_is : end.segments ≡ length journal.segments
 
 -- The journal of the batches stands in the next WAL of the directories, where the disk tells its files. No other file changed but
 -- by a sync, and no file at all where there is no batch. Where the files were at rest, whatever a crash leaves recovers to the base

@@ -25,7 +25,7 @@ use Rattle.wal_top.specs.Words.{IsCommand, IsReplay, IsRecover, IsDump, Recovers
 use Rattle.wal_top.specs.Printing.{usage_text, read_fault_text, too_long_text, bad_line_text, disk_fault_text, refusal_text, limit_wal_text, segments_text}
 use Rattle.wal_top.specs.Replay.{FIRST, IsReplayText, AllCommitted, LacksBatch}
 use Rattle.wal_recovery.specs.Listing.{IsNextWal}
-use Rattle.wal_top.specs.Log.{LAST_WAL, directories, EndsAs, LogsBatches}
+use Rattle.wal_top.specs.Log.{LAST_WAL, directories, EndsAs, EndsOf, LogsBatches}
 use Rattle.wal_top.specs.Reading.{ReadsScript, ReadsTooMuch, ReadsBadLine}
 
 -- A script of the source was refused with this text: for its length, or for its first bad line.
@@ -51,6 +51,9 @@ pub record Replays (before after : Option (List ℕ)) (tells : Bool) (old new : 
   pub recovers : IsTrue tells → Recovers (directories old) base
   pub answers : IsReplayText base acts batches end text
   pub ends : EndsAs (length batches) end old new
+  pub wal : ℕ
+  pub next : IsTrue tells → IsNextWal (directories old) wal
+  pub of : EndsOf tells wal (end_after FIRST base) batches end new
   pub logs : LogsBatches tells base batches end.acked old new
 
 -- What was done, and its text: a replay of which each batch is committed and synced, the store that was recovered, or the segments that were read.
