@@ -125,7 +125,7 @@ one_late tells state mid new before after one index pending early at polls =
 -- ---- what the polls tell
 
 told_at : (tells : Bool) (id : OpId) (answer : Progress) (before after : DiskView) → Polled tells id before after answer → IsTold before after (Some answer)
-told_at tells id Pending before after polled = (id.side, polled.fell)
+told_at tells id Pending before after polled = (id.side, omega (arith, polled.fell))
 told_at tells id Done before after polled = tt
 told_at tells id Failed before after polled = (id.side, polled.rose)
 
