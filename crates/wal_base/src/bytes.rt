@@ -1,21 +1,31 @@
 //! Lists of bytes: one that stays as it is, and one that grows.
 
-ghost use Rattle.std.specs.Prelude.{◌≡◌, ℕ, List, [], ◌++◌, length, take, IfOk, OnOk, OnErr};
+ghost use Rattle.std.specs.Prelude.{◌≡◌, ◌≤◌, ℕ, List, [], ◌++◌, length, take, slice_range, IfOk, OnOk, OnErr};
+ghost use Rattle.std.specs.Arc.{arc_value};
 
 use crate::NoMemory;
 use std::alloc::Global;
+use std::fmt;
 use std::marker::Model;
+use std::sync::Arc;
 
-/// Bytes that stay as they are. Contracts see the list of them.
-#[derive(Debug, Drop)]
+/// Bytes that stay as they are: a part of bytes that others may share. Contracts see the list of them.
+#[derive(Drop)]
 pub struct Blob {
-    bytes: Vec<u8>,
+    bytes: Arc<Vec<u8>>,
+    from: usize,
+    to: usize,
 }
 
 impl Model for Blob {
+    ghost use Rattle.std.specs.Prelude.{List, ℕ, ◌≤◌, length, slice_range};
+    ghost use Rattle.std.specs.Arc.{arc_value};
+
     ghost Value = { List ℕ };
 
-    ghost view = { λ a. a.bytes.items };
+    ghost view = { λ a. slice_range (arc_value a.bytes).items a.from a.to };
+
+    ghost invariant = { λ a. (a.from ≤ a.to) × (a.to ≤ length (arc_value a.bytes).items) };
 }
 
 impl Blob {
@@ -24,25 +34,55 @@ impl Blob {
         ensures { IfOk result (λ blob. blob ≡ bytes.now) }
     {
         let bytes = Vec::from_slice(alloc, bytes)?;
-        Ok(Blob { bytes })
+        Blob::of_vec(alloc, bytes)
+    }
+
+    /// Takes the bytes over, with no copy.
+    pub fn of_vec(alloc: Global, bytes: Vec<u8>) -> Result<Blob, NoMemory>
+        ensures { IfOk result (λ blob. blob ≡ bytes.items) }
+    {
+        let to = bytes.len();
+        let bytes = Arc::new(alloc, bytes)?;
+        Ok(Blob { bytes, from: 0, to })
+    }
+
+    /// The bytes from one place up to another, which are shared and not copied.
+    pub fn part(&self, from: usize, to: usize) -> Result<Blob, NoMemory>
+        requires order { from ≤ to }
+        requires within { to ≤ length self.now }
+        ensures { IfOk result (λ blob. blob ≡ slice_range self.now from to) }
+    {
+        let bytes = Arc::try_clone(&self.bytes)?;
+        Ok(Blob {
+            bytes,
+            from: self.from + from,
+            to: self.from + to,
+        })
+    }
+
+    /// The same bytes, which are shared and not copied.
+    pub fn share(&self) -> Result<Blob, NoMemory>
+        ensures { IfOk result (λ blob. blob ≡ self.now) }
+    {
+        let bytes = Arc::try_clone(&self.bytes)?;
+        Ok(Blob {
+            bytes,
+            from: self.from,
+            to: self.to,
+        })
     }
 
     /// Shows the bytes.
     pub fn as_slice(&self) -> &[u8]
         ensures { result.now ≡ self.now }
     {
-        self.bytes.as_slice()
+        &self.bytes[self.from..self.to]
     }
 }
 
-impl From<Vec<u8>> for Blob {
-    ghost use Rattle.std.specs.Prelude.{◌≡◌};
-
-    ghost from_gives = { λ bytes blob. blob ≡ bytes.items };
-
-    /// Takes the bytes over, with no copy.
-    fn from(bytes: Vec<u8>) -> Blob {
-        Blob { bytes }
+impl fmt::Debug for Blob {
+    fn fmt<W: fmt::Write>(&self, f: &mut fmt::Formatter<W>) -> fmt::Result {
+        f.debug_tuple("Blob").field(&self.as_slice()).finish()
     }
 }
 

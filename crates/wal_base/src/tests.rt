@@ -18,8 +18,6 @@ fn put_in<K: Sink>(sink: &mut K, bytes: &[u8]) -> Result<usize, PutErr> {
 fn bytes_are_kept_and_shown(rt: HostRuntime) -> Result<(), NoMemory> {
     let blob = Blob::copy_of(rt.alloc(), b"abc")?;
     assert_eq!(rt; blob.as_slice(), b"abc".as_slice());
-    let moved = Blob::from(Vec::from_slice(rt.alloc(), b"xy")?);
-    assert_eq!(rt; moved.as_slice(), b"xy".as_slice());
     let mut buf = Buf::new(rt.alloc())?;
     buf.append(b"ab")?;
     buf.reserve(1_000)?;
@@ -29,6 +27,31 @@ fn bytes_are_kept_and_shown(rt: HostRuntime) -> Result<(), NoMemory> {
     assert_eq!(rt; buf.as_slice(), b"ab".as_slice());
     buf.clear();
     assert!(rt; buf.as_slice().is_empty());
+    Ok(())
+}
+
+fn is_sent<T: Send>(_: &T) -> bool {
+    true
+}
+
+#[test]
+fn a_part_outlives_its_whole(rt: HostRuntime) -> Result<(), NoMemory> {
+    let whole = Blob::of_vec(rt.alloc(), Vec::from_slice(rt.alloc(), b"abcdef")?)?;
+    assert_eq!(rt; whole.as_slice(), b"abcdef".as_slice());
+    let middle = whole.part(1, 5)?;
+    let same = middle.share()?;
+    drop(whole);
+    let inner = middle.part(1, 3)?;
+    let empty = middle.part(4, 4)?;
+    drop(middle);
+    assert_eq!(rt; same.as_slice(), b"bcde".as_slice());
+    assert_eq!(rt; inner.as_slice(), b"cd".as_slice());
+    assert!(rt; empty.as_slice().is_empty());
+    assert_eq!(rt;
+        format!(in rt.alloc(); "{inner:?}")?.as_str(),
+        "Blob([99, 100])"
+    );
+    assert!(rt; is_sent(&inner));
     Ok(())
 }
 
