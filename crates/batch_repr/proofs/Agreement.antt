@@ -17,10 +17,10 @@ use Rattle.batch_repr.specs.Batches.{count_of, is_counted}
 use Rattle.batch_repr.specs.Spelling.{SpellsEntry, SpellsEntries, SpellsBatch}
 use Rattle.batch_repr.specs.declared.limits.TheConstants.{NUMBER_MAX}
 use Rattle.batch_repr.specs.Limits.{IsWithinLimits}
-use Rattle.batch_repr.specs.Reading.{entry_at, EntriesAt, IsFirstFault, ReadsAs, first_said, count_said}
+use Rattle.batch_repr.specs.Reading.{IsBytes, entry_at, EntriesAt, IsFirstFault, ReadsAs, first_said, count_said}
 use Rattle.batch_repr.specs.Returned.{MemoryOr, OkOrMemory, ErrOrMemory}
 use Rattle.batch_repr.specs.Reading.IsFirstFault.{too_long, short_header, in_entry, other_count, past_numbers}
-use Rattle.batch_repr.proofs.Tools.{IsBytes, IsBytes-drop, IsBytes-back, ok_is}
+use Rattle.batch_repr.proofs.Tools.{IsBytes-drop, IsBytes-back, ok_is}
 use Rattle.batch_repr.proofs.Fields.{entry_takes, entry_again}
 
 -- ---- reading is spelling

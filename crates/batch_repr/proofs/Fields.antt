@@ -11,8 +11,8 @@ use Rattle.batch_repr.specs.declared.fault.VarintFault.TheVariants.{Ended, Wrong
 use Rattle.batch_repr.specs.Spelling.{SpellsNumber, SpellsString, SpellsEntry}
 use Rattle.batch_repr.specs.declared.limits.TheConstants.{KEY_MAX, VALUE_MAX}
 use Rattle.batch_repr.specs.Limits.{IsWithinLimits}
-use Rattle.batch_repr.specs.Reading.{◌>>=◌, number_at, text_from, string_at, set_at, delete_at, note_at, entry_at, place_of}
-use Rattle.batch_repr.proofs.Tools.{bind_ok, guard_ok, chosen, ok_is, IsBytes, IsBytes-rest, IsBytes-back}
+use Rattle.batch_repr.specs.Reading.{IsBytes, ◌>>=◌, number_at, text_from, string_at, set_at, delete_at, note_at, entry_at, place_of}
+use Rattle.batch_repr.proofs.Tools.{bind_ok, guard_ok, chosen, ok_is, IsBytes-rest, IsBytes-back}
 use Rattle.batch_repr.proofs.Varints.{number_takes, number_again}
 
 pub record TakesString (bytes : List ℕ) (limit : ℕ) (text rest : List ℕ) : Type 0 where

@@ -10,4 +10,5 @@ pub mod Entries
 pub mod Outcomes
 pub mod Varints
 pub mod Fields
+mod Parting
 pub mod Agreement

@@ -1,9 +1,9 @@
 -- Small tools on results and tests.
-use Rattle.std.proofs.Common.{◌≡◌, ℕ, ◌+◌, ◌<◌, Bool, true, false, cond, List, [], ◌∷◌, ◌++◌, get_or, drop, Result, Ok, Err, refl, inl, inr, ◌⊎◌, suc}
+use Rattle.std.proofs.Common.{◌≡◌, ℕ, ◌+◌, Bool, true, false, cond, List, [], ◌∷◌, ◌++◌, get_or, drop, Result, Ok, Err, refl, inl, inr, ◌⊎◌, suc}
 use Rattle.std.specs.Prelude.{OnOk}
 use Rattle.std.specs.Result.{is_err}
 use Rattle.std.proofs.lemmas.List.{get_or-drop}
-use Rattle.batch_repr.specs.Reading.{◌>>=◌}
+use Rattle.batch_repr.specs.Reading.{◌>>=◌, IsBytes}
 
 pub bind_ok : {A B E : Type 0} (r : Result A E) (f : A → Result B E) (y : B) → (r >>= f) ≡ Ok y → (x : A) × (r ≡ Ok x) × (f x ≡ Ok y)
 bind_ok (Ok x) f y e = (x, refl, e)
@@ -28,10 +28,6 @@ apart x d e = cc
 pub ok_of : {T E : Type 0} (r : Result T E) (P : Type 0) → is_err r ≡ false → OnOk r P → P
 ok_of (Ok x) P e h = h
 ok_of (Err x) P e h = absurd cc
-
--- Each of them is a byte.
-abbrev pub IsBytes : List ℕ → Type 0
-IsBytes bytes = (i : ℕ) → get_or bytes i 0 < 256
 
 pub IsBytes-drop : (n : ℕ) (bytes : List ℕ) → IsBytes bytes → IsBytes (drop n bytes)
 IsBytes-drop n bytes h i = rw get_or-drop (h (n + i))

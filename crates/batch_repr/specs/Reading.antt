@@ -1,5 +1,5 @@
 -- Reading a batch from left to right, and the fault that is met first (docs/FORMATS.md, "Reading a batch").
-use Rattle.std.specs.Prelude.{◌≡◌, ◌≢◌, ℕ, zero, suc, ◌+◌, ◌-◌, ◌*◌, ◌%◌, ◌^◌, ◌<◌, ◌≤◌, List, [], ◌∷◌, length, take, drop, Result, Ok, Err, nat_lt, ◌==◌, if◌then◌else◌}
+use Rattle.std.specs.Prelude.{◌≡◌, ◌≢◌, ℕ, zero, suc, ◌+◌, ◌-◌, ◌*◌, ◌%◌, ◌^◌, ◌<◌, ◌≤◌, List, [], ◌∷◌, ◌++◌, length, get_or, take, drop, Result, Ok, Err, nat_lt, ◌==◌, if◌then◌else◌}
 use Rattle.std.specs.Int.{w32, w64, from_le_bytes}
 use Rattle.wal_base.specs.declared.entry.Entry.{Entry}
 use Rattle.wal_base.specs.declared.entry.Entry.TheVariants.{Set, Delete, Note}
@@ -30,6 +30,14 @@ number_at bytes = varint_at 5 bytes >>= λ n. if nat_lt n.0 (2 ^ 32) then Ok n e
 -- the place of what is left of so many bytes
 abbrev pub place_of : ℕ → List ℕ → ℕ
 place_of whole rest = whole - length rest
+
+-- Each of them is a byte.
+abbrev pub IsBytes : List ℕ → Type 0
+IsBytes bytes = (i : ℕ) → get_or bytes i 0 < 256
+
+-- The whole ends with this rest.
+abbrev pub EndsWith : List ℕ → List ℕ → Type 0
+EndsWith whole rest = (front : List ℕ) × (whole ≡ front ++ rest)
 
 -- The bytes of a string, behind its length. A fault is one of the entry at a place, or of the length at another.
 abbrev pub text_from : ℕ → ℕ → ℕ → Result (ℕ × List ℕ) VarintFault → Result (List ℕ × List ℕ) BatchFault

@@ -1,15 +1,35 @@
 //! Batches, and how many numbers their entries take.
 
-ghost use Rattle.std.specs.Prelude.{◌≡◌, ◌<◌, ◌^◌, length};
+ghost use Rattle.std.specs.Prelude.{◌≡◌, ◌<◌, ◌^◌, length, IfOk};
 ghost use Rattle.batch_repr.specs.Batches.{count_of};
 
-use wal_base::{Entries, Entry, ListOf};
+use std::alloc::Global;
+use wal_base::{Entries, Entry, ListOf, NoMemory};
 
 /// A first number, and the entries that take numbers from there on.
 #[derive(Debug, Drop)]
 pub struct Batch {
     pub first: u64,
     pub entries: Entries,
+}
+
+impl Batch {
+    /// The same batch, whose bytes are shared and not copied.
+    pub fn share(&self, alloc: Global) -> Result<Batch, NoMemory>
+        ensures { IfOk result (λ batch. batch ≡ self.now) }
+    {
+        let mut entries = Entries::with_capacity(alloc, self.entries.len())?;
+        for entry in self.entries.as_slice() {
+            let same = entry.share()?;
+            if entries.push(same).is_err() {
+                return Err(NoMemory);
+            }
+        }
+        Ok(Batch {
+            first: self.first,
+            entries,
+        })
+    }
 }
 
 /// Batches, in their order.

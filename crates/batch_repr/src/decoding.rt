@@ -8,7 +8,7 @@ ghost use Rattle.batch_repr.specs.Batches.{end_of};
 ghost use Rattle.batch_repr.specs.Spelling.{SpellsBatch};
 ghost use Rattle.batch_repr.specs.Written.{written};
 ghost use Rattle.batch_repr.specs.Building.{FitsBatch};
-ghost use Rattle.batch_repr.specs.Reading.{number_at, string_at, entry_at, Splits, HasEntryFault, IsFirstFault, ReadsAs};
+ghost use Rattle.batch_repr.specs.Reading.{number_at, string_at, entry_at, IsBytes, EndsWith, Splits, HasEntryFault, IsFirstFault, ReadsAs};
 ghost use Rattle.batch_repr.specs.Returned.{Gives, GivesOrMemory, MemoryOr, OkOrMemory, ErrOrMemory};
 
 use crate::batch::{Batch, count};
@@ -72,33 +72,50 @@ fn string_of(
     }
 }
 
-/// The entry at the front of what is left, and the bytes after it.
-#[tactic(auto, unfolding(crate::specs::Reading::entry_at, crate::specs::Reading::set_at, crate::specs::Reading::delete_at, crate::specs::Reading::note_at))]
-fn entry_of(alloc: Global, whole: usize, bytes: &[u8]) -> Result<(Entry, &[u8]), BatchFault>
-    requires { length bytes.now ≤ whole }
-    ensures exact { GivesOrMemory (λ x. (x.0, x.1.now)) result (entry_at whole bytes.now) }
+/// The same byte string as a part of the text, which ends with the bytes.
+fn part_of<'a>(
+    text: &Blob,
+    entry: u64,
+    limit: usize,
+    bytes: &'a [u8],
+) -> Result<(Blob, &'a [u8]), BatchFault>
+    requires { EndsWith text.now bytes.now }
+    ensures exact { GivesOrMemory (λ x. (x.0, x.1.now)) result (string_at (length text.now) entry limit bytes.now) }
+    ensures rest { IfOk result (λ x. EndsWith text.now x.1.now) }
     ensures shorter { IfOk result (λ x. length x.1.now < length bytes.now) }
 {
+    let whole = text.as_slice().len();
+    let (string, rest) = string_of(whole, entry, limit, bytes)?;
+    let end = whole - rest.len();
+    let part = text.part(end - string.len(), end)?;
+    Ok((part, rest))
+}
+
+/// The entry at the front of what is left of the text, and the bytes after it. It shares the text's bytes.
+#[tactic(auto, unfolding(crate::specs::Reading::entry_at, crate::specs::Reading::set_at, crate::specs::Reading::delete_at, crate::specs::Reading::note_at))]
+fn entry_of<'a>(text: &Blob, bytes: &'a [u8]) -> Result<(Entry, &'a [u8]), BatchFault>
+    requires { EndsWith text.now bytes.now }
+    ensures exact { GivesOrMemory (λ x. (x.0, x.1.now)) result (entry_at (length text.now) bytes.now) }
+    ensures rest { IfOk result (λ x. EndsWith text.now x.1.now) }
+    ensures shorter { IfOk result (λ x. length x.1.now < length bytes.now) }
+{
+    let whole = text.as_slice().len();
     let at = (whole - bytes.len()) as u64;
     let Some((kind, rest)) = bytes.split_first() else {
         return Err(BatchFault::ShortEntry { at: whole as u64 });
     };
     match *kind {
         0 => {
-            let (key, rest) = string_of(whole, at, KEY_MAX, rest)?;
-            let key = Blob::copy_of(alloc, key)?;
+            let (key, rest) = part_of(text, at, KEY_MAX, rest)?;
             Ok((Entry::Delete { key }, rest))
         }
         1 => {
-            let (key, rest) = string_of(whole, at, KEY_MAX, rest)?;
-            let (value, rest) = string_of(whole, at, VALUE_MAX, rest)?;
-            let key = Blob::copy_of(alloc, key)?;
-            let value = Blob::copy_of(alloc, value)?;
+            let (key, rest) = part_of(text, at, KEY_MAX, rest)?;
+            let (value, rest) = part_of(text, at, VALUE_MAX, rest)?;
             Ok((Entry::Set { key, value }, rest))
         }
         3 => {
-            let (bytes, rest) = string_of(whole, at, VALUE_MAX, rest)?;
-            let bytes = Blob::copy_of(alloc, bytes)?;
+            let (bytes, rest) = part_of(text, at, VALUE_MAX, rest)?;
             Ok((Entry::Note { bytes }, rest))
         }
         kind => Err(BatchFault::UnknownKind { at, kind }),
@@ -106,17 +123,17 @@ fn entry_of(alloc: Global, whole: usize, bytes: &[u8]) -> Result<(Entry, &[u8]),
 }
 
 /// The entries behind the header, to the end.
-fn entries_of(alloc: Global, bytes: &[u8]) -> Result<Entries, BatchFault>
-    requires size { length bytes.now ≤ BATCH_MAX }
-    requires header { 12 ≤ length bytes.now }
-    ensures found { IfOk result (λ entries. Splits bytes.now entries []) }
+fn entries_of(alloc: Global, text: &Blob) -> Result<Entries, BatchFault>
+    requires size { length text.now ≤ BATCH_MAX }
+    requires header { 12 ≤ length text.now }
+    ensures found { IfOk result (λ entries. Splits text.now entries []) }
     ensures short { IfOk result (λ entries. length entries < 2 ^ 32) }
-    ensures fault { IfErr result (MemoryOr (HasEntryFault bytes.now)) }
+    ensures fault { IfErr result (MemoryOr (HasEntryFault text.now)) }
 {
     let mut entries = Entries::new(alloc);
-    let mut rest = &bytes[HEADER..];
+    let mut rest = &text.as_slice()[HEADER..];
     while !rest.is_empty() {
-        let (entry, after) = entry_of(alloc, bytes.len(), rest)?;
+        let (entry, after) = entry_of(text, rest)?;
         if entries.push(entry).is_err() {
             return Err(BatchFault::NoMemory);
         }
@@ -127,9 +144,11 @@ fn entries_of(alloc: Global, bytes: &[u8]) -> Result<Entries, BatchFault>
 
 /// What reading the bytes meets: a batch, or the first fault. All ways out of reading end in one contract here,
 /// from which those of [`decode`] follow.
-fn outcome(alloc: Global, bytes: &[u8]) -> Result<Batch, BatchFault>
-    ensures { MatchResult result (ReadsAs bytes.now) (MemoryOr (IsFirstFault bytes.now)) }
+fn outcome(alloc: Global, text: &Blob) -> Result<Batch, BatchFault>
+    ensures met { MatchResult result (ReadsAs text.now) (MemoryOr (IsFirstFault text.now)) }
+    ensures bytes { IsBytes text.now }
 {
+    let bytes = text.as_slice();
     if bytes.len() > BATCH_MAX {
         return Err(BatchFault::TooLong { at: 0 });
     }
@@ -141,7 +160,7 @@ fn outcome(alloc: Global, bytes: &[u8]) -> Result<Batch, BatchFault>
     };
     let first = u64::from_le_bytes(*head);
     let said = u32::from_le_bytes(*said);
-    let entries = entries_of(alloc, bytes)?;
+    let entries = entries_of(alloc, text)?;
     let found = count(entries.as_slice());
     if said != found {
         return Err(BatchFault::Count { said, found });
@@ -167,5 +186,18 @@ pub fn decode(alloc: Global, bytes: &[u8]) -> Result<Batch, BatchFault>
     ensures fault { IfErr result (MemoryOr (IsFirstFault bytes.now)) }
     ensures first { (fault : BatchFault) → IsFirstFault bytes.now fault → ErrOrMemory result fault }
 {
-    outcome(alloc, bytes)
+    let text = Blob::copy_of(alloc, bytes)?;
+    decode_shared(alloc, &text)
+}
+
+/// The batch that the text spells, as [`decode`] reads it. Its keys, values and notes are parts of the text, whose
+/// bytes are shared and not copied.
+pub fn decode_shared(alloc: Global, text: &Blob) -> Result<Batch, BatchFault>
+    ensures found { IfOk result (SpellsBatch text.now) }
+    ensures only { (batch : Batch) → SpellsBatch text.now batch → OkOrMemory result batch }
+    ensures written { (batch : Batch) → FitsBatch batch.entries → end_of batch ≤ NUMBER_MAX → text.now ≡ written batch → OkOrMemory result batch }
+    ensures fault { IfErr result (MemoryOr (IsFirstFault text.now)) }
+    ensures first { (fault : BatchFault) → IsFirstFault text.now fault → ErrOrMemory result fault }
+{
+    outcome(alloc, text)
 }

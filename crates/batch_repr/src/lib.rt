@@ -22,7 +22,7 @@ mod writing;
 
 pub use batch::{Batch, Batches};
 pub use builder::BatchBuilder;
-pub use decoding::decode;
+pub use decoding::{decode, decode_shared};
 pub use fault::{BatchFault, BuildFault};
 pub use laws::{bytes_have_one_reading, fits_exactly_where_not_refused, shortest_is_written};
 pub use limits::{BATCH_MAX, KEY_MAX, NUMBER_MAX, VALUE_MAX};
