@@ -12,7 +12,7 @@ use std::marker::Model;
 #[derive(Drop)]
 pub struct StdSource<I: Read + Drop> {
     input: I,
-    faults: u64,
+    pub(crate) faults: u64,
 }
 
 impl<I: Read + Drop> StdSource<I> {
@@ -54,7 +54,7 @@ impl<I: Read + Drop> Source for StdSource<I> {
 #[derive(Drop)]
 pub struct StdSink<O: Write + Drop> {
     output: O,
-    faults: u64,
+    pub(crate) faults: u64,
 }
 
 impl<O: Write + Drop> StdSink<O> {

@@ -2,6 +2,8 @@ use crate::{
     Blob, Buf, Entries, Entry, ListOf, MemSink, MemSource, NoMemory, PutErr, ReadFault, Sink,
     Source, StdSink, StdSource,
 };
+use std::io;
+use std::io::{ErrorKind, Read, Write};
 use std::process::Abort;
 
 /// What a source hands out to a buffer of two bytes.
@@ -103,6 +105,66 @@ fn copies_over(rt: &impl Abort, input: &[u8], output: &mut [u8]) {
     let mut sink = StdSink::new(output);
     assert_eq!(rt; put_in(&mut sink, b"wxyz"), Ok(3));
     assert_eq!(rt; put_in(&mut sink, b"z"), Err(PutErr::Failed));
+}
+
+/// Refuses its first calls, and then gives one byte a call, or takes one.
+#[derive(Drop)]
+struct Refusing {
+    refusals: u32,
+    bytes: [u8; 1],
+}
+
+impl Refusing {
+    fn refuses(&mut self) -> bool {
+        let refused = self.refusals > 0;
+        self.refusals = self.refusals.saturating_sub(1);
+        refused
+    }
+}
+
+impl Read for Refusing {
+    fn read(&mut self, buf: &mut [u8]) -> io::Result<usize> {
+        if self.refuses() {
+            return Err(io::Error::from(ErrorKind::ConnectionReset));
+        }
+        if buf.is_empty() {
+            return Ok(0);
+        }
+        buf[0] = self.bytes[0];
+        Ok(1)
+    }
+}
+
+impl Write for Refusing {
+    fn write(&mut self, buf: &[u8]) -> io::Result<usize> {
+        if self.refuses() {
+            return Err(io::Error::from(ErrorKind::ConnectionReset));
+        }
+        if buf.is_empty() {
+            return Ok(0);
+        }
+        self.bytes[0] = buf[0];
+        Ok(1)
+    }
+
+    fn flush(&mut self) -> io::Result<()> {
+        Ok(())
+    }
+}
+
+#[test]
+fn each_refusal_of_a_standard_stream_is_a_fault(rt: HostRuntime) {
+    let bytes = *b"a";
+    let mut source = StdSource::new(Refusing { refusals: 2, bytes });
+    assert_eq!(rt; next_two(&mut source).0, Err(ReadFault));
+    assert_eq!(rt; next_two(&mut source).0, Err(ReadFault));
+    assert_eq!(rt; next_two(&mut source), (Ok(1), *b"a\0"));
+    assert_eq!(rt; source.faults, 2);
+    let mut sink = StdSink::new(Refusing { refusals: 2, bytes });
+    assert_eq!(rt; put_in(&mut sink, b"bc"), Err(PutErr::Failed));
+    assert_eq!(rt; put_in(&mut sink, b"bc"), Err(PutErr::Failed));
+    assert_eq!(rt; put_in(&mut sink, b"bc"), Ok(1));
+    assert_eq!(rt; sink.faults, 2);
 }
 
 #[test]
