@@ -1,8 +1,8 @@
 -- A chunk in its block and in its segment, and chains of chunks.
 use Rattle.std.proofs.Common.{◌≡◌, ℕ, suc, ◌+◌, ◌-◌, ◌%◌, ◌≤◌, List, [], ◌∷◌, length, take, drop, refl, sym, ap, subst, ◌∙◌, arith, Bool, true, false, min, nat_lt}
 use Rattle.std.specs.Prelude.{not, ◌==◌, ◌↔◌, IsTrue}
-use Rattle.std.specs.List.{list_any}
-use Rattle.std.proofs.lemmas.List.{drop-take, take-take, drop-drop, take_rest, take_min, drop_min, length-drop}
+use Rattle.std.specs.List.{list_any, slice_range}
+use Rattle.std.proofs.lemmas.List.{drop-take, take-take, drop-drop, take_rest, take_min, drop_min, length-take, length-drop}
 use Rattle.crc_chunk.specs.declared.chunk.ChunkKind.{ChunkKind}
 use Rattle.crc_chunk.specs.declared.chunk.ChunkKind.TheVariants.{Full, First, Middle, Last}
 use Rattle.crc_chunk.specs.Chunk.{chunk, ChunkAt}
@@ -19,17 +19,30 @@ block_is bytes front m n e f =
     ap (take n) (take_rest bytes m) ∙ ap (λ (k : ℕ). take k (drop m bytes)) len ∙ take_min 32768 (drop m bytes) ∙ ap (take 32768) back
 
 -- What stands in the block stands in the segment.
+cut_out : (bytes block : List ℕ) (front from n : ℕ) → block ≡ take 32768 (drop front bytes) → from + n ≤ 32768 → take n (drop from block) ≡ take n (drop (front + from) bytes)
+cut_out bytes block front from n e fits =
+    let back : List ℕ = drop front bytes in
+    let room : 32768 ≡ from + (32768 - from) = omega arith in
+    ap (λ (t : List ℕ). take n (drop from t)) (e ∙ ap (λ (m : ℕ). take m back) room)
+    ∙ ap (take n) (drop-take from (32768 - from) back)
+    ∙ take-take n (32768 - from) (drop from back) (omega arith)
+    ∙ ap (take n) (drop-drop from front bytes)
+
 same_bytes : (bytes block : List ℕ) (at n : ℕ) → block ≡ take 32768 (drop (at - at % 32768) bytes) → at % 32768 + n ≤ 32768 → take n (drop (at % 32768) block) ≡ take n (drop at bytes)
 same_bytes bytes block at n e fits =
-    let p : ℕ = at % 32768 in
-    let back : List ℕ = drop (at - p) bytes in
-    let room : 32768 ≡ p + (32768 - p) = omega arith in
-    let place : at - p + p ≡ at = omega arith in
-    ap (λ (t : List ℕ). take n (drop p t)) (e ∙ ap (λ (m : ℕ). take m back) room)
-    ∙ ap (take n) (drop-take p (32768 - p) back)
-    ∙ take-take n (32768 - p) (drop p back) (omega arith)
-    ∙ ap (take n) (drop-drop p (at - p) bytes)
-    ∙ ap (λ (m : ℕ). take n (drop m bytes)) place
+    let place : at - at % 32768 + at % 32768 ≡ at = omega arith in
+    cut_out bytes block (at - at % 32768) (at % 32768) n e fits ∙ ap (λ (m : ℕ). take n (drop m bytes)) place
+
+-- A payload, cut out of the block and of the segment.
+pub payload_in_segment : (bytes block : List ℕ) (at from to : ℕ) → block ≡ take 32768 (drop (at - at % 32768) bytes) → from ≡ at % 32768 + 11 → from ≤ to → to ≤ length block
+    → slice_range block from to ≡ slice_range bytes (at + 11) (at - at % 32768 + to)
+payload_in_segment bytes block at from to e place order within =
+    let len : length block ≤ 32768 = omega (arith, ap length e, length-take 32768 (drop (at - at % 32768) bytes)) in
+    let start : at - at % 32768 + from ≡ at + 11 = omega arith in
+    let count : to - from ≡ at - at % 32768 + to - (at + 11) = omega arith in
+    cut_out bytes block (at - at % 32768) from (to - from) e (omega arith)
+    ∙ ap (λ (m : ℕ). take (to - from) (drop m bytes)) start
+    ∙ ap (λ (m : ℕ). take m (drop (at + 11) bytes)) count
 
 pub in_segment : (bytes block : List ℕ) (at log : ℕ) (kind : ChunkKind) (payload : List ℕ) → block ≡ take 32768 (drop (at - at % 32768) bytes)
     → ChunkAt block (at % 32768) log kind payload → ChunkAt bytes at log kind payload

@@ -4,3 +4,5 @@ mod Rows
 pub mod Laying
 pub mod Replay
 pub mod Beginnings
+mod Joined
+mod Walked

@@ -2,14 +2,16 @@
 //!
 //! `Framer` cuts records into chunks, one record after another, and writes them behind what a buffer holds. What
 //! it writes is the one framing that the definition gives, the zeros at a block's end included. `read_out` finds
-//! the records that a segment's longest chain of chunks spells, whatever the segment's bytes are.
+//! the records that a segment's longest chain of chunks spells, whatever the segment's bytes are. `read_out_shared`
+//! does so in the segment's own bytes, which it takes over: its records are parts of them.
 //!
 //! It stands on `crc_chunk` for one chunk, and on `wal_base` for buffers and lists. The layer above keeps a
 //! `Framer` for each segment that it writes, asks it for the length of a record before it makes room, and reads a
-//! segment that was left by `read_out`.
+//! segment that was left by `read_out_shared`, or by `read_out` where its bytes are still needed.
 #![tactic(auto)]
 
 mod framer;
+mod joining;
 mod laws;
 mod reading;
 mod records;
@@ -18,5 +20,5 @@ mod tests;
 
 pub use framer::{Framer, RECORD_MAX};
 pub use laws::{first_records_are_read, laid_records_are_read, next_record_is_laid_behind};
-pub use reading::read_out;
+pub use reading::{read_out, read_out_shared};
 pub use records::{ReadOut, Rec, Records};

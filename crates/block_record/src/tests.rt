@@ -1,4 +1,4 @@
-use crate::{Framer, read_out};
+use crate::{Framer, ReadOut, read_out, read_out_shared};
 use std::process::Abort;
 use wal_base::{Buf, NoMemory};
 
@@ -34,6 +34,51 @@ fn a_record_in_one_chunk(rt: HostRuntime) -> Result<(), NoMemory> {
     assert_eq!(rt;
         (other.records.len(), other.ends_at, other.torn),
         (0, 0, true)
+    );
+    Ok(())
+}
+
+/// What is read of a copy that its records share.
+fn read_shared(rt: &HostRuntime, bytes: &Buf) -> Result<ReadOut, NoMemory> {
+    let bytes = Vec::from_slice(rt.alloc(), bytes.as_slice())?;
+    read_out_shared(rt.alloc(), 1, bytes)
+}
+
+#[test]
+fn records_that_share_their_segment(rt: HostRuntime) -> Result<(), NoMemory> {
+    let mut long = [0; 70_000];
+    for (at, byte) in long.iter_mut().enumerate() {
+        *byte = (at % 251) as u8;
+    }
+    let mut out = Buf::new(rt.alloc())?;
+    let mut framer = Framer::new(1);
+    for record in [&long[..17], &long, &long[..17]] {
+        framer.frame(record, &mut out)?;
+    }
+    out.append(&[0, 1])?;
+    let read = read_shared(&rt, &out)?;
+    assert_eq!(rt;
+        (read.records.len(), read.ends_at, read.torn),
+        (3, 70_089, true)
+    );
+    for (record, at, len) in [(0, 0, 17), (1, 28, 70_000), (2, 70_061, 17)] {
+        match read.records.get(record) {
+            Some(found) => {
+                assert_eq!(rt; found.at, at);
+                assert_eq!(rt; Some(found.bytes.as_slice()), long.get(..len));
+            }
+            None => panic!(rt; "record {record} is missing"),
+        }
+    }
+    out.truncate(65_536);
+    let cut = read_shared(&rt, &out)?;
+    assert_eq!(rt; (cut.records.len(), cut.ends_at, cut.torn), (1, 28, true));
+    out.truncate(28);
+    out.append(&[0; 11])?;
+    let zeros = read_shared(&rt, &out)?;
+    assert_eq!(rt;
+        (zeros.records.len(), zeros.ends_at, zeros.torn),
+        (1, 28, false)
     );
     Ok(())
 }

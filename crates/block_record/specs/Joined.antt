@@ -1,0 +1,53 @@
+-- Records as places in the bytes of their segment, whose fragments are joined where they stand.
+use Rattle.std.specs.Prelude.{◌≡◌, ℕ, ◌+◌, ◌≤◌, List, length, drop, map}
+use Rattle.std.specs.List.{All, slice_range}
+use Rattle.crc_chunk.specs.declared.chunk.ChunkKind.{ChunkKind}
+use Rattle.crc_chunk.specs.declared.chunk.TheConstants.{HEADER}
+use Rattle.block_record.specs.declared.records.Rec.{Rec}
+use Rattle.block_record.specs.declared.joining.Place.{Place}
+use Rattle.block_record.specs.ReadOut.{Link, Spelled}
+
+-- the record whose bytes stand there
+abbrev pub rec_in : List ℕ → Place → Rec
+rec_in bytes place = record { at = place.at; bytes = slice_range bytes place.from place.to }
+
+-- what these places of a segment spell: whole records, the place behind the last chunk of the last, and the rest
+abbrev pub spelled_in : List ℕ → List Place → ℕ → Place → Spelled
+spelled_in bytes whole ends_at rest = record { records = map (rec_in bytes) whole; ends_at = ends_at; rest = rec_in bytes rest }
+
+-- the payload of a chunk that stands between these places
+abbrev pub fragment : List ℕ → ℕ → ℕ → List ℕ
+fragment bytes at end = slice_range bytes (at + HEADER) end
+
+-- a chunk of this kind between these places, as one of a chain
+abbrev pub link_in : List ℕ → ChunkKind → ℕ → ℕ → Link
+link_in bytes kind at end = record { kind = kind; payload = fragment bytes at end }
+
+-- The place begins before it ends, and ends by here.
+pub record EndsBy (end : ℕ) (place : Place) : Type 0 where
+  pub order : place.from ≤ place.to
+  pub below : place.to ≤ end
+
+-- Each place lies within the bytes.
+abbrev pub StandIn : List ℕ → List Place → Type 0
+StandIn bytes places = All (EndsBy (length bytes)) places
+
+-- Each whole record lies before the rest, and that lies within the bytes.
+pub record IsApart (bytes : List ℕ) (whole : List Place) (rest : Place) : Type 0 where
+  pub before : All (EndsBy rest.from) whole
+  pub within : EndsBy (length bytes) rest
+
+-- The bytes from this place on are as they were, and there are as many bytes as before.
+pub record SameBehind (end : ℕ) (old new : List ℕ) : Type 0 where
+  pub len : length new ≡ length old
+  pub behind : drop end new ≡ drop end old
+
+-- What was read: the bytes as they are now, what they have spelled, and the place behind the last byte of it.
+pub record Joined : Type 0 where
+  pub bytes : List ℕ
+  pub spelled : Spelled
+  pub reach : ℕ
+
+-- what is joined at these places
+abbrev pub joined_at : List ℕ → List Place → ℕ → Place → Joined
+joined_at bytes whole ends_at rest = record { bytes = bytes; spelled = spelled_in bytes whole ends_at rest; reach = rest.to }

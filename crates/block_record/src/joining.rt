@@ -1,0 +1,180 @@
+//! What was read of a segment so far, as places in its bytes. The fragments of a record are joined where they stand.
+
+ghost use Rattle.std.specs.Prelude.{◌≡◌, ◌+◌, ◌≤◌, length, map, IfOk, OnOk};
+ghost use Rattle.crc_chunk.specs.declared.chunk.ChunkKind.TheVariants.{First, Middle};
+ghost use Rattle.block_record.specs.ReadOut.{nothing, ended, after_link};
+ghost use Rattle.block_record.specs.Joined.{rec_in, StandIn, SameBehind, link_in};
+
+use crate::records::{ReadOut, Rec, Records};
+use crc_chunk::{ChunkKind, HEADER};
+use std::alloc::Global;
+use std::marker::Model;
+use wal_base::{Blob, NoMemory};
+
+/// Where the bytes of a record stand in its segment.
+#[derive(Clone, Copy)]
+struct Place {
+    /// The place of its first chunk.
+    at: usize,
+    /// The place of its first byte.
+    from: usize,
+    /// The place behind its last byte.
+    to: usize,
+}
+
+/// A segment as far as it was read: whole records, and what there is of the one that is open.
+///
+/// No byte behind that one is changed.
+#[derive(Drop)]
+pub struct Joining {
+    bytes: Vec<u8>,
+    whole: Vec<Place>,
+    ends_at: usize,
+    rest: Place,
+}
+
+impl Model for Joining {
+    ghost use Rattle.block_record.specs.Joined.{Joined, joined_at, IsApart};
+
+    ghost Value = { Joined };
+
+    ghost view = { λ a. joined_at a.bytes.items a.whole.items a.ends_at a.rest };
+
+    ghost invariant = { λ a. IsApart a.bytes.items a.whole.items a.rest };
+}
+
+/// The records that stand at these places of a segment, as parts of its bytes.
+fn parts_of(alloc: Global, segment: &Blob, places: &[Place]) -> Result<Records, NoMemory>
+    requires { StandIn segment.now places.now }
+    ensures { IfOk result (λ records. records ≡ map (rec_in segment.now) places.now) }
+{
+    let mut records = Records::with_capacity(alloc, places.len())?;
+    for place in places {
+        let bytes = segment.part(place.from, place.to)?;
+        let at = place.at as u64;
+        if records.push(Rec { at, bytes }).is_err() {
+            return Err(NoMemory);
+        }
+    }
+    Ok(records)
+}
+
+impl Joining {
+    /// Nothing was read yet.
+    pub fn new(alloc: Global, bytes: Vec<u8>) -> Joining
+        ensures { result ≡ record { bytes = bytes.items; spelled = nothing; reach = 0 } }
+    {
+        Joining {
+            bytes,
+            whole: Vec::new(alloc),
+            ends_at: 0,
+            rest: Place {
+                at: 0,
+                from: 0,
+                to: 0,
+            },
+        }
+    }
+
+    /// Shows the segment's bytes as they are now.
+    pub fn bytes(&self) -> &[u8]
+        ensures { result.now ≡ self.now.bytes }
+    {
+        self.bytes.as_slice()
+    }
+
+    /// Begins a record with the chunk that stands at this place.
+    fn begin(&mut self, at: usize, end: usize)
+        requires order { at + HEADER ≤ end }
+        requires within { end ≤ length self.old.bytes }
+        requires behind { self.old.reach ≤ at }
+        ensures bytes { self.new.bytes ≡ self.old.bytes }
+        ensures reach { self.new.reach ≡ end }
+        ensures spelled { self.new.spelled ≡ after_link at self.old.spelled (link_in self.old.bytes First at end) }
+    {
+        let from = at + HEADER;
+        self.rest = Place { at, from, to: end };
+    }
+
+    /// Adds the fragment of the chunk that stands at this place: it is moved right behind those before it.
+    fn extend(&mut self, at: usize, end: usize)
+        requires order { at + HEADER ≤ end }
+        requires within { end ≤ length self.old.bytes }
+        requires behind { self.old.reach ≤ at }
+        ensures bytes { SameBehind end self.old.bytes self.new.bytes }
+        ensures reach { self.new.reach ≤ end }
+        ensures spelled { self.new.spelled ≡ after_link at self.old.spelled (link_in self.old.bytes Middle at end) }
+    {
+        let from = at + HEADER;
+        self.bytes.copy_within(from..end, self.rest.to);
+        self.rest.to += end - from;
+    }
+
+    /// Ends the record that is open, at this place.
+    fn end(&mut self, end: usize) -> Result<(), NoMemory>
+        requires within { end ≤ length self.old.bytes }
+        requires behind { self.old.reach ≤ end }
+        ensures bytes { OnOk result (self.new.bytes ≡ self.old.bytes) }
+        ensures reach { OnOk result (self.new.reach ≡ end) }
+        ensures spelled { OnOk result (self.new.spelled ≡ ended self.old.spelled end self.old.spelled.rest) }
+    {
+        self.whole.push(self.rest)?;
+        self.ends_at = end;
+        self.rest = Place {
+            at: 0,
+            from: end,
+            to: end,
+        };
+        Ok(())
+    }
+
+    /// Takes one chunk more, which stands between these places.
+    pub fn take(&mut self, kind: ChunkKind, at: usize, end: usize) -> Result<(), NoMemory>
+        requires order { at + HEADER ≤ end }
+        requires within { end ≤ length self.old.bytes }
+        requires behind { self.old.reach ≤ at }
+        ensures bytes { OnOk result (SameBehind end self.old.bytes self.new.bytes) }
+        ensures reach { OnOk result (self.new.reach ≤ end) }
+        ensures spelled { OnOk result (self.new.spelled ≡ after_link at self.old.spelled (link_in self.old.bytes kind at end)) }
+    {
+        match kind {
+            ChunkKind::Full => {
+                self.begin(at, end);
+                self.end(end)
+            }
+            ChunkKind::First => {
+                self.begin(at, end);
+                Ok(())
+            }
+            ChunkKind::Middle => {
+                self.extend(at, end);
+                Ok(())
+            }
+            ChunkKind::Last => {
+                self.extend(at, end);
+                self.end(end)
+            }
+        }
+    }
+
+    /// Gives the whole records, which share the segment's bytes.
+    pub fn into_read_out(self, alloc: Global, torn: bool) -> Result<ReadOut, NoMemory>
+        ensures records { IfOk result (λ out. out.records ≡ self.spelled.records) }
+        ensures ends_at { IfOk result (λ out. out.ends_at ≡ self.spelled.ends_at) }
+        ensures torn { IfOk result (λ out. out.torn ≡ torn) }
+    {
+        let Joining {
+            bytes,
+            whole,
+            ends_at,
+            ..
+        } = self;
+        let segment = Blob::of_vec(alloc, bytes)?;
+        let records = parts_of(alloc, &segment, &whole)?;
+        Ok(ReadOut {
+            records,
+            ends_at: ends_at as u64,
+            torn,
+        })
+    }
+}
