@@ -6,3 +6,4 @@ pub mod Replay
 pub mod Beginnings
 mod Joined
 mod Walked
+mod Limits
