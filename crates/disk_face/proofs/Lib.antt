@@ -4,3 +4,5 @@ pub mod Listings
 pub mod Images
 pub mod Spelling
 pub mod Passed
+pub mod Asked
+mod Fieldless

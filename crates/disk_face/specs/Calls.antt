@@ -1,5 +1,5 @@
 -- What the calls of a disk do to what it means (docs/FORMATS.md, "The disk").
-use Rattle.std.specs.Prelude.{◌≡◌, ◌≢◌, ℕ, suc, ◌+◌, ◌-◌, ◌<◌, ◌≤◌, ◌^◌, min, Bool, true, false, List, [], ◌++◌, length, take, drop, Option, Some, None, IsTrue}
+use Rattle.std.specs.Prelude.{◌≡◌, ◌≢◌, ℕ, suc, ◌+◌, ◌-◌, ◌≤◌, ◌^◌, min, Bool, true, false, List, [], ◌++◌, length, take, drop, Option, Some, None, IsTrue}
 use Rattle.disk_face.specs.declared.Side.{Side}
 use Rattle.disk_face.specs.declared.OpId.{OpId}
 use Rattle.disk_face.specs.declared.DiskOp.{DiskOp}
@@ -134,3 +134,4 @@ pub record Stalls (side : Side) (polls : ℕ) (old new : DiskView) : Type 0 wher
   pub others : (s : Side) → s ≢ side → new.polls_left s ≡ old.polls_left s
   pub faults : new.faults ≡ old.faults
   pub same : SameDisk old new
+  pub calls : new.calls ≡ old.calls

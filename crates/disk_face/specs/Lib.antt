@@ -2,6 +2,7 @@ pub mod View
 pub mod Image
 pub mod Listing
 pub mod Calls
+pub mod Asked
 pub mod Tables
 pub mod NoFiles
 pub mod Names

@@ -1,15 +1,15 @@
 -- A disk that stalls polls by itself, over another one (docs/FORMATS.md, "The disk").
-use Rattle.std.specs.Prelude.{◌≡◌, ◌≢◌, ℕ, ◌+◌, ◌-◌, ◌^◌, ◌≤◌, min, Bool}
+use Rattle.std.specs.Prelude.{◌≡◌, ◌≢◌, ℕ, ◌+◌, ◌-◌, ◌^◌, ◌≤◌, min, Bool, List, ◌∷◌}
 use Rattle.disk_face.specs.declared.Side.{Side}
 use Rattle.disk_face.specs.declared.OpId.{OpId}
 use Rattle.disk_face.specs.declared.Progress.{Progress}
 use Rattle.disk_face.specs.declared.Progress.TheVariants.{Pending}
-use Rattle.disk_face.specs.View.{DiskView, by_side}
+use Rattle.disk_face.specs.View.{DiskView, Call, was_polled, by_side}
 use Rattle.disk_face.specs.Calls.{GoesOn, Polled}
 
--- the inner disk, with so many polls more left to stall
-abbrev pub stalled : DiskView → ℕ → ℕ → DiskView
-stalled v primary secondary = record v { polls_left = λ side. by_side primary secondary side + v.polls_left side }
+-- the inner disk, with so many polls more left to stall, and the calls that were made of the outer one
+abbrev pub stalled : DiskView → ℕ → ℕ → List Call → DiskView
+stalled v primary secondary calls = record v { polls_left = λ side. by_side primary secondary side + v.polls_left side; calls = calls }
 
 -- One disk tells what the other tells, but may have more polls left to stall.
 pub record TellsOf (inner outer : DiskView) : Type 0 where
@@ -31,8 +31,9 @@ pub record AnswersItself (side : Side) (own_old own_new : Side → ℕ) (within_
   pub others : (s : Side) → s ≢ side → own_new s ≡ own_old s
   pub within : within_new ≡ within_old
 
--- The poll is passed on: the own polls stay, and the answer is that of the disk within.
+-- The poll is passed on: the own polls stay, the disk within is asked once, and the answer is its own.
 pub record PassesPollOn (tells : Bool) (id : OpId) (own_old own_new : Side → ℕ) (within_old within_new : DiskView) (answer : Progress) : Type 0 where
   pub own : own_new ≡ own_old
   pub goes_on : GoesOn within_old within_new
   pub polled : Polled tells id within_old within_new answer
+  pub once : within_new.calls ≡ was_polled id ∷ within_old.calls

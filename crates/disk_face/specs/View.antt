@@ -1,8 +1,9 @@
 -- What a disk means: its counts, its operations in flight, and its files at each moment so far (docs/FORMATS.md, "The disk").
-use Rattle.std.specs.Prelude.{◌≡◌, ◌≢◌, ℕ, ◌≤◌, Bool, List, Option, Some, None, IsSome, Contains}
+use Rattle.std.specs.Prelude.{◌≡◌, ◌≢◌, ℕ, ◌≤◌, Bool, true, false, List, ◌++◌, Option, Some, None, IsSome, Contains}
 use Rattle.disk_face.specs.declared.Side.{Side}
 use Rattle.disk_face.specs.declared.Side.TheVariants.{Primary, Secondary}
 use Rattle.disk_face.specs.declared.SegName.{SegName}
+use Rattle.disk_face.specs.declared.Listed.{Listed}
 use Rattle.disk_face.specs.declared.OpId.{OpId}
 
 -- where a file stands: a segment in one of the two directories, or a table in the primary one
@@ -44,6 +45,17 @@ Files = Place → Option File
 abbrev pub Dirs : Type 0
 Dirs = Place → Option (List ℕ)
 
+-- a call that was made of a disk
+pub data Call : Type 0 where
+  -- a listing of this side, with what it answered: nothing where it failed
+  was_listed : Side → List Listed → Call
+  -- so many bytes of a segment were asked for
+  was_read : Side → SegName → ℕ → Call
+  -- an operation was put in flight
+  was_started : OpId → Call
+  -- it was asked how an operation stands
+  was_polled : OpId → Call
+
 -- all that a disk means to contracts
 pub record DiskView : Type 0 where
   -- how often an operation or a call failed, by side
@@ -56,6 +68,8 @@ pub record DiskView : Type 0 where
   pub clock : ℕ
   -- the files at each moment up to now
   pub history : ℕ → Files
+  -- the calls made of it so far, the last one first
+  pub calls : List Call
 
 -- the files as they stand now
 abbrev pub files : DiskView → Files
@@ -76,6 +90,17 @@ NothingInFlight v = (id : OpId) → v.in_flight id ≡ None
 -- P holds of the files at each moment from that one on
 abbrev pub AtEachMoment : ℕ → DiskView → (Files → Type 0) → Type 0
 AtEachMoment since v P = (k : ℕ) → since ≤ k → k ≤ v.clock → P (v.history k)
+
+-- the calls that were made of the disk since it was `old`, the last one first
+abbrev pub Makes : List Call → DiskView → DiskView → Type 0
+Makes made old new = new.calls ≡ made ++ old.calls
+
+-- whether both are the same side
+abbrev pub side_eq : Side → Side → Bool
+side_eq Primary Primary = true
+side_eq Primary Secondary = false
+side_eq Secondary Primary = false
+side_eq Secondary Secondary = true
 
 -- the number of that side, out of one for each
 abbrev pub by_side : ℕ → ℕ → Side → ℕ

@@ -1,17 +1,19 @@
 //! What a disk does, and what it means to contracts: one view, `DiskView`.
 
-ghost use Rattle.std.specs.Prelude.{◌≡◌, ◌≢◌, ◌≤◌, ℕ, Bool, length, drop, IfOk, OnErr, IsErrOf, IsSome, IsTrue, Some, None};
+ghost use Rattle.std.specs.Prelude.{◌≡◌, ◌≢◌, ◌≤◌, ◌∷◌, ℕ, Bool, length, drop, IfOk, OnErr, IsErrOf, IsSome, IsTrue, Some, None};
 ghost use Rattle.wal_base.specs.Faults.{Rose};
 ghost use Rattle.disk_face.specs.declared.Side.{Side};
-ghost use Rattle.disk_face.specs.View.{DiskView, Place, segment, File, files, IsFree, IsFiniteFiles};
+ghost use Rattle.disk_face.specs.View.{DiskView, Place, segment, File, files, was_listed, was_read, was_started, was_polled, IsFree, IsFiniteFiles};
 ghost use Rattle.disk_face.specs.Image.{IsSound};
 ghost use Rattle.disk_face.specs.Listing.{IsAscending, AreSegmentNames, IsListing};
+ghost use Rattle.disk_face.specs.Asked.{answered};
 ghost use Rattle.disk_face.specs.Calls.{side_of, flight_of, place_of, bytes_of, MayStart, after_start, GoesOn, SameDisk, Starts, ChangesFile, Polled, FillsFrom, Stalls};
 
 use crate::{DiskErr, DiskOp, Names, OpId, Progress, SegName, Side};
 use wal_base::NoMemory;
 
-/// Two directories of segments. Reads are done in the call; what changes a file is started and polled.
+/// Two directories of segments. Reads are done in the call; what changes a file is started and polled. Each call is
+/// noted in what the disk means, but a start that is refused.
 pub trait Disk {
     /// Whether the disk tells its files. Clauses on files hold where it does.
     ghost tells: { Bool };
@@ -27,6 +29,7 @@ pub trait Disk {
         ensures failed { IsErrOf result DiskErr.Failed → Rose ((view self.old).faults side) ((view self.new).faults side) }
         ensures steady { (s : Side) → (IsErrOf result DiskErr.Failed × (s ≡ side) → ⊥) → (view self.new).faults s ≡ (view self.old).faults s }
         ensures stalls { (view self.new).polls_left ≡ (view self.old).polls_left }
+        ensures noted { (view self.new).calls ≡ was_listed side (answered result) ∷ (view self.old).calls }
         ensures ascending { IfOk result IsAscending }
         ensures numbers { IfOk result AreSegmentNames }
         ensures names { IfOk result (λ names. IsTrue tells → IsListing (files (view self.old)) side names) };
@@ -40,6 +43,7 @@ pub trait Disk {
         ensures failed { IsErrOf result DiskErr.Failed → Rose ((view self.old).faults side) ((view self.new).faults side) }
         ensures steady { (s : Side) → (IsErrOf result DiskErr.Failed × (s ≡ side) → ⊥) → (view self.new).faults s ≡ (view self.old).faults s }
         ensures stalls { (view self.new).polls_left ≡ (view self.old).polls_left }
+        ensures noted { (view self.new).calls ≡ was_read side name (length buf.old) ∷ (view self.old).calls }
         ensures within { IfOk result (λ n. n ≤ length buf.new) }
         ensures behind { IfOk result (λ n. drop n buf.new ≡ drop n buf.old) }
         ensures bytes { IfOk result (λ n. IsTrue tells → (f : File) → files (view self.old) (segment side name) ≡ Some f → FillsFrom f.reads at buf.new n) }
@@ -53,6 +57,7 @@ pub trait Disk {
         ensures starts { IfOk result (λ id. Starts (flight_of op.entry) (side_of op.entry) id (view self.old) (view self.new)) }
         ensures file { IfOk result (λ id. IsTrue tells → ChangesFile (place_of op.entry) (λ f g. g ≡ after_start (flight_of op.entry).act (bytes_of op.entry) f) (view self.old) (view self.new)) }
         ensures stalls { (view self.new).polls_left ≡ (view self.old).polls_left }
+        ensures noted { IfOk result (λ id. (view self.new).calls ≡ was_started id ∷ (view self.old).calls) }
         ensures err { OnErr result (view self.new ≡ view self.old) };
 
     /// Asks how an operation in flight stands. `Done` and `Failed` end it; `Failed` comes only where its side
@@ -62,6 +67,7 @@ pub trait Disk {
         ensures goes_on { GoesOn (view self.old) (view self.new) }
         ensures steady { (s : Side) → ((result ≡ Progress.Failed) × (s ≡ id.side) → ⊥) → (view self.new).faults s ≡ (view self.old).faults s }
         ensures stalls { (s : Side) → ((result ≡ Progress.Pending) × (s ≡ id.side) → ⊥) → (view self.new).polls_left s ≡ (view self.old).polls_left s }
+        ensures noted { (view self.new).calls ≡ was_polled id ∷ (view self.old).calls }
         ensures polled { Polled tells id (view self.old) (view self.new) result };
 
     /// At each moment no more than the places of some list have a file.

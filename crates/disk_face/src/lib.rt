@@ -10,12 +10,14 @@
 //! sent, a read begins with what was done, no moment is forgotten, and no count falls but the polls left.
 #![tactic(auto)]
 
+mod call_log;
 mod disk;
 mod names;
 mod no_disk;
 mod script_disk;
 mod table_disk;
 
+pub use call_log::CallLog;
 pub use disk::{Disk, StallDisk};
 pub use no_disk::NoDisk;
 pub use script_disk::{ScriptDisk, Scripted};

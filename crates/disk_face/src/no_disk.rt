@@ -1,11 +1,13 @@
 //! A disk that keeps nothing, for a log without files.
 
-ghost use Rattle.std.specs.Prelude.{◌≡◌, false, [], IsErr, IsErrOf};
+ghost use Rattle.std.specs.Prelude.{◌≡◌, false, [], ◌∷◌, length, IsErr, IsErrOf};
 ghost use Rattle.disk_face.specs.declared.Side.{Side};
-ghost use Rattle.disk_face.specs.View.{NothingInFlight};
+ghost use Rattle.disk_face.specs.View.{was_listed, was_read, was_polled, NothingInFlight};
+ghost use Rattle.disk_face.specs.Calls.{GoesOn};
 
 use crate::{
-    Disk, DiskErr, DiskOp, Names, OpId, Progress, SegName, Side, StallDisk, TableDisk, TableNames,
+    CallLog, Disk, DiskErr, DiskOp, Names, OpId, Progress, SegName, Side, StallDisk, TableDisk,
+    TableNames,
 };
 use std::alloc::Global;
 use wal_base::NoMemory;
@@ -16,6 +18,7 @@ pub struct NoDisk {
     alloc: Global,
     primary_polls: u64,
     secondary_polls: u64,
+    log: CallLog,
 }
 
 impl NoDisk {
@@ -30,6 +33,7 @@ impl NoDisk {
             alloc,
             primary_polls: 0,
             secondary_polls: 0,
+            log: CallLog::new(),
         }
     }
 }
@@ -41,26 +45,33 @@ impl Disk for NoDisk {
 
     ghost tells = { false };
 
-    ghost view = { λ d. record { faults = λ s. 0; polls_left = by_side d.primary_polls d.secondary_polls; in_flight = λ id. None; clock = 0; history = λ k p. None } };
+    ghost view = { λ d. record { faults = λ s. 0; polls_left = by_side d.primary_polls d.secondary_polls; in_flight = λ id. None; clock = 0; history = λ k p. None; calls = d.log.calls } };
 
-    fn list(&mut self, _side: Side) -> Result<Names, DiskErr>
+    fn list(&mut self, side: Side) -> Result<Names, DiskErr>
         ensures nothing { result ≡ Ok [] }
-        ensures unchanged { self.new ≡ self.old }
+        ensures goes_on { GoesOn (⟦<NoDisk as Disk>⟧.view self.old) (⟦<NoDisk as Disk>⟧.view self.new) }
+        ensures stalls { (⟦<NoDisk as Disk>⟧.view self.new).polls_left ≡ (⟦<NoDisk as Disk>⟧.view self.old).polls_left }
+        ensures noted { (⟦<NoDisk as Disk>⟧.view self.new).calls ≡ was_listed side [] ∷ (⟦<NoDisk as Disk>⟧.view self.old).calls }
     {
-        Ok(Names::new(self.alloc))
+        let answer = Ok(Names::new(self.alloc));
+        self.log.note_listing(side, &answer);
+        answer
     }
 
     fn read(
         &mut self,
-        _side: Side,
-        _name: SegName,
+        side: Side,
+        name: SegName,
         _at: u64,
         buf: &mut [u8],
     ) -> Result<usize, DiskErr>
         ensures nothing { result ≡ Ok 0 }
         ensures buffer { buf.new ≡ buf.old }
-        ensures unchanged { self.new ≡ self.old }
+        ensures goes_on { GoesOn (⟦<NoDisk as Disk>⟧.view self.old) (⟦<NoDisk as Disk>⟧.view self.new) }
+        ensures stalls { (⟦<NoDisk as Disk>⟧.view self.new).polls_left ≡ (⟦<NoDisk as Disk>⟧.view self.old).polls_left }
+        ensures noted { (⟦<NoDisk as Disk>⟧.view self.new).calls ≡ was_read side name (length buf.old) ∷ (⟦<NoDisk as Disk>⟧.view self.old).calls }
     {
+        self.log.note_read(side, name, buf.len());
         // There is no file to read.
         Ok(0)
     }
@@ -73,10 +84,12 @@ impl Disk for NoDisk {
     }
 
     /// Asks of an operation that was never started. It may be asked of any.
-    fn poll(&mut self, _id: OpId) -> Progress
+    fn poll(&mut self, id: OpId) -> Progress
         ensures not_done { result ≡ Progress.Failed }
-        ensures unchanged { self.new ≡ self.old }
+        ensures stalls { (⟦<NoDisk as Disk>⟧.view self.new).polls_left ≡ (⟦<NoDisk as Disk>⟧.view self.old).polls_left }
+        ensures noted { (⟦<NoDisk as Disk>⟧.view self.new).calls ≡ was_polled id ∷ (⟦<NoDisk as Disk>⟧.view self.old).calls }
     {
+        self.log.note_poll(id);
         Progress::Failed
     }
 

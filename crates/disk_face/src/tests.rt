@@ -2,7 +2,11 @@ ghost use Rattle.std.specs.Prelude.{◌≡◌, None, IsSome, IsTrue};
 ghost use Rattle.disk_face.specs.View.{segment, table, files, NothingInFlight, IsFree};
 ghost use Rattle.disk_face.specs.Listing.{IsTableNumber};
 
-use crate::{Disk, DiskErr, DiskOp, NoDisk, OpId, Progress, SegName, Side, StallDisk, TableDisk};
+use crate::{
+    CallLog, Disk, DiskErr, DiskOp, NoDisk, OpId, Progress, ScriptDisk, SegName, Side, StallDisk,
+    TableDisk,
+};
+use std::mem::size_of;
 use wal_base::{Buf, NoMemory};
 
 fn listed_on<D: Disk>(disk: &mut D, side: Side) -> Result<usize, DiskErr> {
@@ -77,6 +81,26 @@ fn a_disk_without_files_keeps_nothing(rt: HostRuntime) {
     assert_eq!(rt; read_table_two(&mut disk, 999_999_999_999), (Ok(0), *b".."));
     assert_eq!(rt; put_table(&mut disk, 0), Err(DiskErr::NoMemory));
     assert_eq!(rt; drop_table(&mut disk, 0), Err(DiskErr::NoMemory));
+}
+
+#[test]
+fn a_script_passes_calls_on_to_the_disk_within(rt: HostRuntime) {
+    let name = SegName { wal: 1, index: 0 };
+    let mut disk = ScriptDisk::new(NoDisk::new(rt.alloc()));
+    for side in [Side::Primary, Side::Secondary] {
+        assert_eq!(rt; listed_on(&mut disk, side), Ok(0));
+        assert_eq!(rt; read_two(&mut disk, side, name), (Ok(0), *b".."));
+    }
+    assert_eq!(rt;
+        create_stalled(&mut disk, Side::Primary, name),
+        Err(DiskErr::NoMemory)
+    );
+    assert_eq!(rt; tables_on(&mut disk.into_inner()), Ok(0));
+}
+
+#[test]
+fn a_log_has_no_bytes(rt: HostRuntime) {
+    assert_eq!(rt; size_of::<CallLog>(), 0);
 }
 
 #[test]

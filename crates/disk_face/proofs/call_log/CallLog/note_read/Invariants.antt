@@ -1,0 +1,5 @@
+use Rattle.disk_face.specs.View.{was_read}
+use Rattle.disk_face.proofs.call_log.CallLog.note_read.Given as goal
+
+abbrev pub ghost-and : goal.ghost-and
+ghost-and a = was_read a._first.now a._second.now.0 a._second.now.1
