@@ -4,7 +4,7 @@ use Rattle.std.specs.Prelude.{Result, Ok, Err, OnErr}
 use Rattle.std.proofs.lemmas.List.{take_all, take-append-le}
 use Rattle.disk_face.specs.declared.Side.{Side}
 use Rattle.disk_face.specs.declared.SegName.{SegName}
-use Rattle.disk_face.specs.View.{Place, segment, Flight, Act, creating, writing, syncing, File, Files, files}
+use Rattle.disk_face.specs.View.{Place, segment, Flight, Act, creating, writing, syncing, File, Files, Call, files}
 use Rattle.disk_face.specs.Calls.{fresh, GoesOn, ChangesFile, AfterDone, AfterFailed, MayStart, after_start}
 use Rattle.mem_disk.specs.declared.parts.MemFile.{MemFile}
 use Rattle.mem_disk.specs.declared.parts.MemOp.{MemOp}
@@ -38,11 +38,11 @@ stays_begun syncing bytes (Some f) g new may e = subst (λ (o : Option File). St
 pub stays_started : (act : Act) (bytes : List ℕ) (fs : List MemFile) (p : Place) (g : Option File) → MayStart act (held fs p) → g ≡ after_start act bytes (held fs p) → StaysBehind (held fs p) g
 stays_started act bytes fs p g may e = stays_begun act bytes (held fs p) g (λ x is. held_fresh fs p x is) may e
 
-module _ (fs gs : List MemFile) (ops ops' : List MemOp) (log log' : List Undo) (u : Undo) (f f' p p' : Side → ℕ) (longer : log' ≡ log ++ u ∷ []) where
+module _ (fs gs : List MemFile) (ops ops' : List MemOp) (log log' : List Undo) (u : Undo) (f f' p p' : Side → ℕ) (calls calls' : List Call) (longer : log' ≡ log ++ u ∷ []) where
   next : length log' ≡ suc (length log)
   next = ap length longer ∙ omega (arith, length-append log (u ∷ []))
 
-  pub goes_on_moment : undone u (held gs) ≡ held fs → ((s : Side) → f s ≤ f' s) → ((s : Side) → p' s ≤ p s) → GoesOn (mem_view fs ops log f p) (mem_view gs ops' log' f' p')
+  pub goes_on_moment : undone u (held gs) ≡ held fs → ((s : Side) → f s ≤ f' s) → ((s : Side) → p' s ≤ p s) → GoesOn (mem_view fs ops log f p calls) (mem_view gs ops' log' f' p' calls')
   unfolding mem_view
   goes_on_moment back faults polls = record {
     faults = faults;
@@ -51,17 +51,17 @@ module _ (fs gs : List MemFile) (ops ops' : List MemOp) (log log' : List Undo) (
     history = λ k le. ap (λ (l : List Undo). all_undone (drop k l) (held gs)) longer ∙ past_kept log u (held fs) (held gs) back k le;
   }
 
-  pub changes_moment : (place : Place) (Change : Option File → Option File → Type 0) → ChangesAt place Change (held fs) (held gs) → ChangesFile place Change (mem_view fs ops log f p) (mem_view gs ops' log' f' p')
+  pub changes_moment : (place : Place) (Change : Option File → Option File → Type 0) → ChangesAt place Change (held fs) (held gs) → ChangesFile place Change (mem_view fs ops log f p calls) (mem_view gs ops' log' f' p' calls')
   unfolding mem_view
   changes_moment place Change h = record {
     clock = next;
-    here = subst (λ (x : Files). Change (x place) (files (mem_view gs ops' log' f' p') place)) (sym (now_held log (held fs))) (subst (λ (x : Files). Change (held fs place) (x place)) (sym (now_held log' (held gs))) h.here);
+    here = subst (λ (x : Files). Change (x place) (files (mem_view gs ops' log' f' p' calls') place)) (sym (now_held log (held fs))) (subst (λ (x : Files). Change (held fs place) (x place)) (sym (now_held log' (held gs))) h.here);
     others = λ q ne. ap (λ (x : Files). x q) (now_held log' (held gs)) ∙ h.others q ne ∙ ap (λ (x : Files). x q) (sym (now_held log (held fs)));
   }
 
-pub view_same : (fs gs : List MemFile) (ops ops' : List MemOp) (log log' : List Undo) (f p : Side → ℕ) → held gs ≡ held fs → ops' ≡ ops → log' ≡ log → mem_view gs ops' log' f p ≡ mem_view fs ops log f p
+pub view_same : (fs gs : List MemFile) (ops ops' : List MemOp) (log log' : List Undo) (f p : Side → ℕ) (calls : List Call) → held gs ≡ held fs → ops' ≡ ops → log' ≡ log → mem_view gs ops' log' f p calls ≡ mem_view fs ops log f p calls
 unfolding mem_view
-view_same fs gs ops ops' log log' f p e o l = λ i. record { faults = f; polls_left = p; in_flight = flight_in (o i); clock = length (l i); history = λ k. all_undone (drop k (l i)) (e i) }
+view_same fs gs ops ops' log log' f p calls e o l = λ i. record { faults = f; polls_left = p; in_flight = flight_in (o i); clock = length (l i); history = λ k. all_undone (drop k (l i)) (e i); calls = calls }
 
 -- what stands in the undo record takes the change back
 pub taken_back : (side : Side) (name : SegName) (fs : List MemFile) (u : Undo) (new : Files) → u ≡ undo_at side name (held fs (segment side name)) → StaysBehind (held fs (segment side name)) (new (segment side name))

@@ -5,7 +5,7 @@ use Rattle.std.specs.Prelude.{IsSome, Contains, if◌then◌else◌}
 use Rattle.disk_face.specs.declared.Side.{Side}
 use Rattle.disk_face.specs.declared.Side.TheVariants.{Primary, Secondary}
 use Rattle.disk_face.specs.declared.SegName.{SegName}
-use Rattle.disk_face.specs.View.{Place, segment, table, File, Files, IsFiniteFiles, files}
+use Rattle.disk_face.specs.View.{Place, segment, table, File, Files, Call, IsFiniteFiles, files}
 use Rattle.mem_disk.specs.declared.parts.MemFile.{MemFile}
 use Rattle.mem_disk.specs.declared.parts.MemOp.{MemOp}
 use Rattle.mem_disk.specs.declared.parts.Undo.{Undo}
@@ -73,9 +73,9 @@ still_some (u ∷ log) now p is = still_some log now p (go (is_at u.side u.name 
     go b at None h = elim (is_at u.side u.name p) as (λ x. IsSome (cond x (was_of u None) None) → IsSome {T = File} None) [ true ↦ λ e. e | false ↦ λ e. e ] h
     go b at (Some f) h = refl
 
-pub finite_mem : (k : ℕ) (fs : List MemFile) (ops : List MemOp) (log : List Undo) (faults polls : Side → ℕ) → IsFiniteFiles ((mem_view fs ops log faults polls).history k)
+pub finite_mem : (k : ℕ) (fs : List MemFile) (ops : List MemOp) (log : List Undo) (faults polls : Side → ℕ) (calls : List Call) → IsFiniteFiles ((mem_view fs ops log faults polls calls).history k)
 unfolding mem_view
-finite_mem k fs ops log faults polls = (places_of fs, λ p is. held_in fs p (still_some (drop k log) (held fs) p is))
+finite_mem k fs ops log faults polls calls = (places_of fs, λ p is. held_in fs p (still_some (drop k log) (held fs) p is))
 
 drop_all : (log : List Undo) → drop (length log) log ≡ []
 drop_all [] = refl
@@ -107,6 +107,6 @@ sound_at : (fs : List MemFile) (p : Place) (f : File) → held fs p ≡ Some f �
 sound_at fs (segment s n) f is = sound_held fs (segment s n) f is
 sound_at fs (table n) f is = let clash : None ≡ Some f = sym (no_table fs n) ∙ is in cc
 
-pub sound_mem : (fs : List MemFile) (ops : List MemOp) (log : List Undo) (faults polls : Side → ℕ) (p : Place) (f : File) → files (mem_view fs ops log faults polls) p ≡ Some f → IsSound p f
+pub sound_mem : (fs : List MemFile) (ops : List MemOp) (log : List Undo) (faults polls : Side → ℕ) (calls : List Call) (p : Place) (f : File) → files (mem_view fs ops log faults polls calls) p ≡ Some f → IsSound p f
 unfolding mem_view
-sound_mem fs ops log faults polls p f is = sound_at fs p f (subst (λ (l : List Undo). all_undone l (held fs) p ≡ Some f) (drop_all log) is)
+sound_mem fs ops log faults polls calls p f is = sound_at fs p f (subst (λ (l : List Undo). all_undone l (held fs) p ≡ Some f) (drop_all log) is)

@@ -1,24 +1,17 @@
 -- What the fields of a disk in memory stand for (docs/FORMATS.md, "The disk").
 use Rattle.std.specs.Prelude.{◌≡◌, ◌≢◌, ℕ, suc, ◌==◌, ◌&&◌, ◌||◌, not, nat_lt, nat_le, Bool, true, false, if◌then◌else◌, List, [], ◌∷◌, take, drop, length, slice_get, Option, Some, None, option_map, ◌<◌, slice_index_or, slice_set, ◌++◌}
 use Rattle.disk_face.specs.declared.Side.{Side}
-use Rattle.disk_face.specs.declared.Side.TheVariants.{Primary, Secondary}
 use Rattle.disk_face.specs.declared.SegName.{SegName}
 use Rattle.disk_face.specs.declared.OpId.{OpId}
 use Rattle.disk_face.specs.declared.Listed.{Listed}
-use Rattle.disk_face.specs.View.{Place, segment, table, Act, creating, writing, syncing, Flight, File, Files, DiskView}
+use Rattle.disk_face.specs.View.{Place, segment, table, Act, creating, writing, syncing, Flight, File, Files, Call, DiskView}
 use Rattle.disk_face.specs.Calls.{fresh}
+pub use Rattle.disk_face.specs.View.{side_eq}
 use Rattle.mem_disk.specs.declared.parts.MemFile.{MemFile}
 use Rattle.mem_disk.specs.declared.parts.MemAct.{MemAct}
 use Rattle.mem_disk.specs.declared.parts.MemAct.TheVariants.{Create, Write, Sync}
 use Rattle.mem_disk.specs.declared.parts.MemOp.{MemOp}
 use Rattle.mem_disk.specs.declared.parts.Undo.{Undo}
-
--- whether both are the same side
-abbrev pub side_eq : Side → Side → Bool
-side_eq Primary Primary = true
-side_eq Primary Secondary = false
-side_eq Secondary Primary = false
-side_eq Secondary Secondary = true
 
 -- whether the place is that of this segment
 abbrev pub is_at : Side → SegName → Place → Bool
@@ -76,9 +69,9 @@ all_undone [] files = files
 all_undone (u ∷ us) files = undone u (all_undone us files)
 
 -- what the disk means
-unfoldable pub mem_view : List MemFile → List MemOp → List Undo → (Side → ℕ) → (Side → ℕ) → DiskView
-mem_view files ops log faults polls =
-    record { faults = faults; polls_left = polls; in_flight = flight_in ops; clock = length log; history = λ k. all_undone (drop k log) (held files) }
+unfoldable pub mem_view : List MemFile → List MemOp → List Undo → (Side → ℕ) → (Side → ℕ) → List Call → DiskView
+mem_view files ops log faults polls calls =
+    record { faults = faults; polls_left = polls; in_flight = flight_in ops; clock = length log; history = λ k. all_undone (drop k log) (held files); calls = calls }
 
 -- how many operations are in flight
 abbrev pub live_in : List MemOp → ℕ

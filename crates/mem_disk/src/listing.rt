@@ -1,12 +1,12 @@
 //! The listing of one side. The files stand in order, so it takes one walk over them.
 
-ghost use Rattle.std.specs.Prelude.{◌≡◌, ◌++◌, IfOk, OnOk};
+ghost use Rattle.std.specs.Prelude.{◌≡◌, ◌++◌, IfOk, OnOk, IsErrOf};
 ghost use Rattle.disk_face.specs.Listing.{IsAscending, AreSegmentNames, IsListing};
 ghost use Rattle.mem_disk.specs.Mem.{held, IsOrdered, listed_one, listed_of, is_named};
 
 use crate::order::is_side;
 use crate::parts::MemFile;
-use disk_face::{Listed, Names, SegName, Side};
+use disk_face::{DiskErr, Listed, Names, SegName, Side};
 use std::alloc::Global;
 use wal_base::NoMemory;
 
@@ -49,11 +49,14 @@ fn collect(alloc: Global, files: &[MemFile], side: Side) -> Result<Names, NoMemo
 }
 
 /// The created files of one side whose names are in range, each with how many bytes a read gives.
-pub fn list_files(alloc: Global, files: &[MemFile], side: Side) -> Result<Names, NoMemory>
+/// It never fails.
+pub fn list_files(alloc: Global, files: &[MemFile], side: Side) -> Result<Names, DiskErr>
     requires ordered { IsOrdered files.now }
     ensures ascending { IfOk result IsAscending }
     ensures numbers { IfOk result AreSegmentNames }
     ensures listed { IfOk result (IsListing (held files.now) side) }
+    ensures no_failure { IsErrOf result DiskErr.Failed → ⊥ }
 {
-    collect(alloc, files, side)
+    let names = collect(alloc, files, side)?;
+    Ok(names)
 }

@@ -3,9 +3,10 @@
 
 ghost use Rattle.std.specs.Prelude.{◌≡◌, ◌≢◌, ◌↔◌, ◌+◌, ◌≤◌, true, [], ◌∷◌, ◌++◌, length, drop, vec_capacity, IfOk, IfNone, IfSome, OnOk, OnErr, IsErrOf, IsSome, IsTrue, None, Some};
 ghost use Rattle.disk_face.specs.declared.Side.{Side};
-ghost use Rattle.disk_face.specs.View.{Place, File, segment, files, by_side, IsFree, NothingInFlight};
+ghost use Rattle.disk_face.specs.View.{Place, File, segment, files, by_side, was_listed, was_read, was_started, was_polled, IsFree, NothingInFlight};
 ghost use Rattle.disk_face.specs.Image.{IsImage, IsChanceFree, IsRested, as_read, as_sent, dirs_as_read};
 ghost use Rattle.disk_face.specs.Listing.{IsAscending, AreSegmentNames, IsListing};
+ghost use Rattle.disk_face.specs.Asked.{answered};
 ghost use Rattle.disk_face.specs.Calls.{side_of, flight_of, place_of, bytes_of, MayStart, after_start, GoesOn, SameDisk, Starts, ChangesFile, Polled, FillsFrom, Stalls};
 ghost use Rattle.disk_face.specs.Tables.{whole};
 ghost use Rattle.wal_base.specs.Faults.{Rose};
@@ -23,7 +24,7 @@ use crate::listing::list_files;
 use crate::ops::{begin_op, end_op, op_of};
 use crate::parts::{MemFile, MemOp, Undo};
 use crate::picks::CrashPick;
-use disk_face::{Disk, DiskErr, DiskOp, Names, OpId, Progress, SegName, Side, StallDisk};
+use disk_face::{CallLog, Disk, DiskErr, DiskOp, Names, OpId, Progress, SegName, Side, StallDisk};
 use std::alloc::Global;
 use wal_base::NoMemory;
 
@@ -52,6 +53,7 @@ pub struct MemDisk {
     polls: BySide,
     fail_ops: Vec<u64>,
     calls: CallFaults,
+    log: CallLog,
     ghost ordered: { IsOrdered files.items },
     ghost room: { length undos.items + live_in ops.items ≤ vec_capacity undos },
 }
@@ -68,6 +70,7 @@ impl MemDisk {
         ensures no_polls { IfOk result (λ disk. (s : Side) → (⟦<MemDisk as Disk>⟧.view disk).polls_left s ≡ 0) }
         ensures no_plan { IfOk result (λ disk. ⟦<MemDisk as Planned>⟧.plan disk ≡ record { failing_ops = []; starts = 0; failing_calls = []; calls = 0 }) }
         ensures idle { IfOk result (λ disk. NothingInFlight (⟦<MemDisk as Disk>⟧.view disk)) }
+        ensures no_calls { IfOk result (λ disk. (⟦<MemDisk as Disk>⟧.view disk).calls ≡ []) }
     {
         let files = Vec::with_capacity(alloc, FIRST_FILES)?;
         Ok(holding(alloc, files))
@@ -84,6 +87,7 @@ impl MemDisk {
         ensures err { OnErr result (⟦<MemDisk as Disk>⟧.view self.new ≡ ⟦<MemDisk as Disk>⟧.view self.old) }
         ensures stalls { (⟦<MemDisk as Disk>⟧.view self.new).polls_left ≡ (⟦<MemDisk as Disk>⟧.view self.old).polls_left }
         ensures steady { (⟦<MemDisk as Disk>⟧.view self.new).faults ≡ (⟦<MemDisk as Disk>⟧.view self.old).faults }
+        ensures calls { (⟦<MemDisk as Disk>⟧.view self.new).calls ≡ (⟦<MemDisk as Disk>⟧.view self.old).calls }
         ensures plan { ⟦<MemDisk as Planned>⟧.plan self.new ≡ ⟦<MemDisk as Planned>⟧.plan self.old }
         ensures rested { IsRested (files (⟦<MemDisk as Disk>⟧.view self.old)) → IsRested (files (⟦<MemDisk as Disk>⟧.view self.new)) }
     {
@@ -147,6 +151,7 @@ impl MemDisk {
         ensures no_polls { IfOk result (λ disk. (s : Side) → (⟦<MemDisk as Disk>⟧.view disk).polls_left s ≡ 0) }
         ensures no_plan { IfOk result (λ disk. ⟦<MemDisk as Planned>⟧.plan disk ≡ record { failing_ops = []; starts = 0; failing_calls = []; calls = 0 }) }
         ensures idle { IfOk result (λ disk. NothingInFlight (⟦<MemDisk as Disk>⟧.view disk)) }
+        ensures no_calls { IfOk result (λ disk. (⟦<MemDisk as Disk>⟧.view disk).calls ≡ []) }
     {
         let MemDisk { alloc, files, .. } = self;
         let files = files_left(alloc, files, pick.files.as_slice())?;
@@ -170,6 +175,7 @@ fn holding(alloc: Global, kept: Vec<MemFile>) -> MemDisk
     ensures no_polls { (s : Side) → (⟦<MemDisk as Disk>⟧.view result).polls_left s ≡ 0 }
     ensures no_plan { ⟦<MemDisk as Planned>⟧.plan result ≡ record { failing_ops = []; starts = 0; failing_calls = []; calls = 0 } }
     ensures idle { NothingInFlight (⟦<MemDisk as Disk>⟧.view result) }
+    ensures no_calls { (⟦<MemDisk as Disk>⟧.view result).calls ≡ [] }
 {
     MemDisk {
         alloc,
@@ -189,13 +195,14 @@ fn holding(alloc: Global, kept: Vec<MemFile>) -> MemDisk
             numbers: Vec::new(alloc),
             calls: 0,
         },
+        log: CallLog::new(),
     }
 }
 
 impl Disk for MemDisk {
     ghost tells = { true };
 
-    ghost view = { λ d. mem_view d.files.items d.ops.items d.undos.items (by_side d.faults.primary d.faults.secondary) (by_side d.polls.primary d.polls.secondary) };
+    ghost view = { λ d. mem_view d.files.items d.ops.items d.undos.items (by_side d.faults.primary d.faults.secondary) (by_side d.polls.primary d.polls.secondary) d.log.calls };
 
     fn list(&mut self, side: Side) -> Result<Names, DiskErr>
         ensures goes_on { GoesOn (⟦<MemDisk as Disk>⟧.view self.old) (⟦<MemDisk as Disk>⟧.view self.new) }
@@ -204,6 +211,7 @@ impl Disk for MemDisk {
         ensures ascending { IfOk result IsAscending }
         ensures numbers { IfOk result AreSegmentNames }
         ensures names { IfOk result (IsListing (files (⟦<MemDisk as Disk>⟧.view self.old)) side) }
+        ensures noted { (⟦<MemDisk as Disk>⟧.view self.new).calls ≡ was_listed side (answered result) ∷ (⟦<MemDisk as Disk>⟧.view self.old).calls }
 
         // It fails exactly at the calls that were to fail.
         ensures fails { IsErrOf result DiskErr.Failed ↔ FailsNext (⟦<MemDisk as Planned>⟧.plan self.old) }
@@ -215,10 +223,13 @@ impl Disk for MemDisk {
     {
         if self.calls.next() {
             self.faults.raise(side);
-            return Err(DiskErr::Failed);
+            let answer = Err(DiskErr::Failed);
+            self.log.note_listing(side, &answer);
+            return answer;
         }
-        let names = list_files(self.alloc, &self.files, side)?;
-        Ok(names)
+        let answer = list_files(self.alloc, &self.files, side);
+        self.log.note_listing(side, &answer);
+        answer
     }
 
     fn read(&mut self, side: Side, name: SegName, at: u64, buf: &mut [u8]) -> Result<usize, DiskErr>
@@ -229,6 +240,7 @@ impl Disk for MemDisk {
         ensures behind { IfOk result (λ n. drop n buf.new ≡ drop n buf.old) }
         ensures bytes { IfOk result (λ n. (f : File) → files (⟦<MemDisk as Disk>⟧.view self.old) (segment side name) ≡ Some f → FillsFrom f.reads at buf.new n) }
         ensures no_file { IfOk result (λ n. files (⟦<MemDisk as Disk>⟧.view self.old) (segment side name) ≡ None → n ≡ 0) }
+        ensures noted { (⟦<MemDisk as Disk>⟧.view self.new).calls ≡ was_read side name (length buf.old) ∷ (⟦<MemDisk as Disk>⟧.view self.old).calls }
 
         // It fails exactly at the calls that were to fail.
         ensures fails { IsErrOf result DiskErr.Failed ↔ FailsNext (⟦<MemDisk as Planned>⟧.plan self.old) }
@@ -238,6 +250,7 @@ impl Disk for MemDisk {
         ensures stalls { (⟦<MemDisk as Disk>⟧.view self.new).polls_left ≡ (⟦<MemDisk as Disk>⟧.view self.old).polls_left }
         ensures steady { (s : Side) → (IsErrOf result DiskErr.Failed × (s ≡ side) → ⊥) → (⟦<MemDisk as Disk>⟧.view self.new).faults s ≡ (⟦<MemDisk as Disk>⟧.view self.old).faults s }
     {
+        self.log.note_read(side, name, buf.len());
         if self.calls.next() {
             self.faults.raise(side);
             return Err(DiskErr::Failed);
@@ -252,6 +265,7 @@ impl Disk for MemDisk {
         ensures starts { IfOk result (λ id. Starts (flight_of op.entry) (side_of op.entry) id (⟦<MemDisk as Disk>⟧.view self.old) (⟦<MemDisk as Disk>⟧.view self.new)) }
         ensures file { OnOk result (ChangesFile (place_of op.entry) (λ f g. g ≡ after_start (flight_of op.entry).act (bytes_of op.entry) f) (⟦<MemDisk as Disk>⟧.view self.old) (⟦<MemDisk as Disk>⟧.view self.new)) }
         ensures err { OnErr result ((⟦<MemDisk as Disk>⟧.view self.new) ≡ (⟦<MemDisk as Disk>⟧.view self.old)) }
+        ensures noted { IfOk result (λ id. (⟦<MemDisk as Disk>⟧.view self.new).calls ≡ was_started id ∷ (⟦<MemDisk as Disk>⟧.view self.old).calls) }
 
         // The operations are numbered as they are started.
         ensures number { IfOk result (λ id. id.number ≡ (⟦<MemDisk as Planned>⟧.plan self.old).starts) }
@@ -269,16 +283,19 @@ impl Disk for MemDisk {
         begin(self.alloc, &mut self.files, op)?;
         let number = begin_op(&mut self.ops, made);
         self.undos.push_reserved(undo);
-        Ok(OpId {
+        let id = OpId {
             side: made.side,
             number,
-        })
+        };
+        self.log.note_start(id);
+        Ok(id)
     }
 
     fn poll(&mut self, id: OpId) -> Progress
         requires in_flight { IsSome ((⟦<MemDisk as Disk>⟧.view self.old).in_flight id) }
         ensures goes_on { GoesOn (⟦<MemDisk as Disk>⟧.view self.old) (⟦<MemDisk as Disk>⟧.view self.new) }
         ensures polled { Polled true id (⟦<MemDisk as Disk>⟧.view self.old) (⟦<MemDisk as Disk>⟧.view self.new) result }
+        ensures noted { (⟦<MemDisk as Disk>⟧.view self.new).calls ≡ was_polled id ∷ (⟦<MemDisk as Disk>⟧.view self.old).calls }
 
         // It fails exactly where the operation was to fail, once it is not stalled.
         ensures answers { AnswersAsPlanned (⟦<MemDisk as Planned>⟧.plan self.old) id.number ((⟦<MemDisk as Disk>⟧.view self.old).polls_left id.side) result }
@@ -292,6 +309,7 @@ impl Disk for MemDisk {
         // A failed operation leaves each file as it stands.
         ensures kept { result ≡ Progress.Failed → files (⟦<MemDisk as Disk>⟧.view self.new) ≡ files (⟦<MemDisk as Disk>⟧.view self.old) }
     {
+        self.log.note_poll(id);
         if self.polls.take_one(id.side) {
             return Progress::Pending;
         }
@@ -306,9 +324,9 @@ impl Disk for MemDisk {
         Progress::Done
     }
 
-    ghost finite = { λ d k told le. finite_mem k d.files.items d.ops.items d.undos.items (by_side d.faults.primary d.faults.secondary) (by_side d.polls.primary d.polls.secondary) };
+    ghost finite = { λ d k told le. finite_mem k d.files.items d.ops.items d.undos.items (by_side d.faults.primary d.faults.secondary) (by_side d.polls.primary d.polls.secondary) d.log.calls };
 
-    ghost sound = { λ d p f told is. sound_mem d.files.items d.ops.items d.undos.items (by_side d.faults.primary d.faults.secondary) (by_side d.polls.primary d.polls.secondary) p f is };
+    ghost sound = { λ d p f told is. sound_mem d.files.items d.ops.items d.undos.items (by_side d.faults.primary d.faults.secondary) (by_side d.polls.primary d.polls.secondary) d.log.calls p f is };
 }
 
 impl StallDisk for MemDisk {

@@ -22,7 +22,7 @@ unfolding mem_view
 returns-clause-goes_on c =
     let longer : c.push_reserved.new.self.items ≡ c.args.self.now.undos.items ++ c.undo_of-undo.result ∷ [] = c.push_reserved.ensures.items ∙ ap (λ (l : List Undo). l ++ c.undo_of-undo.result ∷ []) c.reserve.ensures.items in
     let absent : held c.args.self.now.files.items (segment c.args.side c.args.name) ≡ None = ap (λ (f : Files). f (segment c.args.side c.args.name)) (sym (now_held c.args.self.now.undos.items (held c.args.self.now.files.items))) ∙ c.requires.absent in
-    goes_on_moment c.args.self.now.files.items c.place.new.files.items _ _ c.args.self.now.undos.items c.push_reserved.new.self.items c.undo_of-undo.result _ _ _ _ longer
+    goes_on_moment c.args.self.now.files.items c.place.new.files.items _ _ c.args.self.now.undos.items c.push_reserved.new.self.items c.undo_of-undo.result _ _ _ _ _ _ longer
     (taken_back c.args.side c.args.name c.args.self.now.files.items c.undo_of-undo.result (held c.place.new.files.items) c.undo_of-undo.ensures
     (subst (λ (o : Option File). StaysBehind o (held c.place.new.files.items (segment c.args.side c.args.name))) (sym absent) tt) c.in_ok-place.ensures.ok.others)
     (λ s. omega arith) (λ s. omega arith)
@@ -31,7 +31,7 @@ pub returns-clause-put : goal.returns-clause-put
 unfolding mem_view
 returns-clause-put c =
     let longer : c.push_reserved.new.self.items ≡ c.args.self.now.undos.items ++ c.undo_of-undo.result ∷ [] = c.push_reserved.ensures.items ∙ ap (λ (l : List Undo). l ++ c.undo_of-undo.result ∷ []) c.reserve.ensures.items in
-    changes_moment c.args.self.now.files.items c.place.new.files.items _ _ c.args.self.now.undos.items c.push_reserved.new.self.items c.undo_of-undo.result _ _ _ _ longer
+    changes_moment c.args.self.now.files.items c.place.new.files.items _ _ c.args.self.now.undos.items c.push_reserved.new.self.items c.undo_of-undo.result _ _ _ _ _ _ longer
     (segment c.args.side c.args.name) (λ f g. g ≡ Some (whole c.args.bytes.now)) c.in_ok-place.ensures.ok
 
 pub returns-in_err-reserve-clause-rested : goal.returns-in_err-reserve-clause-rested
