@@ -1,5 +1,5 @@
 -- What the two directories of a disk over files mean (docs/FORMATS.md, "The disk").
-use Rattle.std.specs.Prelude.{ℕ, Option, Some, None}
+use Rattle.std.specs.Prelude.{ℕ, [], Option, Some, None}
 use Rattle.std.specs.Ordering.{nat_cmp}
 use Rattle.std.specs.BTreeMap.{get}
 use Rattle.disk_face.specs.declared.Side.{Side}
@@ -30,7 +30,7 @@ abbrev pub directory_of : Directory → Directory → Side → Directory
 directory_of primary secondary Primary = primary
 directory_of primary secondary Secondary = secondary
 
--- what the two mean together: they tell no file, and never stall
+-- what the two mean together, with no call noted yet: they tell no file, and never stall
 abbrev pub file_view : Directory → Directory → DiskView
 file_view primary secondary = record {
   faults = by_side primary.faults secondary.faults;
@@ -38,4 +38,5 @@ file_view primary secondary = record {
   in_flight = λ id. flight_in id.side (directory_of primary secondary id.side) id.number;
   clock = 0;
   history = λ k p. None;
+  calls = [];
 }

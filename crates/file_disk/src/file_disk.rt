@@ -10,7 +10,7 @@ ghost use Rattle.file_disk.specs.Flights.{file_view};
 
 use crate::directory::{Directory, Started};
 use crate::system;
-use disk_face::{Disk, DiskErr, DiskOp, Names, OpId, Progress, SegName, Side};
+use disk_face::{CallLog, Disk, DiskErr, DiskOp, Names, OpId, Progress, SegName, Side};
 use std::io;
 use std::io::ErrorKind;
 use std::rt::Files;
@@ -23,6 +23,7 @@ pub struct FileDisk<R: Files + AllocGlobal + Clone + Drop> {
     runtime: R,
     primary: Directory,
     secondary: Directory,
+    log: CallLog,
 }
 
 impl<R: Files + AllocGlobal + Clone + Drop> FileDisk<R> {
@@ -37,11 +38,13 @@ impl<R: Files + AllocGlobal + Clone + Drop> FileDisk<R> {
             runtime: runtime.clone()?,
             primary: Directory::new(runtime.alloc()),
             secondary: Directory::new(runtime.alloc()),
+            log: CallLog::new(),
         })
     }
 
     /// Counts a fault of that side.
     fn raise(&mut self, side: Side)
+        ensures log { self.new.log.calls ≡ self.old.log.calls }
         ensures goes_on { GoesOn (file_view self.old.primary self.old.secondary) (file_view self.new.primary self.new.secondary) }
         ensures same { SameDisk (file_view self.old.primary self.old.secondary) (file_view self.new.primary self.new.secondary) }
         ensures rose { Rose ((file_view self.old.primary self.old.secondary).faults side) ((file_view self.new.primary self.new.secondary).faults side) }
@@ -55,6 +58,7 @@ impl<R: Files + AllocGlobal + Clone + Drop> FileDisk<R> {
 
     /// How an operation ended, by what the system answered. A refusal is counted.
     fn settle(&mut self, side: Side, answer: io::Result<()>) -> Progress
+        ensures log { self.new.log.calls ≡ self.old.log.calls }
         ensures goes_on { GoesOn (file_view self.old.primary self.old.secondary) (file_view self.new.primary self.new.secondary) }
         ensures same { SameDisk (file_view self.old.primary self.old.secondary) (file_view self.new.primary self.new.secondary) }
         ensures done { IsOk answer → result ≡ Progress.Done }
@@ -72,6 +76,7 @@ impl<R: Files + AllocGlobal + Clone + Drop> FileDisk<R> {
 
     /// Takes an operation out of flight.
     fn end(&mut self, id: OpId) -> Option<Started>
+        ensures log { self.new.log.calls ≡ self.old.log.calls }
         ensures goes_on { GoesOn (file_view self.old.primary self.old.secondary) (file_view self.new.primary self.new.secondary) }
         ensures ends { Ends id (file_view self.old.primary self.old.secondary) (file_view self.new.primary self.new.secondary) }
         ensures steady { (s : Side) → (file_view self.new.primary self.new.secondary).faults s ≡ (file_view self.old.primary self.old.secondary).faults s }
@@ -98,10 +103,11 @@ impl<R: Files + AllocGlobal + Clone + Drop> Disk for FileDisk<R> {
 
     ghost tells = { false };
 
-    ghost view = { λ d. file_view d.primary d.secondary };
+    ghost view = { λ d. record (file_view d.primary d.secondary) { calls = d.log.calls } };
 
     fn list(&mut self, side: Side) -> Result<Names, DiskErr> {
         let listed = system::list(&self.runtime, side);
+        self.log.note_listing(side, &listed);
         if let Err(DiskErr::Failed) = listed {
             self.raise(side);
         }
@@ -115,6 +121,7 @@ impl<R: Files + AllocGlobal + Clone + Drop> Disk for FileDisk<R> {
         at: u64,
         buf: &mut [u8],
     ) -> Result<usize, DiskErr> {
+        self.log.note_read(side, name, buf.len());
         let read = system::read(&self.runtime, side, name, at, buf);
         if let Err(DiskErr::Failed) = read {
             self.raise(side);
@@ -129,10 +136,13 @@ impl<R: Files + AllocGlobal + Clone + Drop> Disk for FileDisk<R> {
             Side::Primary => self.primary.begin(started)?,
             Side::Secondary => self.secondary.begin(started)?,
         };
-        Ok(OpId { side, number })
+        let id = OpId { side, number };
+        self.log.note_start(id);
+        Ok(id)
     }
 
     fn poll(&mut self, id: OpId) -> Progress {
+        self.log.note_poll(id);
         let answer = match self.end(id) {
             Some(started) => system::run(&self.runtime, id.side, &started),
             None => Err(ErrorKind::NotFound.into()),
