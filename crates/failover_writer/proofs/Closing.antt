@@ -1,5 +1,5 @@
--- The steps of a closing come to an end: each takes a poll left, or leaves less to do.
-use Rattle.std.proofs.Common.{◌≡◌, ◌≢◌, ◌⊎◌, inl, inr, ℕ, ◌+◌, ◌-◌, ◌*◌, ◌<◌, ◌≤◌, Bool, true, false, not, ◌&&◌, cond, ltb, if◌then◌else◌, List, [], ◌∷◌, ◌++◌, length, Option, Some, None, Result, Ok, ap, sym, subst, ◌∙◌, refl, arith}
+-- Steps come to an end: each takes a poll left, or leaves less to do.
+use Rattle.std.proofs.Common.{◌≡◌, ◌⊎◌, inl, inr, ℕ, ◌+◌, ◌-◌, ◌*◌, ◌<◌, ◌≤◌, Bool, true, false, not, ◌&&◌, ltb, if◌then◌else◌, List, [], ◌∷◌, ◌++◌, length, Option, Some, None, Result, ap, sym, subst, ◌∙◌, refl, arith}
 use borrow.Author.Tests.{lt-ltb}
 use native.Mathlib.Decide.{dec_lt}
 use Rattle.std.proofs.lemmas.Bool.Decides.{nat_tests}
@@ -20,49 +20,21 @@ use Rattle.log_writer.specs.Fits.{IsBusy}
 use Rattle.log_writer.specs.Steps.{next_operation, sent_with, after_answer}
 use Rattle.failover_writer.specs.declared.fault.JournalFault.{JournalFault}
 use Rattle.failover_writer.specs.declared.fault.Step.{Step}
-use Rattle.failover_writer.specs.declared.fault.Step.TheVariants as steps
 use Rattle.failover_writer.specs.State.{State, len, acked, most_synced, is_broken, phase_is_broken}
 use Rattle.failover_writer.specs.Stepping as stepping
-use Rattle.failover_writer.specs.Stepping.{IsBehind, NoneBusy, PollsFirst, Polls, nothing_begun, asked, Verdict, IsToStay, BeginsNext, StartsNext, Releases, first, none_to_begin, switches, starts, stays, IsUp, StepRule, was_dead, idle, dies, goes, short}
+use Rattle.failover_writer.specs.Stepping.{IsBehind, NoneBusy, WantsMore, HasWork, PollsFirst, Polls, nothing_begun, asked, Verdict, IsToStay, BeginsNext, StartsNext, Releases, first, none_to_begin, switches, starts, stays, IsUp, StepRule, was_dead, idle, dies, goes, short}
 use Rattle.failover_writer.specs.Answered.{IsTold, PollsFell, StepsBy}
+use Rattle.failover_writer.specs.Remaining.{still_to, rank_in, rank, ranks, work, polls_left, measure, Falls}
 use Rattle.failover_writer.proofs.Segments.{all_last, most_synced_push}
 
 -- ---- what is still to be done
 
--- for a created segment at rest, where all records are to be synced
-abbrev pub rest_rank : ℕ → ℕ → ℕ → ℕ
-rest_rank len written synced = cond (ltb written len) 6 (cond (ltb synced len) 4 2)
+still_most : (reached goal : ℕ) → still_to reached goal ≤ 2
+still_most reached goal = grind (arith, nat_tests)
 
--- for a segment in this phase, with these numbers of what was sent, written and synced
-abbrev pub rank_in : ℕ → Phase → ℕ → ℕ → ℕ → ℕ
-rank_in len New sent written synced = 8
-rank_in len (InFlight Create id) sent written synced = 7
-rank_in len (InFlight Write id) sent written synced = cond (ltb sent len) 7 5
-rank_in len (InFlight Sync id) sent written synced = cond (ltb written len) 7 3
-rank_in len Idle sent written synced = rest_rank len written synced
-rank_in len Broken sent written synced = 0
-
-abbrev pub rank : ℕ → Writer → ℕ
-rank len w = rank_in len w.phase w.sent w.written w.synced
-
-abbrev pub ranks : ℕ → List Writer → ℕ
-ranks len [] = 0
-ranks len (w ∷ ws) = rank len w + ranks len ws
-
--- for all segments, and those that may still be begun
-abbrev pub work : State → ℕ
-work state = (10 - length state.segments) * 8 + ranks (len state) state.segments
-
-abbrev pub polls_left : DiskView → ℕ
-polls_left v = v.polls_left Primary + v.polls_left Secondary
-
--- the polls left, and what is still to be done
-abbrev pub measure : State → DiskView → ℕ
-measure state v = polls_left v + work state
-
-pub ranks_append : (len : ℕ) (front back : List Writer) → ranks len (front ++ back) ≡ ranks len front + ranks len back
-ranks_append len [] back = omega arith
-ranks_append len (w ∷ front) back = omega (arith, ranks_append len front back)
+pub ranks_append : (len want : ℕ) (front back : List Writer) → ranks len want (front ++ back) ≡ ranks len want front + ranks len want back
+ranks_append len want [] back = omega arith
+ranks_append len want (w ∷ front) back = omega (arith, ranks_append len want front back)
 
 -- ---- an operation that was polled
 
@@ -78,34 +50,33 @@ pub record Lowers (before after : ℕ) (answer : Option Progress) : Type 0 where
   pub no_more : after ≤ before
   pub less : HasEnded answer → after < before
 
-done_falls : (len sent written synced : ℕ) (operation : Operation) (id : OpId) (w : Writer) → w.sent ≡ sent → w.written ≡ written → w.synced ≡ synced
-    → rank len (after_answer operation Done w) < rank_in len (InFlight operation id) sent written synced
-done_falls len sent written synced Create id w s x y = grind (arith, nat_tests)
-done_falls len sent written synced Write id w s x y = grind (arith, nat_tests)
-done_falls len sent written synced Sync id w s x y = grind (arith, nat_tests)
+done_falls : (len want : ℕ) (operation : Operation) (id : OpId) (w : Writer) → rank len want (after_answer operation Done w) < rank_in len want (InFlight operation id) w.sent w.written w.synced
+done_falls len want Create id w = omega arith
+done_falls len want Write id w = omega arith
+done_falls len want Sync id w = omega arith
 
-flight_above : (len sent written synced : ℕ) (operation : Operation) (id : OpId) → 0 < rank_in len (InFlight operation id) sent written synced
-flight_above len sent written synced Create id = omega arith
-flight_above len sent written synced Write id = grind (arith, nat_tests)
-flight_above len sent written synced Sync id = grind (arith, nat_tests)
+flight_above : (len want sent written synced : ℕ) (operation : Operation) (id : OpId) → 0 < rank_in len want (InFlight operation id) sent written synced
+flight_above len want sent written synced Create id = omega arith
+flight_above len want sent written synced Write id = omega arith
+flight_above len want sent written synced Sync id = omega arith
 
-answer_lowers : (len : ℕ) (operation : Operation) (id : OpId) (answer : Progress) (w : Writer) → w.phase ≡ InFlight operation id → Lowers (rank len w) (rank len (after_answer operation answer w)) (Some answer)
-answer_lowers len operation id Pending w phase = record { no_more = omega arith; less = λ none. absurd none }
-answer_lowers len operation id Done w phase =
-    let was : rank len w ≡ rank_in len (InFlight operation id) w.sent w.written w.synced = ap (λ (p : Phase). rank_in len p w.sent w.written w.synced) phase in
-    let falls = done_falls len w.sent w.written w.synced operation id w refl refl refl in
+answer_lowers : (len want : ℕ) (operation : Operation) (id : OpId) (answer : Progress) (w : Writer) → w.phase ≡ InFlight operation id → Lowers (rank len want w) (rank len want (after_answer operation answer w)) (Some answer)
+answer_lowers len want operation id Pending w phase = record { no_more = omega arith; less = λ none. absurd none }
+answer_lowers len want operation id Done w phase =
+    let was : rank len want w ≡ rank_in len want (InFlight operation id) w.sent w.written w.synced = ap (λ (p : Phase). rank_in len want p w.sent w.written w.synced) phase in
+    let falls = done_falls len want operation id w in
     record { no_more = omega (arith, was, falls); less = λ _. omega (arith, was, falls) }
-answer_lowers len operation id Failed w phase =
-    let was : rank len w ≡ rank_in len (InFlight operation id) w.sent w.written w.synced = ap (λ (p : Phase). rank_in len p w.sent w.written w.synced) phase in
-    let above = flight_above len w.sent w.written w.synced operation id in
+answer_lowers len want operation id Failed w phase =
+    let was : rank len want w ≡ rank_in len want (InFlight operation id) w.sent w.written w.synced = ap (λ (p : Phase). rank_in len want p w.sent w.written w.synced) phase in
+    let above = flight_above len want w.sent w.written w.synced operation id in
     record { no_more = omega (arith, was, above); less = λ _. omega (arith, was, above) }
 
-first_lowers : (len : ℕ) {ws left : List Writer} {answer : Option Progress} → PollsFirst ws answer left → Lowers (ranks len ws) (ranks len left) answer
-first_lowers len (stepping.none ws rests) = record { no_more = omega arith; less = λ none. absurd none }
-first_lowers len (stepping.polled front w back operation id answer rests phase) =
-    let one = answer_lowers len operation id answer w phase in
-    let was = ranks_append len front (w ∷ back) in
-    let is = ranks_append len front (after_answer operation answer w ∷ back) in
+first_lowers : (len want : ℕ) {ws left : List Writer} {answer : Option Progress} → PollsFirst ws answer left → Lowers (ranks len want ws) (ranks len want left) answer
+first_lowers len want (stepping.none ws rests) = record { no_more = omega arith; less = λ none. absurd none }
+first_lowers len want (stepping.polled front w back operation id answer rests phase) =
+    let one = answer_lowers len want operation id answer w phase in
+    let was = ranks_append len want front (w ∷ back) in
+    let is = ranks_append len want front (after_answer operation answer w ∷ back) in
     record { no_more = omega (arith, one.no_more, was, is); less = λ ended. omega (arith, one.less ended, was, is) }
 
 first_count : {ws left : List Writer} {answer : Option Progress} → PollsFirst ws answer left → length left ≡ length ws
@@ -122,8 +93,8 @@ first_none (stepping.polled front w back operation id answer rests phase) e = cc
 pub record PollsLower (old polled : State) (one other : Option Progress) : Type 0 where
   pub same : polled ≡ record old { segments = polled.segments }
   pub count : length polled.segments ≡ length old.segments
-  pub early : Lowers (ranks (len old) old.segments) (ranks (len old) polled.segments) one
-  pub late : Lowers (ranks (len old) old.segments) (ranks (len old) polled.segments) other
+  pub early : Lowers (ranks (len old) old.want old.segments) (ranks (len old) old.want polled.segments) one
+  pub late : Lowers (ranks (len old) old.want old.segments) (ranks (len old) old.want polled.segments) other
   pub nothing : one ≡ None → other ≡ None → (polled ≡ old) × NoneBusy old.segments
 
 none_busy_push : (earlier : List Writer) (current : Writer) → NoneBusy earlier → NoneBusy (current ∷ []) → NoneBusy (earlier ++ current ∷ [])
@@ -139,10 +110,10 @@ polls_lower {old = old} (nothing_begun none) = record {
   nothing = λ _ _. (refl, subst NoneBusy (sym none) tt);
 }
 polls_lower {old = old} (asked earlier current one other earlier' current' is early late) =
-    let front = first_lowers (len old) early in
-    let back = first_lowers (len old) late in
-    let was : ranks (len old) old.segments ≡ ranks (len old) earlier + ranks (len old) (current ∷ []) = ap (ranks (len old)) is ∙ ranks_append (len old) earlier (current ∷ []) in
-    let now = ranks_append (len old) earlier' (current' ∷ []) in
+    let front = first_lowers (len old) old.want early in
+    let back = first_lowers (len old) old.want late in
+    let was : ranks (len old) old.want old.segments ≡ ranks (len old) old.want earlier + ranks (len old) old.want (current ∷ []) = ap (ranks (len old) old.want) is ∙ ranks_append (len old) old.want earlier (current ∷ []) in
+    let now = ranks_append (len old) old.want earlier' (current' ∷ []) in
     record {
       same = refl;
       count = omega (arith, ap length is, first_count early, length-append earlier (current ∷ []), length-append earlier' (current' ∷ []));
@@ -158,60 +129,66 @@ polls_lower {old = old} (asked earlier current one other earlier' current' is ea
 -- ---- what is begun or started
 
 begins_lowers : (old new : State) → length old.segments < 10 → BeginsNext old new → work new < work old
-begins_lowers old new few begins = subst (λ (s : State). work s < work old) (sym begins.new_is) (go begins.writer (ap (λ (p : Phase). rank_in (len old) p begins.writer.sent begins.writer.written begins.writer.synced) begins.fresh.7))
-  where
-    go : (w : Writer) → rank (len old) w ≡ 7 → work (record old { segments = old.segments ++ w ∷ [] }) < work old
-    go w is = omega (arith, few, is, length-append old.segments (w ∷ []), ranks_append (len old) old.segments (w ∷ []))
+begins_lowers old new few begins =
+    let w = begins.writer in
+    let flies : rank (len old) old.want w ≡ rank_in (len old) old.want (InFlight Create begins.id) w.sent w.written w.synced = ap (λ (p : Phase). rank_in (len old) old.want p w.sent w.written w.synced) begins.fresh.7 in
+    subst (λ (s : State). work s < work old) (sym begins.new_is)
+    (omega (arith, few, flies, still_most w.written (len old), still_most w.synced old.want, length-append old.segments (w ∷ []), ranks_append (len old) old.want old.segments (w ∷ [])))
 
 -- What is started at rest leaves less to do.
-started_falls : (len want acked sent written synced : ℕ) (phase : Phase) (operation : Operation) (id : OpId) → want ≡ len → acked < len → synced ≤ acked → next_operation phase written (record { len = len; want = want; acked = acked }) ≡ Some operation
-    → rank_in len (InFlight operation id) (sent_with operation len sent) written synced < rank_in len phase sent written synced
-started_falls len want acked sent written synced New operation id all behind covered next =
+started_falls : (len want acked sent written synced : ℕ) (phase : Phase) (operation : Operation) (id : OpId) → synced ≤ acked → next_operation phase written (record { len = len; want = want; acked = acked }) ≡ Some operation
+    → rank_in len want (InFlight operation id) (sent_with operation len sent) written synced < rank_in len want phase sent written synced
+started_falls len want acked sent written synced New operation id covered next =
     let is : Create ≡ operation = cc in
-    subst (λ (o : Operation). rank_in len (InFlight o id) (sent_with o len sent) written synced < 8) is (omega arith)
-started_falls len want acked sent written synced (InFlight flying at) operation id all behind covered next = cc
-started_falls len want acked sent written synced Broken operation id all behind covered next = cc
-started_falls len want acked sent written synced Idle operation id all behind covered next = go (ltb acked want) (ltb written want) (ltb written len) refl refl refl next
+    subst (λ (o : Operation). rank_in len want (InFlight o id) (sent_with o len sent) written synced < 8) is (omega (arith, still_most written len, still_most synced want))
+started_falls len want acked sent written synced (InFlight flying at) operation id covered next = cc
+started_falls len want acked sent written synced Broken operation id covered next = cc
+started_falls len want acked sent written synced Idle operation id covered next = go (ltb acked want) (ltb written want) (ltb written len) refl refl refl next
   where
+    writes : ltb written len ≡ true → Write ≡ operation → rank_in len want (InFlight operation id) (sent_with operation len sent) written synced < rank_in len want Idle sent written synced
+    writes more is = subst (λ (o : Operation). rank_in len want (InFlight o id) (sent_with o len sent) written synced < rank_in len want Idle sent written synced) is (grind (arith, nat_tests))
+
     go : (wanted has more : Bool) → ltb acked want ≡ wanted → ltb written want ≡ has → ltb written len ≡ more → (if wanted && not has then Some Sync else (if more then Some Write else None)) ≡ Some operation
-        → rank_in len (InFlight operation id) (sent_with operation len sent) written synced < rest_rank len written synced
+        → rank_in len want (InFlight operation id) (sent_with operation len sent) written synced < rank_in len want Idle sent written synced
     go true false more a b c e =
         let is : Sync ≡ operation = cc in
-        subst (λ (o : Operation). rank_in len (InFlight o id) (sent_with o len sent) written synced < rest_rank len written synced) is (grind (arith, nat_tests))
-    go true true true a b c e =
-        let is : Write ≡ operation = cc in
-        subst (λ (o : Operation). rank_in len (InFlight o id) (sent_with o len sent) written synced < rest_rank len written synced) is (grind (arith, nat_tests))
+        subst (λ (o : Operation). rank_in len want (InFlight o id) (sent_with o len sent) written synced < rank_in len want Idle sent written synced) is (grind (arith, nat_tests))
+    go true true true a b c e = writes c cc
     go true true false a b c e = cc
-    go false b true a c d e =
-        let is : Write ≡ operation = cc in
-        subst (λ (o : Operation). rank_in len (InFlight o id) (sent_with o len sent) written synced < rest_rank len written synced) is (grind (arith, nat_tests))
-    go false b false a c d e = cc
+    go false has true a b c e = writes c cc
+    go false has false a b c e = cc
 
-starts_lowers : (old new : State) → old.want ≡ len old → IsBehind old → StartsNext old new → work new < work old
-starts_lowers old new all behind is =
+starts_lowers : (old new : State) → StartsNext old new → work new < work old
+starts_lowers old new is =
     let earlier = is.earlier in
     let current = is.current in
     let next : Writer = record current { sent = sent_with is.operation (len old) current.sent; place = is.place; waiting = 0; phase = InFlight is.operation is.id } in
     let covered : current.synced ≤ acked old = omega (arith, ap (most_synced 0) is.segments_are, most_synced_push 0 earlier current) in
-    let falls : rank (len old) next < rank (len old) current = started_falls (len old) old.want (acked old) current.sent current.written current.synced current.phase is.operation is.id all behind covered is.next in
+    let falls : rank (len old) old.want next < rank (len old) old.want current = started_falls (len old) old.want (acked old) current.sent current.written current.synced current.phase is.operation is.id covered is.next in
     subst (λ (s : State). work s < work old) (sym is.new_is)
-    (omega (arith, falls, ap length is.segments_are, ap (ranks (len old)) is.segments_are, length-append earlier (current ∷ []), length-append earlier (next ∷ []), ranks_append (len old) earlier (current ∷ []), ranks_append (len old) earlier (next ∷ [])))
+    (omega (arith, falls, ap length is.segments_are, ap (ranks (len old) old.want) is.segments_are, length-append earlier (current ∷ []), length-append earlier (next ∷ []), ranks_append (len old) old.want earlier (current ∷ []), ranks_append (len old) old.want earlier (next ∷ [])))
 
--- ---- where nothing is begun or started, though the journal is behind
+-- ---- where nothing is begun or started, though there is work
 
 -- A segment at rest has a next operation.
-idle_next : (len want acked written : ℕ) → want ≡ len → acked < len → (operation : Operation) × (next_operation Idle written (record { len = len; want = want; acked = acked }) ≡ Some operation)
-idle_next len want acked written all behind = go (ltb acked want) (ltb written want) (ltb written len) refl refl refl
+idle_next : (len want acked written : ℕ) → want ≤ len → (written < len) ⊎ (acked < want) → (operation : Operation) × (next_operation Idle written (record { len = len; want = want; acked = acked }) ≡ Some operation)
+idle_next len want acked written within wants = go (ltb acked want) (ltb written want) (ltb written len) refl refl refl
   where
     go : (wanted has more : Bool) → ltb acked want ≡ wanted → ltb written want ≡ has → ltb written len ≡ more → (operation : Operation) × ((if wanted && not has then Some Sync else (if more then Some Write else None)) ≡ Some operation)
     go true false more a b c = (Sync, refl)
     go true true true a b c = (Write, refl)
     go true true false a b c = absurd (grind (arith, nat_tests))
-    go false has more a b c = absurd (grind (arith, nat_tests))
+    go false has true a b c = (Write, refl)
+    go false has false a b c = elim wants [ inl less ↦ absurd (grind (arith, nat_tests)) | inr less ↦ absurd (grind (arith, nat_tests)) ]
+
+wants_last : (state : State) (earlier : List Writer) (current : Writer) → WantsMore state (earlier ++ current ∷ []) → (current.phase ≡ Broken) ⊎ ((current.written < len state) ⊎ (acked state < state.want))
+wants_last state [] current wants = wants
+wants_last state (w ∷ []) current wants = wants
+wants_last state (w ∷ v ∷ earlier) current wants = wants_last state (v ∷ earlier) current wants
 
 -- The monitor leaves no broken segment in its place, and any other at rest has a next operation.
-stays_none : (polled : State) → polled.want ≡ len polled → length polled.segments ≤ 10 → Verdict IsToStay polled → ((new : State) → StartsNext polled new → ⊥) → IsBehind polled → NoneBusy polled.segments → ⊥
-stays_none polled all few verdict none behind rests = go verdict.current.phase refl
+stays_none : (polled : State) → polled.want ≤ len polled → length polled.segments ≤ 10 → Verdict IsToStay polled → ((new : State) → StartsNext polled new → ⊥) → HasWork polled → NoneBusy polled.segments → ⊥
+stays_none polled within few verdict none wants rests = go verdict.current.phase refl
   where
     start : (operation : Operation) → next_operation verdict.current.phase verdict.current.written (record { len = len polled; want = polled.want; acked = acked polled }) ≡ Some operation → ⊥
     start operation next =
@@ -222,22 +199,26 @@ stays_none polled all few verdict none behind rests = go verdict.current.phase r
     go New is = start Create (ap (λ (p : Phase). next_operation p verdict.current.written (record { len = len polled; want = polled.want; acked = acked polled })) is)
     go (InFlight operation id) is = all_last (λ (w : Writer). IsBusy w.phase → ⊥) verdict.earlier verdict.current (subst NoneBusy verdict.segments_are rests) (subst IsBusy (sym is) tt)
     go Idle is =
-        let next = idle_next (len polled) polled.want (acked polled) verdict.current.written all behind in
+        let more : (verdict.current.written < len polled) ⊎ (acked polled < polled.want) = elim (wants_last polled verdict.earlier verdict.current (subst (WantsMore polled) verdict.segments_are wants.1)) [
+          | inl broken ↦ (let clash : Idle ≡ Broken = sym is ∙ broken in cc)
+          | inr more ↦ more
+        ] in
+        let next = idle_next (len polled) polled.want (acked polled) verdict.current.written within more in
         start next.0 (ap (λ (p : Phase). next_operation p verdict.current.written (record { len = len polled; want = polled.want; acked = acked polled })) is ∙ next.1)
     go Broken is =
         let broken : is_broken verdict.current ≡ true = ap phase_is_broken is in
         elim (dec_lt (length polled.segments) 10) [
-          | yes less ↦ verdict.says.1 (less, lt-ltb (acked polled) (len polled) behind, inl broken)
+          | yes less ↦ verdict.says.1 (less, lt-ltb (acked polled) (len polled) wants.0, inl broken)
           | no not_less ↦ verdict.says.0 (broken, omega (arith, few, not_less))
         ]
 
--- Something is begun or started where the journal is behind and nothing is busy.
-goes_lower : (polled new : State) → polled.want ≡ len polled → length polled.segments ≤ 10 → stepping.GoesOn polled new → (work new < work polled) ⊎ ((new ≡ polled) × (IsBehind polled → NoneBusy polled.segments → ⊥))
-goes_lower polled new all few (first _ none behind begins) = inl (begins_lowers polled new (omega (arith, ap length none)) begins)
-goes_lower polled new all few (none_to_begin none not_behind) = inr (refl, λ behind _. not_behind behind)
-goes_lower polled new all few (switches _ verdict begins) = inl (begins_lowers polled new verdict.says.0 begins)
-goes_lower polled new all few (starts _ verdict behind is) = inl (starts_lowers polled new all behind is)
-goes_lower polled new all few (stays verdict none) = inr (refl, λ behind rests. stays_none polled all few verdict (none behind) behind rests)
+-- Something is begun or started where there is work and nothing is busy.
+goes_lower : (polled new : State) → polled.want ≤ len polled → length polled.segments ≤ 10 → stepping.GoesOn polled new → (work new < work polled) ⊎ ((new ≡ polled) × (HasWork polled → NoneBusy polled.segments → ⊥))
+goes_lower polled new within few (first _ none behind begins) = inl (begins_lowers polled new (omega (arith, ap length none)) begins)
+goes_lower polled new within few (none_to_begin none not_behind) = inr (refl, λ more _. not_behind more.0)
+goes_lower polled new within few (switches _ verdict begins) = inl (begins_lowers polled new verdict.says.0 begins)
+goes_lower polled new within few (starts _ verdict behind is) = inl (starts_lowers polled new is)
+goes_lower polled new within few (stays verdict none) = inr (refl, λ more rests. stays_none polled within few verdict (none more.0) more rests)
 
 -- ---- the step
 
@@ -258,38 +239,38 @@ polls_came before after None (Some Done) told also = inr (inl (inr tt))
 polls_came before after None (Some Failed) told also = inr (inl (inr tt))
 polls_came before after None None told also = inr (inr (refl, refl))
 
-gone_falls : (old polled started new : State) (before after : DiskView) (one other : Option Progress) → old.want ≡ len old → length old.segments ≤ 10 → GoesOn before after → IsUp old → Polls old one other polled → stepping.GoesOn polled started
+gone_falls : (old polled started new : State) (before after : DiskView) (one other : Option Progress) → old.want ≤ len old → length old.segments ≤ 10 → GoesOn before after → IsUp old → Polls old one other polled → stepping.GoesOn polled started
     → Releases started new → IsTold before after one → IsTold before after other → measure new after < measure old before
-gone_falls old polled started new before after one other all few goes_on up polls went releases told also =
+gone_falls old polled started new before after one other within few goes_on up polls went releases told also =
     let lower = polls_lower polls in
     let same_len : len polled ≡ len old = ap (λ (s : State). len s) lower.same in
     let same_want : polled.want ≡ old.want = ap (λ (s : State). s.want) lower.same in
-    let low : work polled ≤ work old = omega (arith, lower.count, lower.early.no_more, ap (λ (n : ℕ). ranks n polled.segments) same_len) in
+    let same_ranks : ranks (len polled) polled.want polled.segments ≡ ranks (len old) old.want polled.segments = ap (λ (s : State). ranks (len s) s.want polled.segments) lower.same in
+    let low : work polled ≤ work old = omega (arith, lower.count, lower.early.no_more, same_ranks) in
     let released : work new ≡ work started =
-    ap (λ (s : State). (10 - length s.segments) * 8 + ranks (len new) s.segments) releases.new_is ∙ ap (λ (n : ℕ). (10 - length started.segments) * 8 + ranks n started.segments) releases.end in
+    ap (λ (s : State). (10 - length s.segments) * 8 + ranks (len new) s.want s.segments) releases.new_is ∙ ap (λ (n : ℕ). (10 - length started.segments) * 8 + ranks n started.want started.segments) releases.end in
     let fewer : polls_left after ≤ polls_left before = omega (arith, goes_on.polls Primary, goes_on.polls Secondary) in
-    let went = goes_lower polled started (same_want ∙ all ∙ sym same_len) (omega (arith, few, lower.count)) went in
+    let went = goes_lower polled started (omega (arith, same_want, same_len, within)) (omega (arith, few, lower.count)) went in
     let no_more : work started ≤ work polled = elim went [ inl less ↦ omega (arith, less) | inr same ↦ omega (arith, ap work same.0) ] in
     elim (polls_came before after one other told also) [
       | inl fell ↦ omega (arith, polls_fall before after goes_on fell, low, no_more, released)
-      | inr (inl (inl ended)) ↦ omega (arith, fewer, lower.count, lower.early.less ended, ap (λ (n : ℕ). ranks n polled.segments) same_len, no_more, released)
-      | inr (inl (inr ended)) ↦ omega (arith, fewer, lower.count, lower.late.less ended, ap (λ (n : ℕ). ranks n polled.segments) same_len, no_more, released)
+      | inr (inl (inl ended)) ↦ omega (arith, fewer, lower.count, lower.early.less ended, same_ranks, no_more, released)
+      | inr (inl (inr ended)) ↦ omega (arith, fewer, lower.count, lower.late.less ended, same_ranks, no_more, released)
       | inr (inr none) ↦
           let nothing = lower.nothing none.0 none.1 in
           elim went [
             | inl less ↦ omega (arith, fewer, less, low, released)
-            | inr same ↦ absurd (same.1 (subst IsBehind (sym nothing.0) (up.wants nothing.1).0) (subst (λ (s : State). NoneBusy s.segments) (sym nothing.0) nothing.1))
+            | inr same ↦ absurd (same.1 (subst HasWork (sym nothing.0) (up.wants nothing.1)) (subst (λ (s : State). NoneBusy s.segments) (sym nothing.0) nothing.1))
           ]
     ]
 
 -- A step that is not idle takes a poll left, or leaves less to do.
-pub falls : (old new : State) (before after : DiskView) (answer : Step) → old.want ≡ len old → length old.segments ≤ 10 → GoesOn before after → StepsBy old new before after (Ok answer) → answer ≢ steps.Idle
-    → measure new after < measure old before
-falls old new before after answer all few goes_on by busy = go by.rule refl by.one_told by.other_told
+pub falls : (old new : State) (before after : DiskView) (answer : Result Step JournalFault) → old.want ≤ len old → length old.segments ≤ 10 → GoesOn before after → StepsBy old new before after answer → Falls old new before after answer
+falls old new before after answer within few goes_on by = go by.rule by.one_told by.other_told
   where
-    go : {one other : Option Progress} {left : State} {result : Result Step JournalFault} → StepRule old one other left result → result ≡ Ok answer → IsTold before after one → IsTold before after other → measure left after < measure old before
-    go (was_dead side count dead) e told also = cc
-    go (idle lives rests none) e told also = let is : answer ≡ steps.Idle = cc in absurd (busy is)
-    go (dies one other polled left side count up polls died) e told also = cc
-    go (goes one other polled started left up polls went releases) e told also = gone_falls old polled started left before after one other all few goes_on up polls went releases told also
-    go (short one other polled up polls) e told also = cc
+    go : {one other : Option Progress} {left : State} {result : Result Step JournalFault} → StepRule old one other left result → IsTold before after one → IsTold before after other → Falls old left before after result
+    go (was_dead side count dead) told also = tt
+    go (idle lives rests none) told also = λ busy. absurd (busy refl)
+    go (dies one other polled left side count up polls died) told also = tt
+    go (goes one other polled started left up polls went releases) told also = λ busy. gone_falls old polled started left before after one other within few goes_on up polls went releases told also
+    go (short one other polled up polls) told also = tt

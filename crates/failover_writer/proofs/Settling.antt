@@ -1,5 +1,5 @@
 -- What holds of steps one after another, and what a closing comes to by it.
-use Rattle.std.proofs.Common.{◌≡◌, ◌≢◌, ◌⊎◌, inl, inr, ◌<◌, ◌≤◌, Bool, List, [], ◌∷◌, length, Option, Some, None, Result, OnOk, IfErr, ap, sym, subst, ◌∙◌, refl, arith}
+use Rattle.std.proofs.Common.{◌≡◌, ◌≢◌, ◌⊎◌, inl, inr, ℕ, ◌<◌, ◌≤◌, Bool, List, [], ◌∷◌, length, Option, Some, None, Result, Ok, OnOk, IfErr, ap, sym, subst, ◌∙◌, refl, arith}
 use native.Mathlib.Decide.{dec_lt}
 use Rattle.std.proofs.lemmas.List.{length-drop}
 use Rattle.std.proofs.lemmas.Result.{on_ok_weaker}
@@ -15,49 +15,82 @@ use Rattle.log_writer.specs.Writer.{Writer}
 use Rattle.log_writer.specs.Fits.{Fits, HasFlight, IsBusy, file_of}
 use Rattle.failover_writer.specs.declared.fault.JournalFault.{JournalFault}
 use Rattle.failover_writer.specs.declared.fault.Step.{Step}
+use Rattle.failover_writer.specs.declared.fault.Step.TheVariants as steps
+use Rattle.failover_writer.specs.Setting.{KeepsEnd, KeepsGoal}
+use Rattle.disk_face.specs.declared.Side.{Side}
 use Rattle.failover_writer.specs.State.{State, len, acked}
 use Rattle.failover_writer.specs.Ranges.{StandsFor, Stands, KeepsRecords}
 use Rattle.failover_writer.specs.Stepping as stepping
-use Rattle.failover_writer.specs.Stepping.{NoneBusy, WantsMore, Polls, first, none_to_begin, switches, starts, stays, StepRule, was_dead, idle, dies, goes, short}
-use Rattle.failover_writer.specs.Answered.{StepsBy, StepsOn, IsIdle, IsMarked, IsHarmed, IsSmooth, FaultsRose, PollsFell, last_answer}
+use Rattle.failover_writer.specs.Stepping.{NoneBusy, WantsMore, Polls, first, none_to_begin, switches, starts, stays, Dies, Releases, StepRule, was_dead, idle, dies, goes, short}
+use Rattle.failover_writer.specs.Answered.{StepsBy, StepsOn, MovesOn, IsIdle, IsMarked, IsHarmed, IsSmooth, FaultsRose, PollsFell, last_answer}
 use Rattle.failover_writer.specs.Keeping.{Passes}
-use Rattle.failover_writer.specs.Closing.{Lasts, Settles}
+use Rattle.failover_writer.specs.Closing.{Lasts, Drains, Moves}
 use Rattle.failover_writer.proofs.Segments.{all_from, not_theirs}
 use Rattle.failover_writer.proofs.Released.{acked_within}
 use Rattle.failover_writer.proofs.Passing.{passes_still, passes_further}
 use Rattle.failover_writer.proofs.Closing.{polls_lower}
 
--- ---- what is asked for stays
+-- ---- what a step leaves as it was
 
-pub record SameGoal (old new : State) : Type 0 where
-  pub want : new.want ≡ old.want
-  pub end : len new ≡ len old
-  pub threshold : new.threshold ≡ old.threshold
+pub goal_still : (old new : State) → new ≡ old → KeepsGoal old new
+goal_still old new is = record {
+  wal = ap (λ (s : State). s.wal) is;
+  base = ap (λ (s : State). s.base) is;
+  threshold = ap (λ (s : State). s.threshold) is;
+  next = ap (λ (s : State). s.next) is;
+  end = ap (λ (s : State). len s) is;
+  want = ap (λ (s : State). s.want) is;
+}
 
-goal_further : (old mid new : State) → SameGoal old mid → SameGoal mid new → SameGoal old new
-goal_further old mid new one two = record { want = two.want ∙ one.want; end = two.end ∙ one.end; threshold = two.threshold ∙ one.threshold }
+pub goal_further : (old mid new : State) → KeepsGoal old mid → KeepsGoal mid new → KeepsGoal old new
+goal_further old mid new one two = record {
+  wal = two.wal ∙ one.wal;
+  base = two.base ∙ one.base;
+  threshold = two.threshold ∙ one.threshold;
+  next = two.next ∙ one.next;
+  end = two.end ∙ one.end;
+  want = two.want ∙ one.want;
+}
 
-goal_beside : (old new : State) (segments : List Writer) → new ≡ record old { segments = segments } → SameGoal old new
-goal_beside old new segments is = record { want = ap (λ (s : State). s.want) is; end = ap (λ (s : State). len s) is; threshold = ap (λ (s : State). s.threshold) is }
+goal_beside : (old new : State) (segments : List Writer) → new ≡ record old { segments = segments } → KeepsGoal old new
+goal_beside old new segments is = let same = goal_still (record old { segments = segments }) new is in record { wal = same.wal; base = same.base; threshold = same.threshold; next = same.next; end = same.end; want = same.want }
 
-goal_polled : {old polled : State} {one other : Option Progress} → Polls old one other polled → SameGoal old polled
+goal_polled : {old polled : State} {one other : Option Progress} → Polls old one other polled → KeepsGoal old polled
 goal_polled {old = old} {polled = polled} polls = goal_beside old polled polled.segments (polls_lower polls).same
 
-goal_went : (polled new : State) → stepping.GoesOn polled new → SameGoal polled new
+goal_went : (polled new : State) → stepping.GoesOn polled new → KeepsGoal polled new
 goal_went polled new (first _ none behind begins) = goal_beside polled new _ begins.new_is
-goal_went polled new (none_to_begin none not_behind) = record { want = refl; end = refl; threshold = refl }
+goal_went polled new (none_to_begin none not_behind) = goal_still polled polled refl
 goal_went polled new (switches _ verdict begins) = goal_beside polled new _ begins.new_is
 goal_went polled new (starts _ verdict behind is) = goal_beside polled new _ is.new_is
-goal_went polled new (stays verdict none) = record { want = refl; end = refl; threshold = refl }
+goal_went polled new (stays verdict none) = goal_still polled polled refl
 
-pub goal_kept : {old new : State} {one other : Option Progress} {answer : Result Step JournalFault} → StepRule old one other new answer → SameGoal old new
-goal_kept (was_dead side count dead) = record { want = refl; end = refl; threshold = refl }
-goal_kept (idle lives rests none) = record { want = refl; end = refl; threshold = refl }
-goal_kept {old = old} (dies one other polled new side count up polls died) =
-    goal_further old polled new (goal_polled polls) (record { want = ap (λ (s : State). s.want) died.new_is; end = ap (λ (s : State). len s) died.new_is; threshold = ap (λ (s : State). s.threshold) died.new_is })
+goal_died : (polled new : State) (side : Side) (count : ℕ) → Dies polled new side count → KeepsGoal polled new
+goal_died polled new side count died = record {
+  wal = ap (λ (s : State). s.wal) died.new_is;
+  base = ap (λ (s : State). s.base) died.new_is;
+  threshold = ap (λ (s : State). s.threshold) died.new_is;
+  next = ap (λ (s : State). s.next) died.new_is;
+  end = ap (λ (s : State). len s) died.new_is;
+  want = ap (λ (s : State). s.want) died.new_is;
+}
+
+goal_released : (started new : State) → Releases started new → KeepsGoal started new
+goal_released started new releases = record {
+  wal = ap (λ (s : State). s.wal) releases.new_is;
+  base = ap (λ (s : State). s.base) releases.new_is;
+  threshold = ap (λ (s : State). s.threshold) releases.new_is;
+  next = ap (λ (s : State). s.next) releases.new_is;
+  end = releases.end;
+  want = ap (λ (s : State). s.want) releases.new_is;
+}
+
+pub goal_kept : {old new : State} {one other : Option Progress} {answer : Result Step JournalFault} → StepRule old one other new answer → KeepsGoal old new
+goal_kept {old = old} (was_dead side count dead) = goal_still old old refl
+goal_kept {old = old} (idle lives rests none) = goal_still old old refl
+goal_kept {old = old} (dies one other polled new side count up polls died) = goal_further old polled new (goal_polled polls) (goal_died polled new side count died)
 goal_kept {old = old} (goes one other polled started new up polls went releases) =
-    goal_further old polled new (goal_polled polls) (goal_further polled started new (goal_went polled started went)
-    (record { want = ap (λ (s : State). s.want) releases.new_is; end = releases.end; threshold = ap (λ (s : State). s.threshold) releases.new_is }))
+    goal_further old polled new (goal_polled polls) (goal_further polled started new (goal_went polled started went) (goal_released started new releases))
 goal_kept (short one other polled up polls) = goal_polled polls
 
 -- ---- steps one after another
@@ -67,14 +100,11 @@ pub lasts_once : (tells : Bool) (old new : State) (before after : DiskView) (ans
     → (1 ≤ old.threshold → IsSmooth old → IsSmooth new ⊎ (FaultsRose before after ⊎ PollsFell before after)) → KeepsRecords tells old before new after → Passes tells old new before after → GoesOn before after
     → Lasts tells old new before after
 lasts_once tells old new before after answer by harmed smooth keeps passes goes_on =
-    let same = goal_kept by.rule in
-    record { want = same.want; end = same.end; threshold = same.threshold; harmed = harmed; smooth = smooth; keeps = keeps; passes = passes; goes_on = goes_on }
+    record { setting = goal_kept by.rule; harmed = harmed; smooth = smooth; keeps = keeps; passes = passes; goes_on = goes_on }
 
 pub lasts_none : (tells : Bool) (state : State) (v : DiskView) → Lasts tells state state v v
 lasts_none tells state v = record {
-  want = refl;
-  end = refl;
-  threshold = refl;
+  setting = goal_still state state refl;
   harmed = λ harmed. inl harmed;
   smooth = λ low smooth. inl smooth;
   keeps = λ records stands. stands;
@@ -97,15 +127,13 @@ fell_after before between after one fell = (fell.0, omega (arith, fell.1, one.po
 
 pub lasts_further : (tells : Bool) (old mid new : State) (before between after : DiskView) → Lasts tells old mid before between → Lasts tells mid new between after → Lasts tells old new before after
 lasts_further tells old mid new before between after one two = record {
-  want = two.want ∙ one.want;
-  end = two.end ∙ one.end;
-  threshold = two.threshold ∙ one.threshold;
+  setting = goal_further old mid new one.setting two.setting;
   harmed = λ harmed. elim (two.harmed harmed) [
     | inl was ↦ elim (one.harmed was) [ inl harmed_first ↦ inl harmed_first | inr rose ↦ inr (rose_before before between after one.goes_on two.goes_on rose) ]
     | inr rose ↦ inr (rose_after before between after one.goes_on rose)
   ];
   smooth = λ low smooth. elim (one.smooth low smooth) [
-    | inl mid_smooth ↦ elim (two.smooth (omega (arith, low, one.threshold)) mid_smooth) [
+    | inl mid_smooth ↦ elim (two.smooth (omega (arith, low, one.setting.threshold)) mid_smooth) [
       | inl now ↦ inl now
       | inr (inl rose) ↦ inr (inl (rose_after before between after one.goes_on rose))
       | inr (inr fell) ↦ inr (inr (fell_after before between after one.goes_on fell))
@@ -119,15 +147,26 @@ lasts_further tells old mid new before between after one two = record {
 }
 
 -- The last step is idle, or ends with a fault.
-pub settled : (tells : Bool) (old mid new : State) (before v after : DiskView) (step : Result Step JournalFault) (answer : Result Unit JournalFault) → step ≡ last_answer answer → StepsOn old before mid v → Lasts tells old mid before v
-    → StepsBy mid new v after step → Lasts tells mid new v after → OnOk answer (IsIdle new) → IfErr answer (IsMarked new) → Settles tells old new before after answer
-settled tells old mid new before v after step answer is steps one by two rests marked = record {
+pub drained : (tells : Bool) (old mid new : State) (before v after : DiskView) (step : Result Step JournalFault) (answer : Result Unit JournalFault) → step ≡ last_answer answer → StepsOn old before mid v → Lasts tells old mid before v
+    → StepsBy mid new v after step → Lasts tells mid new v after → OnOk answer (IsIdle new) → IfErr answer (IsMarked new) → Drains tells old new before after answer
+drained tells old mid new before v after step answer is steps one by two rests marked = record {
   mid = mid;
   v = v;
   steps = steps;
   last = subst (StepsBy mid new v after) is by;
   lasts = lasts_further tells old mid new before v after one two;
   idle = rests;
+  marked = marked;
+}
+
+-- The last step does not move: it is idle, has waited, or ends with a fault.
+pub moved_to : (tells : Bool) (old mid new : State) (before v after : DiskView) (answer : Result Step JournalFault) → MovesOn old before mid v → Lasts tells old mid before v → StepsBy mid new v after answer → Lasts tells mid new v after
+    → answer ≢ Ok steps.Moved → (answer ≡ Ok steps.Idle → IsIdle new) → (answer ≡ Ok steps.Waited → PollsFell v after) → IfErr answer (IsMarked new) → Moves tells old new before after answer
+moved_to tells old mid new before v after answer moves one by two ends rests waited marked = record {
+  settles = record { mid = mid; v = v; moves = moves; last = by; ends = ends };
+  lasts = lasts_further tells old mid new before v after one two;
+  idle = rests;
+  waited = λ is. fell_after before v after one.goes_on (waited is);
   marked = marked;
 }
 
@@ -188,17 +227,20 @@ none_flies tells records state v stands rests id = go (v.in_flight id) refl
         (all_from (λ (w : Writer). Fits tells records w v) (λ (w : Writer). IsBusy w.phase → ⊥) (λ (w : Writer). file_of w ≢ f.place) state.segments (λ w fits not_busy. not_its tells records v id f w is fits not_busy) stands.fit rests)
         (stands.alone id f is))
 
-module _ (tells : Bool) (old new : State) (before after : DiskView) (answer : Result Unit JournalFault) (settles : Settles tells (asking old) new before after answer) where
+module _ (tells : Bool) (old new : State) (before after : DiskView) (answer : Result Unit JournalFault) (drains : Drains tells (asking old) new before after answer) where
   pub closed_keeps : KeepsRecords tells old before new after
-  closed_keeps records stands = settles.lasts.keeps records (asking_stands tells records old before stands)
+  closed_keeps records stands = drains.lasts.keeps records (asking_stands tells records old before stands)
 
   pub closed_synced : Stands tells old before → OnOk answer (acked new ≡ len new)
-  closed_synced stands = on_ok_weaker answer (λ rests. all_acked tells stands.0 new after (closed_keeps stands.0 stands.1) (settles.lasts.want ∙ sym settles.lasts.end) rests) settles.idle
+  closed_synced stands = on_ok_weaker answer (λ rests. all_acked tells stands.0 new after (closed_keeps stands.0 stands.1) (drains.lasts.setting.want ∙ sym drains.lasts.setting.end) rests) drains.idle
 
   pub closed_rests : Stands tells old before → OnOk answer (NothingInFlight after)
-  closed_rests stands = on_ok_weaker answer (λ rests. none_flies tells stands.0 new after (closed_keeps stands.0 stands.1) rests.rests) settles.idle
+  closed_rests stands = on_ok_weaker answer (λ rests. none_flies tells stands.0 new after (closed_keeps stands.0 stands.1) rests.rests) drains.idle
 
   pub closed_passes : Passes tells old new before after
   closed_passes =
-      passes_further tells old (asking old) new before before after (λ records stands. asking_stands tells records old before stands) settles.lasts.goes_on
-      (passes_still tells old (asking old) before refl refl refl) settles.lasts.passes
+      passes_further tells old (asking old) new before before after (λ records stands. asking_stands tells records old before stands) drains.lasts.goes_on
+      (passes_still tells old (asking old) before refl refl refl) drains.lasts.passes
+
+  pub closed_setting : KeepsEnd old new
+  closed_setting = let same = drains.lasts.setting in record { wal = same.wal; base = same.base; threshold = same.threshold; next = same.next; end = same.end }

@@ -68,6 +68,19 @@ pub data StepsOn (first : State) (before : DiskView) : State → DiskView → Ty
   none : StepsOn first before first before
   one_more : (mid new : State) (v after : DiskView) (answer : Step) → StepsOn first before mid v → StepsBy mid new v after (Ok answer) → StepsOn first before new after
 
+-- Steps one after another, each of which moved.
+pub data MovesOn (first : State) (before : DiskView) : State → DiskView → Type 0 where
+  none : MovesOn first before first before
+  one_more : (mid new : State) (v after : DiskView) → MovesOn first before mid v → StepsBy mid new v after (Ok steps.Moved) → MovesOn first before new after
+
+-- Steps were made as long as they moved. The last one is idle, has waited, or ends with a fault, and its answer is given.
+pub record Settles (old new : State) (before after : DiskView) (answer : Result Step JournalFault) : Type 0 where
+  pub mid : State
+  pub v : DiskView
+  pub moves : MovesOn old before mid v
+  pub last : StepsBy mid new v after answer
+  pub ends : answer ≢ Ok steps.Moved
+
 -- how the last step of a closing is answered: idle, or with its fault
 abbrev pub last_answer : Result Unit JournalFault → Result Step JournalFault
 last_answer (Ok done) = Ok steps.Idle

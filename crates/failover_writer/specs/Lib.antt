@@ -1,6 +1,8 @@
 pub mod State
 pub mod Ranges
 pub mod Stepping
+pub mod Setting
+pub mod Remaining
 pub mod Answered
 pub mod Keeping
 pub mod Moves

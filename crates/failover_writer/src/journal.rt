@@ -11,9 +11,11 @@ ghost use Rattle.failover_writer.specs.Ranges.{AreUnsent, StandsFor, Stands, Kee
 ghost use Rattle.failover_writer.specs.Stepping as stepping;
 ghost use Rattle.failover_writer.specs.Stepping.{IsBehind, HasWork, NoneBusy, BeginsNext, Releases, IsUp};
 ghost use Rattle.failover_writer.specs.declared.fault.Step.TheVariants as steps;
-ghost use Rattle.failover_writer.specs.Answered.{StepsBy, IsIdle, IsMarked, IsHarmed, IsSmooth, FaultsRose, PollsFell, Closes};
+ghost use Rattle.failover_writer.specs.Setting.{KeepsEnd, KeepsGoal, KeepsSegments};
+ghost use Rattle.failover_writer.specs.Remaining.{Falls};
+ghost use Rattle.failover_writer.specs.Answered.{StepsBy, Settles, IsIdle, IsMarked, IsHarmed, IsSmooth, FaultsRose, PollsFell, Closes};
 ghost use Rattle.failover_writer.specs.Keeping.{KeepsRun, RecoversTo, OthersStay, IsOpenedOn, IsOpening, KeepsBase, Passes};
-ghost use Rattle.failover_writer.specs.Closing.{Settles};
+ghost use Rattle.failover_writer.specs.Closing.{Drains, Moves};
 ghost use Rattle.failover_writer.specs.Moves.{IsBusyAt, IsFirstBusy, PollsAt, PollsAll, MayStartNext, IsRestingAt, NoneRests, EndsGoing, Pushes};
 
 use crate::fault::{DeadMark, JournalFault, Step};
@@ -114,6 +116,8 @@ impl<D: Disk> Journal<D> {
     /// Makes room for one record.
     pub fn reserve(&mut self) -> Result<(), NoMemory>
         ensures room { OnOk result (1 ≤ self.new.state.queue.spare) }
+        ensures setting { KeepsGoal self.old.state self.new.state }
+        ensures acked { acked self.new.state ≡ acked self.old.state }
         ensures same { self.new ≡ record self.old { state = record self.old.state { queue = record self.old.state.queue { spare = self.new.state.queue.spare } } } }
         ensures keeps { KeepsRecords D.tells self.old.state (D.view self.old.disk) self.new.state (D.view self.new.disk) }
         ensures keeps_base { (base : List Batch) → KeepsBase D.tells base self.old.state (D.view self.old.disk) → KeepsBase D.tells base self.new.state (D.view self.new.disk) }
@@ -128,6 +132,8 @@ impl<D: Disk> Journal<D> {
         requires next { added.first ≡ self.old.state.next }
         ensures len { result ≡ len self.new.state }
         ensures pushed { Pushes added sync self.old.state self.new.state }
+        ensures setting { KeepsSegments self.old.state self.new.state }
+        ensures acked { acked self.new.state ≡ acked self.old.state }
         ensures disk { self.new.disk ≡ self.old.disk }
         ensures keeps { (records : List Batch) → StandsFor D.tells records self.old.state (D.view self.old.disk) → StandsFor D.tells (records ++ added ∷ []) self.new.state (D.view self.new.disk) }
         ensures keeps_base { (base : List Batch) → KeepsBase D.tells base self.old.state (D.view self.old.disk) → KeepsBase D.tells base self.new.state (D.view self.new.disk) }
@@ -379,6 +385,8 @@ impl<D: Disk> Journal<D> {
         ensures waited { result ≡ Ok steps.Waited → PollsFell (D.view self.old.disk) (D.view self.new.disk) }
         ensures dead { IfErr result (IsMarked self.new.state) }
         ensures still { (self.old.state.dead ≢ None) ⊎ IsIdle self.old.state → self.new ≡ self.old }
+        ensures setting { KeepsGoal self.old.state self.new.state }
+        ensures falls { Falls self.old.state self.new.state (D.view self.old.disk) (D.view self.new.disk) result }
         ensures harmed { IsHarmed self.new.state → IsHarmed self.old.state ⊎ FaultsRose (D.view self.old.disk) (D.view self.new.disk) }
         ensures smooth { 1 ≤ self.old.state.threshold → IsSmooth self.old.state → IsSmooth self.new.state ⊎ (FaultsRose (D.view self.old.disk) (D.view self.new.disk) ⊎ PollsFell (D.view self.old.disk) (D.view self.new.disk)) }
         ensures acked { acked self.old.state ≤ acked self.new.state }
@@ -466,6 +474,44 @@ impl<D: Disk> Journal<D> {
         }
     }
 
+    /// Steps as long as a step moves, and answers the last one: `Idle`, `Waited`, or its fault. So all that can be done
+    /// without waiting is done.
+    pub fn settle(&mut self) -> Result<Step, JournalFault>
+        ensures settles { Settles self.old.state self.new.state (D.view self.old.disk) (D.view self.new.disk) result }
+        ensures idle { result ≡ Ok steps.Idle → IsIdle self.new.state }
+        ensures waited { result ≡ Ok steps.Waited → PollsFell (D.view self.old.disk) (D.view self.new.disk) }
+        ensures dead { IfErr result (IsMarked self.new.state) }
+        ensures still { (self.old.state.dead ≢ None) ⊎ IsIdle self.old.state → self.new ≡ self.old }
+        ensures setting { KeepsGoal self.old.state self.new.state }
+        ensures harmed { IsHarmed self.new.state → IsHarmed self.old.state ⊎ FaultsRose (D.view self.old.disk) (D.view self.new.disk) }
+        ensures smooth { 1 ≤ self.old.state.threshold → IsSmooth self.old.state → IsSmooth self.new.state ⊎ (FaultsRose (D.view self.old.disk) (D.view self.new.disk) ⊎ PollsFell (D.view self.old.disk) (D.view self.new.disk)) }
+        ensures acked { acked self.old.state ≤ acked self.new.state }
+        ensures keeps { KeepsRecords D.tells self.old.state (D.view self.old.disk) self.new.state (D.view self.new.disk) }
+        ensures keeps_base { (base : List Batch) → KeepsBase D.tells base self.old.state (D.view self.old.disk) → KeepsBase D.tells base self.new.state (D.view self.new.disk) }
+        ensures recovers { (records base : List Batch) → StandsFor D.tells records self.old.state (D.view self.old.disk) → KeepsBase D.tells base self.old.state (D.view self.old.disk) → IsTrue D.tells → AtEachMoment ((D.view self.old.disk).clock) (D.view self.new.disk) (RecoversTo base records (acked self.old.state)) }
+        ensures recovers_at_exit { (records base : List Batch) → StandsFor D.tells records self.old.state (D.view self.old.disk) → KeepsBase D.tells base self.old.state (D.view self.old.disk) → IsTrue D.tells → RecoversTo base records (acked self.new.state) (files (D.view self.new.disk)) }
+        ensures run { (records : List Batch) (opening : Files) → StandsFor D.tells records self.old.state (D.view self.old.disk) → IsOpenedOn opening self.old.state (files (D.view self.old.disk)) → IsTrue D.tells → AtEachMoment ((D.view self.old.disk).clock) (D.view self.new.disk) (KeepsRun self.old.state.wal self.old.state.base records (acked self.old.state) opening) }
+        ensures run_at_exit { (records : List Batch) (opening : Files) → StandsFor D.tells records self.old.state (D.view self.old.disk) → IsOpenedOn opening self.old.state (files (D.view self.old.disk)) → IsTrue D.tells → KeepsRun self.old.state.wal self.old.state.base records (acked self.new.state) opening (files (D.view self.new.disk)) }
+        ensures passes { Passes D.tells self.old.state self.new.state (D.view self.old.disk) (D.view self.new.disk) }
+        ensures goes_on { GoesOn (D.view self.old.disk) (D.view self.new.disk) }
+    {
+        self.move_on()
+    }
+
+    /// Steps until a step does not move.
+    fn move_on(&mut self) -> Result<Step, JournalFault>
+        ensures moves { Moves D.tells self.old.state self.new.state (D.view self.old.disk) (D.view self.new.disk) result }
+        ensures still { (self.old.state.dead ≢ None) ⊎ IsIdle self.old.state → self.new ≡ self.old }
+    {
+        loop {
+            match self.step()? {
+                Step::Moved => {}
+                Step::Idle => return Ok(Step::Idle),
+                Step::Waited => return Ok(Step::Waited),
+            }
+        }
+    }
+
     /// Asks that all records be synced, and steps until they are and nothing is in flight. After `NoMemory` it may be
     /// called again.
     pub fn close(&mut self) -> Result<(), JournalFault>
@@ -474,6 +520,7 @@ impl<D: Disk> Journal<D> {
         ensures rests { OnOk result (NothingInFlight (D.view self.new.disk)) }
         ensures dead { IfErr result (IsMarked self.new.state) }
         ensures still { self.old.state.dead ≢ None → self.new.disk ≡ self.old.disk }
+        ensures setting { KeepsEnd self.old.state self.new.state }
         ensures harmed { IsHarmed self.new.state → IsHarmed self.old.state ⊎ FaultsRose (D.view self.old.disk) (D.view self.new.disk) }
         ensures smooth { 1 ≤ self.old.state.threshold → IsSmooth self.old.state → IsSmooth self.new.state ⊎ (FaultsRose (D.view self.old.disk) (D.view self.new.disk) ⊎ PollsFell (D.view self.old.disk) (D.view self.new.disk)) }
         ensures acked { acked self.old.state ≤ acked self.new.state }
@@ -487,14 +534,14 @@ impl<D: Disk> Journal<D> {
         ensures goes_on { GoesOn (D.view self.old.disk) (D.view self.new.disk) }
     {
         self.want = self.records.end();
-        self.settle()
+        self.drain()
     }
 
     /// Steps until nothing is in flight and there is no work.
-    fn settle(&mut self) -> Result<(), JournalFault>
+    fn drain(&mut self) -> Result<(), JournalFault>
         requires all { self.old.state.want ≡ len self.old.state }
         requires stands { Stands D.tells self.old.state (D.view self.old.disk) }
-        ensures settles { Settles D.tells self.old.state self.new.state (D.view self.old.disk) (D.view self.new.disk) result }
+        ensures drains { Drains D.tells self.old.state self.new.state (D.view self.old.disk) (D.view self.new.disk) result }
         ensures still { self.old.state.dead ≢ None → self.new ≡ self.old }
     {
         loop {
@@ -510,6 +557,8 @@ impl<D: StallDisk> Journal<D> {
     /// Passes a stall on.
     pub fn stall(&mut self, side: Side, polls: u32)
         ensures state { self.new.state ≡ self.old.state }
+        ensures setting { KeepsGoal self.old.state self.new.state }
+        ensures acked { acked self.new.state ≡ acked self.old.state }
         ensures stalled { Stalls side polls (D.view self.old.disk) (D.view self.new.disk) }
         ensures keeps { KeepsRecords D.tells self.old.state (D.view self.old.disk) self.new.state (D.view self.new.disk) }
         ensures keeps_base { (base : List Batch) → KeepsBase D.tells base self.old.state (D.view self.old.disk) → KeepsBase D.tells base self.new.state (D.view self.new.disk) }

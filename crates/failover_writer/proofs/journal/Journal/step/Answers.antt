@@ -1,14 +1,17 @@
 -- A dead journal and an idle one stay as they are, and every other one does what its rule says.
-use Rattle.std.proofs.Common.{◌≡◌, Some, None, Ok, sym, subst, refl}
+use Rattle.std.proofs.Common.{◌≡◌, Some, None, Ok, ap, sym, subst, refl, arith}
+use Rattle.disk_face.specs.Calls.{GoesOn}
 use Rattle.failover_writer.specs.declared.fault.Step.TheVariants as steps
 use Rattle.failover_writer.specs.State.{Held}
-use Rattle.failover_writer.specs.Ranges.{KeepsRecords}
+use Rattle.failover_writer.specs.Ranges.{Stands, KeepsRecords}
 use Rattle.failover_writer.specs.Stepping.{was_dead, idle}
 use Rattle.failover_writer.specs.Answered.{StepsBy}
 use Rattle.failover_writer.specs.Keeping.{Passes}
 use Rattle.failover_writer.proofs.Passing.{passes_still}
 use Rattle.failover_writer.proofs.Stopped.{base_kept, run_at_moments, run_at_exit, base_at_moments, base_at_exit}
 use Rattle.failover_writer.proofs.Stepped.{idle_of, waited_of, dead_of, harmed_of, smooth_of}
+use Rattle.failover_writer.proofs.Closing.{falls}
+use Rattle.failover_writer.proofs.Settling.{goal_still, goal_kept, records_are}
 use Rattle.failover_writer.proofs.journal.Journal.step.Goals as goal
 
 pub returns-in-Some-clause-rule : goal.returns-in-Some-clause-rule
@@ -61,6 +64,24 @@ returns-clause-keeps_base g c base kept =
 keeps : (g : _) (c : goal.After-advance g) → KeepsRecords g.D.Disk.tells c.args.self.now.state (g.D.Disk.view c.args.self.now.disk) c.advance.new.self.state (g.D.Disk.view c.advance.new.self.disk)
 keeps g c =
     subst (λ (held : Held _). KeepsRecords g.D.Disk.tells held.state (g.D.Disk.view held.disk) c.advance.new.self.state (g.D.Disk.view c.advance.new.self.disk)) c.is_up.ensures.same c.advance.ensures.keeps
+
+-- ---- what it leaves as it was, and what is left to do
+
+pub returns-in-Some-clause-setting : goal.returns-in-Some-clause-setting
+returns-in-Some-clause-setting g c = goal_still c.args.self.now.state c.args.self.now.state refl
+
+pub returns-then-not-is_up-clause-setting : goal.returns-then-not-is_up-clause-setting
+returns-then-not-is_up-clause-setting g c = goal_still c.args.self.now.state c.is_up.new.self.state (ap (λ (held : Held _). held.state) c.if-not-is_up.ensures.same)
+
+pub returns-clause-setting : goal.returns-clause-setting
+returns-clause-setting g c = goal_kept (steps_by g c).rule
+
+pub returns-clause-falls : goal.returns-clause-falls
+returns-clause-falls g c =
+    let stands = subst (λ (held : Held _). Stands g.D.Disk.tells held.state (g.D.Disk.view held.disk)) c.self.view_is c.self.invariant.stands in
+    let goes = subst (λ (held : Held _). GoesOn (g.D.Disk.view held.disk) (g.D.Disk.view c.advance.new.self.disk)) c.is_up.ensures.same c.advance.ensures.goes_on in
+    falls c.args.self.now.state c.advance.new.self.state (g.D.Disk.view c.args.self.now.disk) (g.D.Disk.view c.advance.new.self.disk) c.advance.result
+    (omega (arith, stands.1.want, records_are g.D.Disk.tells stands.0 c.args.self.now.state (g.D.Disk.view c.args.self.now.disk) stands.1)) stands.1.few goes (steps_by g c)
 
 -- ---- what a stop leaves
 

@@ -2,8 +2,8 @@
 use Rattle.std.proofs.Common.{◌≡◌, ◌≢◌, None}
 use Rattle.failover_writer.specs.Answered.{StepsOn}
 use Rattle.failover_writer.specs.Closing.{Lasts}
-use Rattle.failover_writer.proofs.Closing.{measure}
-use Rattle.failover_writer.proofs.journal.Journal.settle.Given as goal
+use Rattle.failover_writer.specs.Remaining.{measure}
+use Rattle.failover_writer.proofs.journal.Journal.drain.Given as goal
 
 abbrev pub invariant-loop : goal.invariant-loop
 invariant-loop g l = record {
