@@ -1,5 +1,5 @@
 -- A segment that is begun stands behind the others, and they stay as they are.
-use Rattle.std.proofs.Common.{◌≡◌, ◌≢◌, inl, inr, ℕ, suc, ◌≤◌, ◌<◌, Bool, List, [], ◌∷◌, ◌++◌, length, map, Some, IsTrue, ap, sym, subst, ◌∙◌, refl, arith}
+use Rattle.std.proofs.Common.{◌≡◌, ◌≢◌, inl, inr, ℕ, suc, ◌≤◌, ◌<◌, Bool, List, [], ◌∷◌, ◌++◌, length, None, map, Some, IsTrue, ap, sym, subst, ◌∙◌, refl, arith}
 use Rattle.std.specs.Prelude.{Contains, count_by}
 use Rattle.std.proofs.lemmas.List.{length-append, map-append, take-append-le}
 use Rattle.std.proofs.lemmas.List.Elements.{Contains-append_left, Contains-push}
@@ -20,8 +20,9 @@ use Rattle.log_writer.specs.Fits.{Fits, IsUnsent, SameFile, file_of}
 use Rattle.failover_writer.specs.State.{State, acked, is_broken}
 use Rattle.failover_writer.specs.Ranges.{side_at, IsSegmentAt, StandsFor}
 use Rattle.failover_writer.specs.Inside.{IsInOrder}
-use Rattle.failover_writer.specs.Stepping.{begun, NoneBusy}
+use Rattle.failover_writer.specs.Stepping.{IsBehind, begun, NoneBusy}
 use Rattle.failover_writer.specs.Keeping.{OthersStay, Passes}
+use Rattle.failover_writer.proofs.Sound.{sound_with}
 use Rattle.failover_writer.proofs.Passing.{passes_once}
 use Rattle.failover_writer.proofs.Passed.{first_or_last}
 use Rattle.failover_writer.proofs.Segments.{place_at, index_in, place_is, apart_from, all_push, joined_push, not_theirs, fit_beside, most_synced_push, sent_to_last, count_push, synced_within}
@@ -118,14 +119,15 @@ module _ (tells : Bool) (state : State) (old new : DiskView) (id : OpId) (w : Wr
   not_broken : count_by is_broken (w ∷ []) ≡ 0
   not_broken = ap (λ (p : Phase). count_by is_broken (record w { phase = p } ∷ [])) is.7
 
-  pub begun_in_order : (acked_so_far rested_to failures : ℕ) → ((records : List Batch) → StandsFor tells records state old → Fits tells records w new) → IsInOrder tells state old acked_so_far rested_to failures → IsInOrder tells after new acked_so_far rested_to failures
-  begun_in_order acked_so_far rested_to failures fits order = record {
+  pub begun_in_order : (acked_so_far rested_to failures : ℕ) → state.dead ≡ None → IsBehind state → ((records : List Batch) → StandsFor tells records state old → Fits tells records w new) → IsInOrder tells state old acked_so_far rested_to failures → IsInOrder tells after new acked_so_far rested_to failures
+  begun_in_order acked_so_far rested_to failures lives behind fits order = record {
     stands = (order.stands.0, begun_stands order.stands.0 order.stands.1 (fits order.stands.0 order.stands.1));
     acked = order.acked ∙ sym acked_same;
     failed = omega (arith, order.failed, count_push is_broken state.segments w, not_broken);
     rested = subst NoneBusy (sym (take-append-le rested_to state.segments (w ∷ []) (omega (arith, order.first_busy)))) order.rested;
     first_busy = omega (arith, order.first_busy, length-append state.segments (w ∷ []));
     wal = order.wal;
+    sound = sound_with state after.segments lives (λ empty. omega (arith, behind, empty)) order.sound;
   }
 
   -- ---- the moments

@@ -18,6 +18,8 @@ pub mod Kept
 pub mod OverBase
 pub mod Stopped
 pub mod Stepped
+mod Sound
+mod GivingUp
 pub mod Closing
 pub mod Settling
 pub mod Opening

@@ -24,6 +24,7 @@ use Rattle.failover_writer.specs.Stepping.{NoneBusy}
 use Rattle.failover_writer.specs.Moves.{IsBusyAt, PollsAt, is_pending}
 use Rattle.failover_writer.specs.Inside.{IsInOrder}
 use Rattle.failover_writer.specs.Keeping.{OthersStay, Passes}
+use Rattle.failover_writer.proofs.Sound.{sound_with, some_records}
 use Rattle.failover_writer.proofs.Lists.{split_at, all_append, all_back}
 use Rattle.failover_writer.proofs.OneChanged.{SameSegment, same_file, synced_changed, stands_changed}
 use Rattle.failover_writer.proofs.Passing.{passes_once, opened_changed}
@@ -153,15 +154,16 @@ stands_polled tells records state before after index old new operation id answer
 
 pub order_polled : (tells : Bool) (state : State) (before after : DiskView) (index : ℕ) (old new : Writer) (operation : Operation) (id : OpId) (answer : Progress) (acked_so_far rested_to failures acked_now failures_now : ℕ)
     → IsAnswered state.segments index old new operation id answer → ((records : List Batch) → Fits tells records old before → Fits tells records new after) → ((place : Place) → place ≢ file_of old → SameFile tells place before after)
-    → IsInOrder tells state before acked_so_far rested_to failures → acked_now ≡ max acked_so_far new.synced → failures_now ≡ count_by is_broken (set state.segments index new)
+    → state.dead ≡ None → IsInOrder tells state before acked_so_far rested_to failures → acked_now ≡ max acked_so_far new.synced → failures_now ≡ count_by is_broken (set state.segments index new)
     → IsInOrder tells (record state { segments = set state.segments index new }) after acked_now rested_to failures_now
-order_polled tells state before after index old new operation id answer acked_so_far rested_to failures acked_now failures_now is fits others order acked_is failed_is = record {
+order_polled tells state before after index old new operation id answer acked_so_far rested_to failures acked_now failures_now is fits others lives order acked_is failed_is = record {
   stands = (order.stands.0, stands_polled tells order.stands.0 state before after index old new operation id answer is (fits order.stands.0) others order.stands.1);
   acked = let more = synced_polled state.segments index old new operation id answer is in omega (arith, more, acked_is, order.acked);
   failed = failed_is;
   rested = rested_polled state.segments index old new operation id answer is rested_to order.rested;
   first_busy = omega (arith, order.first_busy, length-set state.segments index new);
   wal = order.wal;
+  sound = sound_with state (set state.segments index new) lives (some_records state order.sound (λ none. let clash : None ≡ Some old = sym (ap (λ (ws : List Writer). slice_get ws index) none) ∙ is.at in cc)) order.sound;
 }
 
 -- A fault more is counted: there are too few segments for the count to stop.

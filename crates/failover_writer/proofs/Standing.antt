@@ -6,6 +6,7 @@ use Rattle.batch_repr.specs.Batches.{IsContiguous, end_after}
 use Rattle.disk_face.specs.declared.OpId.{OpId}
 use Rattle.disk_face.specs.View.{Flight, DiskView, NothingInFlight}
 use Rattle.disk_face.specs.Calls.{SameDisk}
+use Rattle.record_queue.specs.Queue.{Queue}
 use Rattle.log_writer.specs.Writer.{Writer}
 use Rattle.log_writer.specs.Fits.{Fits, IsUnsent, file_of}
 use Rattle.log_writer.proofs.Beside.{same_disk, fits_beside}
@@ -50,4 +51,22 @@ same_stands tells records state before after same stands = record {
       state.segments stands.fit;
   alone = λ id f flies. stands.alone id f (ap (λ (flights : OpId → Option Flight). flights id) (sym same.in_flight) ∙ flies);
   fresh = λ told index low high. subst IsUnsent (sym ((same_disk tells (place_at state.wal index) before after same).file told)) (stands.fresh told index low high);
+}
+
+-- Room in the queue changes nothing that is held.
+pub roomy_stands : (tells : Bool) (records : List Batch) (state : State) (queue : Queue) (v : DiskView) → queue.start ≡ state.queue.start → queue.records ≡ state.queue.records → StandsFor tells records state v
+    → StandsFor tells records (record state { queue = queue }) v
+roomy_stands tells records state queue v start held stands = record {
+  named = stands.named;
+  numbered = stands.numbered;
+  spelled = stands.spelled;
+  next = stands.next;
+  queue = record { start = omega (arith, start, stands.queue.start); holds = held ∙ stands.queue.holds ∙ ap (λ (n : ℕ). drop n records) (sym start) };
+  queued = omega (arith, start, stands.queued);
+  want = stands.want;
+  few = stands.few;
+  joined = stands.joined;
+  fit = stands.fit;
+  alone = stands.alone;
+  fresh = stands.fresh;
 }

@@ -23,6 +23,7 @@ use Rattle.failover_writer.specs.Inside.{IsInOrder}
 use Rattle.failover_writer.specs.Stepping.{IsBehind, StartsNext, NoneBusy}
 use Rattle.failover_writer.specs.Moves.{NoneRests, MayStartNext, started, nothing}
 use Rattle.failover_writer.specs.Keeping.{OthersStay, Passes}
+use Rattle.failover_writer.proofs.Sound.{sound_with, some_records}
 use Rattle.failover_writer.proofs.Segments.{place_at, index_in, index_is, apart_from_last, all_push, all_front, all_last, joined_front, joined_push, last_is, fit_beside, most_synced_push, sent_to_last, count_push}
 use Rattle.failover_writer.proofs.Begun.{alone_with}
 use Rattle.failover_writer.proofs.Passing.{passes_once}
@@ -135,9 +136,9 @@ module _ (tells : Bool) (state : State) (old new : DiskView) (earlier : List Wri
             (stands.fresh told index (omega (arith, length_is, ap length is, length-append earlier (current ∷ []))) high);
       }
 
-  pub kept_in_order : KeepsPlace → current.phase ≢ Broken → Stands tells after new → (acked_so_far rested_to failures : ℕ) → IsInOrder tells state old acked_so_far rested_to failures
+  pub kept_in_order : KeepsPlace → current.phase ≢ Broken → Stands tells after new → (acked_so_far rested_to failures : ℕ) → state.dead ≡ None → IsInOrder tells state old acked_so_far rested_to failures
       → IsInOrder tells after new acked_so_far rested_to failures
-  kept_in_order keeps whole stands acked_so_far rested_to failures order =
+  kept_in_order keeps whole stands acked_so_far rested_to failures lives order =
       let short : rested_to ≤ length earlier = omega (arith, order.first_busy, ap length is, length-append earlier (current ∷ [])) in
       record {
         stands = stands;
@@ -146,6 +147,7 @@ module _ (tells : Bool) (state : State) (old new : DiskView) (earlier : List Wri
         rested = subst NoneBusy (ap (take rested_to) is ∙ take-append-le rested_to earlier (current ∷ []) short ∙ sym (take-append-le rested_to earlier (next ∷ []) short)) order.rested;
         first_busy = omega (arith, short, length-append earlier (next ∷ []));
         wal = order.wal;
+        sound = sound_with state after.segments lives (some_records state order.sound (λ none. omega (arith, ap length is, ap length none, length-append earlier (current ∷ [])))) order.sound;
       }
 
   -- ---- what begins
@@ -236,12 +238,12 @@ module _ (tells : Bool) (state : State) (old new : DiskView) (earlier : List Wri
           passes_once tells state after old new refl refl (omega (arith, acked_same kept)) (λ records stands. started_stands records stands (fits records stands)) goes (opened_then kept others)
           (λ told k low high. first_or_last old new goes (one told) k low high)
 
-      pub started_in_order : ((records : List Batch) → StandsFor tells records state old → Fits tells records next new) → (acked_so_far rested_to failures : ℕ) → IsInOrder tells state old acked_so_far rested_to failures
+      pub started_in_order : ((records : List Batch) → StandsFor tells records state old → Fits tells records next new) → (acked_so_far rested_to failures : ℕ) → state.dead ≡ None → IsInOrder tells state old acked_so_far rested_to failures
           → IsInOrder tells after new acked_so_far rested_to failures
-      started_in_order fits acked_so_far rested_to failures order =
+      started_in_order fits acked_so_far rested_to failures lives order =
           let records = order.stands.0 in
           let stands = order.stands.1 in
-          kept_in_order (keeps records stands) whole (records, started_stands records stands (fits records stands)) acked_so_far rested_to failures order
+          kept_in_order (keeps records stands) whole (records, started_stands records stands (fits records stands)) acked_so_far rested_to failures lives order
 
 -- The queue holds what the current segment has not sent.
 pub holds_unsent : (tells : Bool) (records : List Batch) (state : State) (v : DiskView) (earlier : List Writer) (current : Writer) → state.segments ≡ earlier ++ current ∷ [] → StandsFor tells records state v

@@ -145,7 +145,7 @@ broken_before old polled one other before after polls one_told other_told broken
   | inr (inr failed) ↦ inr (failed_rose before after other other_told failed)
 ]
 
-broken_phase : (phase : Phase) → phase_is_broken phase ≡ true → phase ≡ Broken
+pub broken_phase : (phase : Phase) → phase_is_broken phase ≡ true → phase ≡ Broken
 broken_phase New e = absurd (let clash : false ≡ true = e in cc)
 broken_phase (InFlight operation id) e = absurd (let clash : false ≡ true = e in cc)
 broken_phase Idle e = absurd (let clash : false ≡ true = e in cc)
@@ -183,7 +183,7 @@ polls_alive (nothing_begun none) = (refl, refl)
 polls_alive (asked earlier current one other earlier' current' are early late) = (refl, refl)
 
 -- One is broken where the monitor says to die.
-dying_broken : (state : State) → Verdict IsToDie state → 1 ≤ broken_count state
+pub dying_broken : (state : State) → Verdict IsToDie state → 1 ≤ broken_count state
 dying_broken state verdict = omega (arith, ap (λ (ws : List Writer). count_by is_broken ws) verdict.segments_are, count_push is_broken verdict.earlier verdict.current, one verdict.current verdict.says.0)
   where
     one : (w : Writer) → is_broken w ≡ true → count_by is_broken (w ∷ []) ≡ 1

@@ -5,6 +5,7 @@ pub mod Setting
 pub mod Remaining
 pub mod Answered
 pub mod Keeping
+pub mod Sound
 pub mod Moves
 pub mod Inside
 pub mod Closing

@@ -13,6 +13,7 @@ ghost use Rattle.failover_writer.specs.Stepping.{IsBehind, HasWork, NoneBusy, Be
 ghost use Rattle.failover_writer.specs.declared.fault.Step.TheVariants as steps;
 ghost use Rattle.failover_writer.specs.Setting.{KeepsEnd, KeepsGoal, KeepsSegments};
 ghost use Rattle.failover_writer.specs.Remaining.{Falls};
+ghost use Rattle.failover_writer.specs.Sound.{HasGivenUp, IsSound};
 ghost use Rattle.failover_writer.specs.Answered.{StepsBy, Settles, IsIdle, IsMarked, IsHarmed, IsSmooth, FaultsRose, PollsFell, Closes};
 ghost use Rattle.failover_writer.specs.Keeping.{KeepsRun, RecoversTo, OthersStay, IsOpenedOn, IsOpening, KeepsBase, Passes};
 ghost use Rattle.failover_writer.specs.Closing.{Drains, Moves};
@@ -159,7 +160,9 @@ impl<D: Disk> Journal<D> {
 
     /// How many records there are.
     pub fn len(&self) -> u64
-        ensures { result ≡ len self.now.state }
+        ensures len { result ≡ len self.now.state }
+        ensures stands { Stands D.tells self.now.state (D.view self.now.disk) }
+        ensures sound { IsSound self.now.state }
     {
         self.records.end()
     }
@@ -180,9 +183,18 @@ impl<D: Disk> Journal<D> {
 
     /// The mark of a journal that has given up.
     pub fn dead(&self) -> Option<DeadMark>
-        ensures { result ≡ self.now.state.dead }
+        ensures dead { result ≡ self.now.state.dead }
+        ensures given_up { IfSome result (HasGivenUp self.now.state) }
     {
         self.dead
+    }
+
+    /// From how many pending polls on a segment hangs.
+    pub fn threshold(&self) -> u32
+        ensures threshold { result ≡ self.now.state.threshold }
+        ensures within { (1 ≤ result) × (result ≤ 1000) }
+    {
+        self.threshold
     }
 
     /// The disk as it stands.
@@ -194,6 +206,7 @@ impl<D: Disk> Journal<D> {
 
     /// Polls a busy segment, and notes what it has synced. Answers whether it is pending.
     fn poll(&mut self, index: usize) -> bool
+        requires lives { self.old.state.dead ≡ None }
         requires busy { IsBusyAt index self.old.state }
         ensures polled { PollsAt D.tells index self.old.state self.new.state (D.view self.old.disk) (D.view self.new.disk) result }
         ensures keeps { KeepsRecords D.tells self.old.state (D.view self.old.disk) self.new.state (D.view self.new.disk) }
@@ -245,6 +258,7 @@ impl<D: Disk> Journal<D> {
 
     /// Polls the first busy segment before the current one, and then the current one. Answers whether one is pending.
     fn poll_all(&mut self) -> bool
+        requires lives { self.old.state.dead ≡ None }
         ensures polled { PollsAll self.old.state self.new.state (D.view self.old.disk) (D.view self.new.disk) result }
         ensures keeps { KeepsRecords D.tells self.old.state (D.view self.old.disk) self.new.state (D.view self.new.disk) }
         ensures passes { Passes D.tells self.old.state self.new.state (D.view self.old.disk) (D.view self.new.disk) }
@@ -310,6 +324,8 @@ impl<D: Disk> Journal<D> {
 
     /// Begins the next segment at the end of what is synced.
     fn begin_next(&mut self) -> Result<(), NoMemory>
+        requires lives { self.old.state.dead ≡ None }
+        requires behind { IsBehind self.old.state }
         requires few { length self.old.state.segments < 10 }
         ensures begun { OnOk result (BeginsNext self.old.state self.new.state) }
         ensures err { OnErr result (self.new.state ≡ self.old.state) }
@@ -349,6 +365,7 @@ impl<D: Disk> Journal<D> {
 
     /// Starts what comes next on the current segment.
     fn start_next(&mut self) -> Result<(), NoMemory>
+        requires lives { self.old.state.dead ≡ None }
         ensures started { OnOk result (MayStartNext self.old.state self.new.state) }
         ensures err { OnErr result (self.new.state ≡ self.old.state) }
         ensures keeps { KeepsRecords D.tells self.old.state (D.view self.old.disk) self.new.state (D.view self.new.disk) }

@@ -12,8 +12,12 @@ ghost use Rattle.disk_face.specs.Image.{IsImage, IsChanceFree, IsRested, dirs_as
 ghost use Rattle.wal_recovery.specs.Recovering.{FIRST_NUMBER, Recovers};
 ghost use Rattle.wal_recovery.specs.Resting.{AreSegmentsStable};
 ghost use Rattle.failover_writer.specs.State.{State, acked, broken_count};
-ghost use Rattle.failover_writer.specs.Ranges.{StandsFor};
+ghost use Rattle.failover_writer.specs.Ranges.{StandsFor, Stands};
+ghost use Rattle.failover_writer.specs.Sound.{IsSound};
 ghost use Rattle.failover_writer.specs.Keeping.{KeepsRun, RecoversTo, OthersStay, IsOpenedOn, IsOpening, KeepsBase};
+
+use crate::journal::Journal;
+use disk_face::Disk;
 
 /// A journal keeps its run: in each image its segments merge to the first of its records, with all that are acked, and every
 /// other file is as it was when the journal was begun.
@@ -36,3 +40,12 @@ pub fn stable_files_open_a_journal()
 pub fn a_journal_without_failures_reads_as_an_image()
     ensures { (tells : Bool) (records : List Batch) (opening : Files) (state : State) (v : DiskView) → IsTrue tells → StandsFor tells records state v → broken_count state ≡ 0 → IsRested opening → OthersStay opening state (files v) → IsImage (files v) (dirs_as_read (files v)) × IsChanceFree IsChunkOf (files v) (dirs_as_read (files v)) }
 {}
+
+/// A journal at hand, as one from behind a lock, of which nothing but its type is known: it stands for some records, and is
+/// sound.
+pub fn a_journal_at_hand<D: Disk>(journal: &Journal<D>)
+    ensures stands { Stands D.tells journal.now.state (D.view journal.now.disk) }
+    ensures sound { IsSound journal.now.state }
+{
+    let _len = journal.len();
+}

@@ -20,6 +20,6 @@ mod tests;
 pub use fault::{DeadMark, JournalFault, Step};
 pub use journal::Journal;
 pub use laws::{
-    a_journal_keeps_its_base, a_journal_keeps_its_run,
+    a_journal_at_hand, a_journal_keeps_its_base, a_journal_keeps_its_run,
     a_journal_without_failures_reads_as_an_image, stable_files_open_a_journal,
 };

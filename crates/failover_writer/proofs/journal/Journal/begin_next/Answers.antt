@@ -8,7 +8,7 @@ use Rattle.log_writer.specs.Writer.{Writer}
 use Rattle.log_writer.specs.Fits.{SameFile, file_of, Fits}
 use Rattle.failover_writer.specs.State.{State, Held}
 use Rattle.failover_writer.specs.Ranges.{StandsFor}
-use Rattle.failover_writer.specs.Stepping.{begun}
+use Rattle.failover_writer.specs.Stepping.{IsBehind, begun}
 use Rattle.failover_writer.specs.Keeping.{Passes}
 use Rattle.failover_writer.specs.Inside.{IsInOrder}
 use Rattle.failover_writer.proofs.Passing.{passes_same}
@@ -65,7 +65,7 @@ invariant_of-self-2 g c =
     let new = g.D.Disk.view c.begin.new.disk in
     subst (λ (l : List Writer). IsInOrder g.D.Disk.tells (record (state_then g c) { segments = l }) new c.self.inside.acked c.self.inside.first_busy c.self.inside.failed) (sym (pushed g c))
     (begun_in_order g.D.Disk.tells (state_then g c) v new first.0 c.begin.new.self c.side_at.result creating (few_then g c) first.1 first.2 (others_same g c) c.self.inside.acked c.self.inside.first_busy
-    c.self.inside.failed (fits_after g c) c.self.invariant)
+    c.self.inside.failed (ap (λ (h : Held _). h.state.dead) c.self.view_is ∙ c.requires.lives) (subst (λ (h : Held _). IsBehind h.state) (sym c.self.view_is) c.requires.behind) (fits_after g c) c.self.invariant)
 
 pub returns-clause-keeps : goal.returns-clause-keeps
 returns-clause-keeps g c records stands =

@@ -1,10 +1,11 @@
 -- Where all records are to be synced, the steps that follow are those of the closing.
-use Rattle.std.proofs.Common.{ℕ, subst}
+use Rattle.std.proofs.Common.{ℕ, sym, subst, refl}
 use Rattle.failover_writer.specs.State.{Held}
-use Rattle.failover_writer.specs.Ranges.{Stands, KeepsRecords}
+use Rattle.failover_writer.specs.Ranges.{StandsFor, Stands, KeepsRecords}
 use Rattle.failover_writer.specs.Keeping.{Passes}
 use Rattle.failover_writer.specs.Closing.{Drains}
-use Rattle.failover_writer.proofs.Settling.{asking, closed_keeps, closed_synced, closed_rests, closed_passes, closed_setting}
+use Rattle.failover_writer.proofs.Settling.{asking, asking_stands, closed_keeps, closed_synced, closed_rests, closed_passes, closed_setting}
+use Rattle.failover_writer.proofs.Sound.{sound_beside}
 use Rattle.failover_writer.proofs.Stopped.{base_kept, run_at_moments, run_at_exit, base_at_moments, base_at_exit}
 use Rattle.failover_writer.proofs.journal.Journal.close.Goals as goal
 
@@ -57,3 +58,16 @@ returns-clause-run_at_exit g c = run_at_exit g.D.Disk.tells c.args.self.now.stat
 
 pub returns-clause-setting : goal.returns-clause-setting
 returns-clause-setting g c = closed_setting g.D.Disk.tells c.args.self.now.state c.drain.new.self.state (g.D.Disk.view c.args.self.now.disk) (g.D.Disk.view c.drain.new.self.disk) c.drain.result (came g c)
+
+pub invariant_of-self : goal.invariant_of-self
+invariant_of-self g c =
+    let in_order = c.self.invariant in
+    record {
+      stands = (in_order.stands.0, subst (λ (n : ℕ). StandsFor g.D.Disk.tells in_order.stands.0 (record { wal = c.self.inside.wal; base = c.self.inside.base; next = c.self.inside.next; threshold = c.self.inside.threshold; queue = c.self.inside.records; want = n; segments = c.self.inside.writers.items; dead = c.self.inside.dead }) (g.D.Disk.view c.self.inside.disk)) (sym c.end-self-inside.ensures) (asking_stands g.D.Disk.tells in_order.stands.0 _ (g.D.Disk.view c.self.inside.disk) in_order.stands.1));
+      acked = in_order.acked;
+      failed = in_order.failed;
+      rested = in_order.rested;
+      first_busy = in_order.first_busy;
+      wal = in_order.wal;
+      sound = sound_beside _ _ refl refl refl (λ none. none) in_order.sound;
+    }

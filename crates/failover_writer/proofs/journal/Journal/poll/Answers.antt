@@ -32,7 +32,7 @@ invariant_of-self g c =
     same_broken c.self.inside.writers.items c.args.index c.index_mut-writer.result.now c.poll-answer.new.self is.0 is.1 c.poll-answer.result is.2
     (whole_pending c.self.inside.writers.items c.args.index c.index_mut-writer.result.now c.poll-answer.new.self is.0 is.1 c.poll-answer.result is.2 c.in-Pending.is) in
     order_polled g.D.Disk.tells _ (g.D.Disk.view c.self.inside.disk) (g.D.Disk.view c.poll-answer.new.disk) c.args.index c.index_mut-writer.result.now c.poll-answer.new.self is.0 is.1 c.poll-answer.result
-    c.self.inside.acked c.self.inside.first_busy c.self.inside.failed c.max-self-inside.result c.self.inside.failed is.2 c.poll-answer.ensures.fits c.poll-answer.ensures.others c.self.invariant
+    c.self.inside.acked c.self.inside.first_busy c.self.inside.failed c.max-self-inside.result c.self.inside.failed is.2 c.poll-answer.ensures.fits c.poll-answer.ensures.others (ap (λ (held : Held _). held.state.dead) c.self.view_is ∙ c.requires.lives) c.self.invariant
     (omega (arith, c.max-self-inside.ensures, c.synced.ensures)) (c.self.invariant.failed ∙ sym count)
 
 pub returns-in-Done-clause-polled : goal.returns-in-Done-clause-polled
@@ -61,7 +61,7 @@ invariant_of-self-in-Done g c =
     same_broken c.self.inside.writers.items c.args.index c.index_mut-writer.result.now c.poll-answer.new.self is.0 is.1 c.poll-answer.result is.2
     (whole_done c.self.inside.writers.items c.args.index c.index_mut-writer.result.now c.poll-answer.new.self is.0 is.1 c.poll-answer.result is.2 c.in-Done.is) in
     order_polled g.D.Disk.tells _ (g.D.Disk.view c.self.inside.disk) (g.D.Disk.view c.poll-answer.new.disk) c.args.index c.index_mut-writer.result.now c.poll-answer.new.self is.0 is.1 c.poll-answer.result
-    c.self.inside.acked c.self.inside.first_busy c.self.inside.failed c.max-self-inside.result c.self.inside.failed is.2 c.poll-answer.ensures.fits c.poll-answer.ensures.others c.self.invariant
+    c.self.inside.acked c.self.inside.first_busy c.self.inside.failed c.max-self-inside.result c.self.inside.failed is.2 c.poll-answer.ensures.fits c.poll-answer.ensures.others (ap (λ (held : Held _). held.state.dead) c.self.view_is ∙ c.requires.lives) c.self.invariant
     (omega (arith, c.max-self-inside.ensures, c.synced.ensures)) (c.self.invariant.failed ∙ sym count)
 
 pub returns-in-Failed-clause-polled : goal.returns-in-Failed-clause-polled
@@ -91,7 +91,7 @@ invariant_of-self-in-Failed g c =
     (broken_failed c.self.inside.writers.items c.args.index c.index_mut-writer.result.now c.poll-answer.new.self is.0 is.1 c.poll-answer.result is.2 c.in-Failed.is) in
     let few = failed_polled g.D.Disk.tells _ (g.D.Disk.view c.self.inside.disk) c.self.inside.acked c.self.inside.first_busy c.self.inside.failed c.self.invariant in
     order_polled g.D.Disk.tells _ (g.D.Disk.view c.self.inside.disk) (g.D.Disk.view c.poll-answer.new.disk) c.args.index c.index_mut-writer.result.now c.poll-answer.new.self is.0 is.1 c.poll-answer.result
-    c.self.inside.acked c.self.inside.first_busy c.self.inside.failed c.max-self-inside.result c.saturating_add-self-inside.result is.2 c.poll-answer.ensures.fits c.poll-answer.ensures.others c.self.invariant
+    c.self.inside.acked c.self.inside.first_busy c.self.inside.failed c.max-self-inside.result c.saturating_add-self-inside.result is.2 c.poll-answer.ensures.fits c.poll-answer.ensures.others (ap (λ (held : Held _). held.state.dead) c.self.view_is ∙ c.requires.lives) c.self.invariant
     (omega (arith, c.max-self-inside.ensures, c.synced.ensures)) (omega (arith, count, few, c.saturating_add-self-inside.ensures, c.self.invariant.failed))
 
 pub returns-in-Pending-clause-passes : goal.returns-in-Pending-clause-passes

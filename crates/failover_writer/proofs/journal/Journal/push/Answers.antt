@@ -1,12 +1,14 @@
 -- The record goes behind the others, with the next number.
-use Rattle.std.proofs.Common.{ℕ, List, [], ◌∷◌, ◌++◌, length, ap, sym, subst, ◌∙◌, arith}
+use Rattle.std.proofs.Common.{ℕ, List, [], ◌∷◌, ◌++◌, length, ap, sym, subst, ◌∙◌, refl, arith}
 use Rattle.std.specs.Int.{w32, w64, to_le_bytes}
 use Rattle.std.proofs.lemmas.List.{length-append}
+use Rattle.batch_repr.specs.declared.batch.Batch.{Batch}
 use Rattle.batch_repr.specs.Batches.{count_of}
 use Rattle.batch_repr.specs.Spelling.{SpellsBatch}
 use Rattle.failover_writer.specs.State.{Held}
 use Rattle.failover_writer.specs.Ranges.{StandsFor}
 use Rattle.failover_writer.proofs.Pushed.{queue_end, queue_pushed, pushed_stands}
+use Rattle.failover_writer.proofs.Sound.{sound_beside}
 use Rattle.failover_writer.proofs.journal.Journal.push.Goals as goal
 
 pub returns-then-sync-clause-keeps : goal.returns-then-sync-clause-keeps
@@ -41,6 +43,7 @@ invariant_of-self g c =
       rested = in_order.rested;
       first_busy = in_order.first_busy;
       wal = in_order.wal;
+      sound = sound_beside _ _ refl refl refl (λ none. absurd (omega (arith, none, ap (λ (bs : List Batch). length bs) c.push.ensures.records, length-append c.self.inside.records.records (c.args.added ∷ [])))) in_order.sound;
     }
 
 pub invariant_of-self-else-sync : goal.invariant_of-self-else-sync
@@ -54,4 +57,5 @@ invariant_of-self-else-sync g c =
       rested = in_order.rested;
       first_busy = in_order.first_busy;
       wal = in_order.wal;
+      sound = sound_beside _ _ refl refl refl (λ none. absurd (omega (arith, none, ap (λ (bs : List Batch). length bs) c.push.ensures.records, length-append c.self.inside.records.records (c.args.added ∷ [])))) in_order.sound;
     }

@@ -1,10 +1,11 @@
 -- The current segment is the last one.
-use Rattle.std.proofs.Common.{◌≡◌, ℕ, ◌-◌, max, min, List, length, drop, Some, ap, sym, subst, ◌∙◌, arith}
+use Rattle.std.proofs.Common.{◌≡◌, ℕ, ◌-◌, max, min, List, length, drop, Some, ap, sym, subst, ◌∙◌, refl, arith}
 use Rattle.std.specs.Prelude.{slice_get}
 use Rattle.log_writer.specs.Writer.{Writer}
 use Rattle.failover_writer.specs.State.{Held, most_synced}
 use Rattle.failover_writer.specs.Ranges.{StandsFor, sent_to_current}
 use Rattle.failover_writer.proofs.Released.{last_sent, released_stands, releases_as_seen}
+use Rattle.failover_writer.proofs.Sound.{sound_beside}
 use Rattle.failover_writer.proofs.journal.Journal.release.Goals as goal
 
 -- what is released is what no segment needs
@@ -39,4 +40,5 @@ invariant_of-self g c =
       rested = in_order.rested;
       first_busy = in_order.first_busy;
       wal = in_order.wal;
+      sound = sound_beside _ _ refl refl refl (λ none. omega (arith, none, c.release.ensures.end)) in_order.sound;
     }

@@ -15,6 +15,7 @@ invariant_of-self g c =
       rested = in_order.rested;
       first_busy = in_order.first_busy;
       wal = in_order.wal;
+      sound = in_order.sound;
     }
 
 pub returns-clause-keeps : goal.returns-clause-keeps

@@ -4,6 +4,7 @@ use Rattle.std.specs.Prelude.{count_by}
 use Rattle.failover_writer.specs.State.{is_broken, most_synced}
 use Rattle.log_writer.specs.Writer.{Writer}
 use Rattle.failover_writer.proofs.Standing.{nothing_stands}
+use Rattle.failover_writer.proofs.Sound.{sound_alive}
 use Rattle.failover_writer.proofs.journal.Journal.start.Goals as goal
 
 pub returns-clause-stands : goal.returns-clause-stands
@@ -21,4 +22,5 @@ invariant_of-result g c =
       rested = tt;
       first_busy = omega arith;
       wal = c.requires.wal;
+      sound = sound_alive _ c.requires.threshold.0 c.requires.threshold.1 refl (λ _. none);
     }

@@ -69,7 +69,7 @@ invariant_of-self-2 g c =
     let new = g.D.Disk.view c.begin.new.disk in
     subst (λ (l : List Writer). IsInOrder g.D.Disk.tells (record (state_then g c) { segments = l }) new c.self.inside.acked c.self.inside.first_busy c.self.inside.failed) (sym (set_is g c))
     (started_in_order g.D.Disk.tells (state_then g c) v new (found_then g c).earlier c.index_mut.result.now c.begin.new.self (ends g c) c.goal-goal.result c.in_ok-begin.field-0 (goal_then g c) c.in_ok-begin.ensures.starts
-    (whole g c) c.in_ok-begin.ensures.others (fits_after g c) c.self.inside.acked c.self.inside.first_busy c.self.inside.failed c.self.invariant)
+    (whole g c) c.in_ok-begin.ensures.others (fits_after g c) c.self.inside.acked c.self.inside.first_busy c.self.inside.failed (ap (λ (h : Held _). h.state.dead) c.self.view_is ∙ c.requires.lives) c.self.invariant)
 
 pub returns-clause-started : goal.returns-clause-started
 returns-clause-started g c =
