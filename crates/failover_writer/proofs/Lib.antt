@@ -24,3 +24,4 @@ pub mod Closing
 pub mod Settling
 pub mod Opening
 pub mod Reading
+mod Limits

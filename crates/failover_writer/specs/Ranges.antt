@@ -9,15 +9,12 @@ use Rattle.disk_face.specs.declared.Side.{Side}
 use Rattle.disk_face.specs.declared.Side.TheVariants.{Primary, Secondary}
 use Rattle.disk_face.specs.declared.OpId.{OpId}
 use Rattle.disk_face.specs.View.{segment, DiskView, Flight, files}
+use Rattle.stall_monitor.specs.declared.verdict.TheConstants.{SEGMENTS_MAX}
 use Rattle.log_writer.specs.declared.phase.Phase.TheVariants.{New}
 use Rattle.log_writer.specs.Writer.{Writer}
 use Rattle.log_writer.specs.Steps.{IsQueueOf}
 use Rattle.log_writer.specs.Fits.{Fits, IsUnsent, file_of}
 use Rattle.failover_writer.specs.State.{State, acked}
-
--- the most segments of a journal
-abbrev pub SEGMENTS_MAX : ℕ
-SEGMENTS_MAX = 10
 
 -- the side of the segment of this index: the primary one where it is even
 abbrev pub side_at : ℕ → Side

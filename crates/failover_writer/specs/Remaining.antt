@@ -2,6 +2,7 @@
 use Rattle.std.specs.Prelude.{ℕ, ◌+◌, ◌-◌, ◌*◌, ◌<◌, List, [], ◌∷◌, length, nat_lt, if◌then◌else◌, Result, IfOk, ◌≢◌}
 use Rattle.disk_face.specs.declared.Side.TheVariants.{Primary, Secondary}
 use Rattle.disk_face.specs.View.{DiskView}
+use Rattle.stall_monitor.specs.declared.verdict.TheConstants.{SEGMENTS_MAX}
 use Rattle.log_writer.specs.declared.phase.Operation.TheVariants.{Create, Write, Sync}
 use Rattle.log_writer.specs.declared.phase.Phase.{Phase}
 use Rattle.log_writer.specs.declared.phase.Phase.TheVariants.{New, InFlight, Idle, Broken}
@@ -10,7 +11,6 @@ use Rattle.failover_writer.specs.declared.fault.JournalFault.{JournalFault}
 use Rattle.failover_writer.specs.declared.fault.Step.{Step}
 use Rattle.failover_writer.specs.declared.fault.Step.TheVariants as steps
 use Rattle.failover_writer.specs.State.{State, len}
-use Rattle.failover_writer.specs.Ranges.{SEGMENTS_MAX}
 
 -- an operation that is still to be done counts two: its start and its end
 abbrev pub still_to : ℕ → ℕ → ℕ

@@ -1,11 +1,11 @@
 -- What a journal states of itself, whatever was done with it: whoever gets one at hand knows so much.
 use Rattle.std.specs.Prelude.{◌≡◌, ◌≤◌, List, [], ◌∷◌, ◌++◌, length, Some, None}
 use Rattle.disk_face.specs.declared.Side.TheVariants.{Secondary}
+use Rattle.stall_monitor.specs.declared.verdict.TheConstants.{SEGMENTS_MAX, THRESHOLD_MAX}
 use Rattle.log_writer.specs.declared.phase.Phase.TheVariants.{Broken}
 use Rattle.log_writer.specs.Writer.{Writer}
 use Rattle.failover_writer.specs.declared.fault.DeadMark.{DeadMark}
 use Rattle.failover_writer.specs.State.{State, len, broken_count}
-use Rattle.failover_writer.specs.Ranges.{SEGMENTS_MAX}
 
 -- The journal has given up: all segments that may be begun were begun, and the last one is broken. It is on the secondary
 -- side, and each failure is one of a segment.
@@ -22,6 +22,6 @@ pub record HasGivenUp (state : State) (mark : DeadMark) : Type 0 where
 -- The threshold is from 1 to 1,000, a journal of no record has no segment and is not dead, and a dead one has given up.
 pub record IsSound (state : State) : Type 0 where
   pub least : 1 ≤ state.threshold
-  pub most : state.threshold ≤ 1000
+  pub most : state.threshold ≤ THRESHOLD_MAX
   pub none : len state ≡ 0 → (state.segments ≡ []) × (state.dead ≡ None)
   pub dead : (mark : DeadMark) → state.dead ≡ Some mark → HasGivenUp state mark

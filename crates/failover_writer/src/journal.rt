@@ -5,6 +5,7 @@ ghost use Rattle.batch_repr.specs.declared.batch.Batch.{Batch};
 ghost use Rattle.disk_face.specs.declared.Progress.{Progress};
 ghost use Rattle.disk_face.specs.View.{Files, files, AtEachMoment, NothingInFlight};
 ghost use Rattle.disk_face.specs.Calls.{GoesOn, Stalls};
+ghost use Rattle.stall_monitor.specs.declared.verdict.TheConstants.{SEGMENTS_MAX, THRESHOLD_MAX};
 ghost use Rattle.failover_writer.specs.State.{len, acked, is_broken};
 ghost use Rattle.failover_writer.specs.Ranges as ranges;
 ghost use Rattle.failover_writer.specs.Ranges.{AreUnsent, StandsFor, Stands, KeepsRecords};
@@ -82,7 +83,7 @@ impl<D: Disk> Journal<D> {
     ) -> Result<Journal<D>, D>
         requires idle { NothingInFlight (D.view disk) }
         requires wal { wal ≤ 999999999999 }
-        requires threshold { (1 ≤ threshold) × (threshold ≤ 1000) }
+        requires threshold { (1 ≤ threshold) × (threshold ≤ THRESHOLD_MAX) }
         requires absent { IsTrue D.tells → AreUnsent wal 0 (D.view disk) }
         ensures made { IfOk result (λ journal. journal ≡ record { disk = disk; state = record { wal = wal; base = base; next = base; threshold = threshold; queue = journal.state.queue; want = 0; segments = []; dead = None } }) }
         ensures empty { IfOk result (λ journal. (journal.state.queue.start ≡ 0) × (journal.state.queue.records ≡ [])) }
@@ -192,7 +193,7 @@ impl<D: Disk> Journal<D> {
     /// From how many pending polls on a segment hangs.
     pub fn threshold(&self) -> u32
         ensures threshold { result ≡ self.now.state.threshold }
-        ensures within { (1 ≤ result) × (result ≤ 1000) }
+        ensures within { (1 ≤ result) × (result ≤ THRESHOLD_MAX) }
     {
         self.threshold
     }
@@ -326,7 +327,7 @@ impl<D: Disk> Journal<D> {
     fn begin_next(&mut self) -> Result<(), NoMemory>
         requires lives { self.old.state.dead ≡ None }
         requires behind { IsBehind self.old.state }
-        requires few { length self.old.state.segments < 10 }
+        requires few { length self.old.state.segments < SEGMENTS_MAX }
         ensures begun { OnOk result (BeginsNext self.old.state self.new.state) }
         ensures err { OnErr result (self.new.state ≡ self.old.state) }
         ensures keeps { KeepsRecords D.tells self.old.state (D.view self.old.disk) self.new.state (D.view self.new.disk) }

@@ -5,3 +5,4 @@ pub mod Fitting
 pub mod Polls
 pub mod Sending
 pub mod Begins
+mod Limits

@@ -8,6 +8,7 @@ use Rattle.disk_face.specs.Calls.{Starts}
 use Rattle.batch_repr.specs.declared.batch.Batch.{Batch}
 use Rattle.record_queue.specs.Queue.{Queue}
 use Rattle.log_writer.specs.declared.goal.Goal.{Goal}
+use Rattle.log_writer.specs.declared.polling.TheConstants.{WAITING_MAX}
 use Rattle.log_writer.specs.declared.phase.Operation.{Operation}
 use Rattle.log_writer.specs.declared.phase.Operation.TheVariants.{Create, Write, Sync}
 use Rattle.log_writer.specs.declared.phase.Phase.{Phase}
@@ -69,6 +70,6 @@ synced_with Sync w = w.written
 
 -- the writer once its operation is answered
 abbrev pub after_answer : Operation → Progress → Writer → Writer
-after_answer operation Pending w = record w { waiting = min 1000 (w.waiting + 1) }
+after_answer operation Pending w = record w { waiting = min WAITING_MAX (w.waiting + 1) }
 after_answer operation Done w = record w { written = written_with operation w; synced = synced_with operation w; waiting = 0; phase = Idle }
 after_answer operation Failed w = record w { phase = Broken }

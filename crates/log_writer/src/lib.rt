@@ -29,4 +29,5 @@ pub use laws::{
     a_fitting_writer_has_its_file, a_fitting_writer_keeps_its_segment, a_synced_file_is_kept,
     fits_as_records_come, fits_beside_other_operations,
 };
+pub use polling::WAITING_MAX;
 pub use writer::LogWriter;

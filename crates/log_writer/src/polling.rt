@@ -16,7 +16,7 @@ use crate::writer::LogWriter;
 use disk_face::{Disk, Progress};
 
 /// How far the pending answers of one operation are counted.
-const WAITING_MAX: u32 = 1_000;
+pub const WAITING_MAX: u32 = 1_000;
 
 impl LogWriter {
     /// Takes the answer to a poll of this operation.

@@ -4,6 +4,7 @@ ghost use Rattle.std.specs.Prelude.{◌≡◌, ◌≤◌, ◌%◌, ◌^◌, ◌�
 ghost use Rattle.disk_face.specs.View.{DiskView, segment, files, IsFree};
 ghost use Rattle.batch_repr.specs.declared.batch.Batch.{Batch};
 ghost use Rattle.log_writer.specs.declared.phase.Phase.TheVariants.{New, Broken};
+ghost use Rattle.log_writer.specs.declared.polling.TheConstants.{WAITING_MAX};
 ghost use Rattle.log_writer.specs.Fits.{Fits, IsBusy, IsUnsent};
 
 use crate::phase::Phase;
@@ -41,8 +42,9 @@ impl Model for LogWriter {
     ghost view = { λ a. record { side = a.side; name = a.name; log = a.framer.log; from = a.from; sent = a.sent; written = a.written; synced = a.synced; place = a.framer.place; waiting = a.waiting; phase = a.phase } };
 
     ghost use Rattle.std.specs.Prelude.{◌≤◌};
+    ghost use Rattle.log_writer.specs.declared.polling.TheConstants.{WAITING_MAX};
 
-    ghost invariant = { λ a. a.waiting ≤ 1000 };
+    ghost invariant = { λ a. a.waiting ≤ WAITING_MAX };
 }
 
 impl LogWriter {
@@ -101,11 +103,11 @@ impl LogWriter {
         self.synced
     }
 
-    /// How often the operation in flight was answered `Pending`, counted to 1,000 and no further. It is 0 after an
+    /// How often the operation in flight was answered `Pending`, counted to `WAITING_MAX` and no further. It is 0 after an
     /// operation that was done, and after a newly started one.
     pub fn waiting(&self) -> u32
         ensures count { result ≡ self.now.waiting }
-        ensures within { result ≤ 1000 }
+        ensures within { result ≤ WAITING_MAX }
     {
         self.waiting
     }

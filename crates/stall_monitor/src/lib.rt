@@ -10,4 +10,4 @@
 mod tests;
 mod verdict;
 
-pub use verdict::{MonitorView, SEGMENTS_MAX, Verdict, decide};
+pub use verdict::{MonitorView, SEGMENTS_MAX, THRESHOLD_MAX, Verdict, decide};

@@ -7,6 +7,9 @@ ghost use Rattle.stall_monitor.specs.Verdicts.{IsToSwitch, IsToDie};
 /// How many segments a log may begin in one run.
 pub const SEGMENTS_MAX: u32 = 10;
 
+/// The greatest threshold. A writer counts pending answers as far.
+pub const THRESHOLD_MAX: u32 = 1_000;
+
 /// What is shown of a log and its current segment.
 #[derive(Clone, Copy, Debug, PartialEq, Eq)]
 pub struct MonitorView {
@@ -16,7 +19,7 @@ pub struct MonitorView {
     pub broken: bool,
     /// How often in a row the operation in flight on it was pending.
     pub waiting: u32,
-    /// From how many pending answers on it hangs.
+    /// From how many pending answers on it hangs: 1 to `THRESHOLD_MAX`.
     pub threshold: u32,
     /// Whether a record is not synced in any segment.
     pub behind: bool,
