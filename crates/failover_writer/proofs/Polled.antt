@@ -7,6 +7,8 @@ use Rattle.std.proofs.lemmas.List.{set_split, length-set, take-set-le, take-appe
 use Rattle.std.proofs.lemmas.List.Sums.{sum_by-append, sum_by-cons, count_by-le-length}
 use Rattle.std.proofs.lemmas.Option.{slice_get_within, get_or_from_slice_get}
 use Rattle.batch_repr.specs.declared.batch.Batch.{Batch}
+use Rattle.disk_face.specs.declared.Side.{Side}
+use Rattle.disk_face.specs.declared.Side.TheVariants.{Primary, Secondary}
 use Rattle.disk_face.specs.declared.OpId.{OpId}
 use Rattle.disk_face.specs.declared.Progress.{Progress}
 use Rattle.disk_face.specs.declared.Progress.TheVariants.{Pending, Done, Failed}
@@ -18,6 +20,8 @@ use Rattle.log_writer.specs.declared.phase.Phase.TheVariants.{New, InFlight, Idl
 use Rattle.log_writer.specs.Writer.{Writer}
 use Rattle.log_writer.specs.Fits.{Fits, SameFile, IsBusy, HasFlight, file_of}
 use Rattle.log_writer.specs.Steps.{after_answer}
+use Rattle.failover_writer.specs.Remaining.{polls_left}
+use Rattle.log_writer.specs.Steps.{TakesPoll, pending_polls}
 use Rattle.failover_writer.specs.State.{State, most_synced, is_broken, phase_is_broken}
 use Rattle.failover_writer.specs.Ranges.{StandsFor}
 use Rattle.failover_writer.specs.Stepping.{NoneBusy}
@@ -170,16 +174,25 @@ order_polled tells state before after index old new operation id answer acked_so
 pub failed_polled : (tells : Bool) (state : State) (before : DiskView) (acked_so_far rested_to failures : ℕ) → IsInOrder tells state before acked_so_far rested_to failures → failures ≤ 10
 failed_polled tells state before acked_so_far rested_to failures order = omega (arith, order.failed, count_by-le-length is_broken state.segments, order.stands.1.few)
 
+-- Both sides taken together.
+sum_taken : (id : OpId) (answer : Progress) (before after : DiskView) → TakesPoll id answer before after → polls_left after + pending_polls answer ≡ polls_left before
+sum_taken id answer before after takes = go id.side refl
+  where
+    go : (side : Side) → id.side ≡ side → polls_left after + pending_polls answer ≡ polls_left before
+    go Primary is = omega (arith, subst (λ (s : Side). after.polls_left s + pending_polls answer ≡ before.polls_left s) is takes.its, takes.others Secondary (λ e. let clash : Secondary ≡ Primary = e ∙ is in cc))
+    go Secondary is = omega (arith, subst (λ (s : Side). after.polls_left s + pending_polls answer ≡ before.polls_left s) is takes.its, takes.others Primary (λ e. let clash : Primary ≡ Secondary = e ∙ is in cc))
+
 pub polls_at : (tells : Bool) (index : ℕ) (state seen : State) (before seen_before after : DiskView) (old new : Writer) (operation : Operation) (id : OpId) (answer : Progress) (pending : Bool) → state ≡ seen → before ≡ seen_before
-    → IsAnswered state.segments index old new operation id answer → Polled tells id before after answer → pending ≡ is_pending answer
+    → IsAnswered state.segments index old new operation id answer → Polled tells id before after answer → TakesPoll id answer before after → pending ≡ is_pending answer
     → PollsAt tells index seen (record state { segments = set state.segments index new }) seen_before after pending
-polls_at tells index state seen before seen_before after old new operation id answer pending same same_disk is polled pending_is =
+polls_at tells index state seen before seen_before after old new operation id answer pending same same_disk is polled takes pending_is =
     subst (λ (s : State). PollsAt tells index s (record state { segments = set state.segments index new }) seen_before after pending) same
     (subst (λ (v : DiskView). PollsAt tells index state (record state { segments = set state.segments index new }) v after pending) same_disk (record {
       writer = old;
       operation = operation;
       id = id;
       answer = answer;
+      taken = sum_taken id answer before after takes;
       stood = is.at;
       phase = is.phase;
       polled = polled;

@@ -1,5 +1,5 @@
 -- What a step and a closing answer, and what their polls tell of the disk (docs/FORMATS.md, "The step of a journal").
-use Rattle.std.specs.Prelude.{◌≡◌, ◌≢◌, ◌⊎◌, ◌<◌, ◌≤◌, length, Option, Some, None, Result, Ok, Err}
+use Rattle.std.specs.Prelude.{◌≡◌, ◌≢◌, ◌⊎◌, ℕ, ◌+◌, ◌<◌, ◌≤◌, length, Option, Some, None, Result, Ok, Err}
 use Rattle.std.specs.List.{AllByRecursion}
 use Rattle.wal_base.specs.Faults.{Rose}
 use Rattle.disk_face.specs.declared.Side.{Side}
@@ -12,7 +12,9 @@ use Rattle.failover_writer.specs.declared.fault.JournalFault.{JournalFault}
 use Rattle.failover_writer.specs.declared.fault.JournalFault.TheVariants as faults
 use Rattle.failover_writer.specs.declared.fault.Step.{Step}
 use Rattle.failover_writer.specs.declared.fault.Step.TheVariants as steps
+use Rattle.log_writer.specs.Steps.{pending_polls}
 use Rattle.failover_writer.specs.State.{State, len, broken_count}
+use Rattle.failover_writer.specs.Remaining.{polls_left}
 use Rattle.failover_writer.specs.Stepping.{NoneBusy, HasWork, StepRule}
 
 -- the count of faults of some side rose
@@ -30,13 +32,20 @@ IsTold before after (Some Pending) = PollsFell before after
 IsTold before after (Some Done) = Unit {0}
 IsTold before after (Some Failed) = FaultsRose before after
 
--- A step by its rule, of which the polls were answered as the disk tells.
+-- how many polls were pending, of one that was made or not
+abbrev pub pending_count : Option Progress → ℕ
+pending_count None = 0
+pending_count (Some answer) = pending_polls answer
+
+-- A step by its rule, of which the polls were answered as the disk tells. Each pending answer took one of the polls left, and
+-- nothing else took any: so no segment was polled twice while it was pending.
 pub record StepsBy (old new : State) (before after : DiskView) (answer : Result Step JournalFault) : Type 0 where
   pub one : Option Progress
   pub other : Option Progress
   pub rule : StepRule old one other new answer
   pub one_told : IsTold before after one
   pub other_told : IsTold before after other
+  pub taken : polls_left after + (pending_count one + pending_count other) ≡ polls_left before
 
 -- It is not dead, nothing is in flight, and there is no work.
 pub record IsIdle (state : State) : Type 0 where

@@ -11,12 +11,13 @@ use Rattle.log_writer.specs.declared.phase.Operation.{Operation}
 use Rattle.log_writer.specs.declared.phase.Phase.TheVariants.{InFlight, Broken}
 use Rattle.log_writer.specs.Writer.{Writer}
 use Rattle.log_writer.specs.Fits.{IsBusy}
-use Rattle.log_writer.specs.Steps.{after_answer}
+use Rattle.log_writer.specs.Steps.{after_answer, pending_polls}
 use Rattle.failover_writer.specs.declared.fault.JournalFault.{JournalFault}
 use Rattle.failover_writer.specs.declared.fault.JournalFault.TheVariants as faults
 use Rattle.failover_writer.specs.State.{State, len}
 use Rattle.failover_writer.specs.Stepping.{IsBehind, NoneBusy, StartsNext, Dies, Polls}
-use Rattle.failover_writer.specs.Answered.{IsTold}
+use Rattle.failover_writer.specs.Answered.{IsTold, pending_count}
+use Rattle.failover_writer.specs.Remaining.{polls_left}
 
 abbrev pub is_pending : Progress → Bool
 is_pending Pending = true
@@ -41,6 +42,7 @@ pub record PollsAt (tells : Bool) (index : ℕ) (old new : State) (before after 
   pub stood : slice_get old.segments index ≡ Some writer
   pub phase : writer.phase ≡ InFlight operation id
   pub polled : Polled tells id before after answer
+  pub taken : polls_left after + pending_polls answer ≡ polls_left before
   pub pending_is : pending ≡ is_pending answer
   pub new_is : new ≡ record old { segments = take index old.segments ++ after_answer operation answer writer ∷ drop (index + 1) old.segments }
 
@@ -51,6 +53,7 @@ pub record PollsAll (old new : State) (before after : DiskView) (pending : Bool)
   pub polls : Polls old one other new
   pub one_told : IsTold before after one
   pub other_told : IsTold before after other
+  pub taken : polls_left after + (pending_count one + pending_count other) ≡ polls_left before
   pub pending_is : pending ≡ (was_pending one || was_pending other)
 
 -- The first busy segment before the current one stands at this place.

@@ -13,7 +13,7 @@ ghost use Rattle.failover_writer.specs.Stepping as stepping;
 ghost use Rattle.failover_writer.specs.Stepping.{IsBehind, HasWork, NoneBusy, BeginsNext, Releases, IsUp};
 ghost use Rattle.failover_writer.specs.declared.fault.Step.TheVariants as steps;
 ghost use Rattle.failover_writer.specs.Setting.{KeepsEnd, KeepsGoal, KeepsSegments};
-ghost use Rattle.failover_writer.specs.Remaining.{Falls};
+ghost use Rattle.failover_writer.specs.Remaining.{polls_left, Falls};
 ghost use Rattle.failover_writer.specs.Sound.{HasGivenUp, IsSound};
 ghost use Rattle.failover_writer.specs.Answered.{StepsBy, Settles, IsIdle, IsMarked, IsHarmed, IsSmooth, FaultsRose, PollsFell, Closes};
 ghost use Rattle.failover_writer.specs.Keeping.{KeepsRun, RecoversTo, OthersStay, IsOpenedOn, IsOpening, KeepsBase, Passes};
@@ -333,6 +333,7 @@ impl<D: Disk> Journal<D> {
         ensures keeps { KeepsRecords D.tells self.old.state (D.view self.old.disk) self.new.state (D.view self.new.disk) }
         ensures passes { Passes D.tells self.old.state self.new.state (D.view self.old.disk) (D.view self.new.disk) }
         ensures goes_on { GoesOn (D.view self.old.disk) (D.view self.new.disk) }
+        ensures stalls { polls_left (D.view self.new.disk) ≡ polls_left (D.view self.old.disk) }
     {
         let index = self.writers.len();
         let name = SegName {
@@ -372,6 +373,7 @@ impl<D: Disk> Journal<D> {
         ensures keeps { KeepsRecords D.tells self.old.state (D.view self.old.disk) self.new.state (D.view self.new.disk) }
         ensures passes { Passes D.tells self.old.state self.new.state (D.view self.old.disk) (D.view self.new.disk) }
         ensures goes_on { GoesOn (D.view self.old.disk) (D.view self.new.disk) }
+        ensures stalls { polls_left (D.view self.new.disk) ≡ polls_left (D.view self.old.disk) }
     {
         let goal = self.goal();
         let Some(last) = self.resting() else {
@@ -468,6 +470,7 @@ impl<D: Disk> Journal<D> {
         ensures keeps { KeepsRecords D.tells self.old.state (D.view self.old.disk) self.new.state (D.view self.new.disk) }
         ensures passes { Passes D.tells self.old.state self.new.state (D.view self.old.disk) (D.view self.new.disk) }
         ensures goes_on { GoesOn (D.view self.old.disk) (D.view self.new.disk) }
+        ensures stalls { polls_left (D.view self.new.disk) ≡ polls_left (D.view self.old.disk) }
     {
         let Some(current) = self.writers.last() else {
             if self.is_behind() {

@@ -1,5 +1,6 @@
 -- What an answer to a poll leaves, for each operation. An operation in flight is the only one on its file.
 use Rattle.std.proofs.Common.{◌≡◌, ◌≢◌, inl, inr, ◌≤◌, Bool, List, Option, Some, None, IsTrue, ap, sym, subst, ◌∙◌, refl, arith}
+use Rattle.disk_face.specs.declared.Side.{Side}
 use Rattle.disk_face.specs.declared.OpId.{OpId}
 use Rattle.disk_face.specs.declared.Progress.{Progress}
 use Rattle.disk_face.specs.declared.Progress.TheVariants.{Pending, Done, Failed}
@@ -14,7 +15,7 @@ use Rattle.log_writer.specs.declared.phase.Phase.TheVariants.{InFlight, Idle, Br
 use Rattle.log_writer.specs.Writer.{Writer}
 use Rattle.log_writer.specs.Fits.{file_of, act_of, Flies, HasFlight, HasNumbers, IsOrdered, HoldsRecords, HasFile, Fits, SameFile}
 use Rattle.log_writer.specs.Kept.{SegmentKept}
-use Rattle.log_writer.specs.Steps.{after_answer, synced_with}
+use Rattle.log_writer.specs.Steps.{TakesPoll, after_answer, synced_with}
 use Rattle.log_writer.proofs.Parts.{no_bytes, bytes_front}
 use Rattle.log_writer.proofs.Fitting.{fits_kept, fits_kept_from}
 use Rattle.log_writer.proofs.Beside.{OthersStay, same_disk, ended_elsewhere, two_moments, one_moment, fits_beside}
@@ -167,3 +168,17 @@ module _ (tells : Bool) (w : Writer) (old new : DiskView) (operation : Operation
   polled_other_moments records answer goes fits polled told =
       each_moment records answer (OthersStay (file_of w) (files old)) goes fits polled told (λ place elsewhere. refl)
       (λ place elsewhere. (polled_others records answer fits polled place elsewhere).file told)
+
+-- ---- the polls left
+
+pub takes_poll : (tells : Bool) (id : OpId) (answer : Progress) (before after : DiskView) → ((side : Side) → ((answer ≡ Pending) × (side ≡ id.side) → ⊥) → after.polls_left side ≡ before.polls_left side)
+    → Polled tells id before after answer → TakesPoll id answer before after
+takes_poll tells id Pending before after stalls polled = record { its = polled.fell; others = λ side ne. stalls side (λ both. ne both.1) }
+takes_poll tells id Done before after stalls polled = record {
+  its = omega (arith, stalls id.side (λ both. let clash : Done ≡ Pending = both.0 in cc));
+  others = λ side ne. stalls side (λ both. ne both.1);
+}
+takes_poll tells id Failed before after stalls polled = record {
+  its = omega (arith, stalls id.side (λ both. let clash : Failed ≡ Pending = both.0 in cc));
+  others = λ side ne. stalls side (λ both. ne both.1);
+}

@@ -1,5 +1,6 @@
 -- What the calls of a writer start and answer (docs/FORMATS.md, "The next operation of a segment").
-use Rattle.std.specs.Prelude.{◌≡◌, ℕ, ◌+◌, ◌≤◌, min, Bool, true, false, not, ◌&&◌, List, length, drop, nat_lt, if◌then◌else◌, Option, Some, None}
+use Rattle.std.specs.Prelude.{◌≡◌, ◌≢◌, ℕ, ◌+◌, ◌≤◌, min, Bool, true, false, not, ◌&&◌, List, length, drop, nat_lt, if◌then◌else◌, Option, Some, None}
+use Rattle.disk_face.specs.declared.Side.{Side}
 use Rattle.disk_face.specs.declared.OpId.{OpId}
 use Rattle.disk_face.specs.declared.Progress.{Progress}
 use Rattle.disk_face.specs.declared.Progress.TheVariants.{Pending, Done, Failed}
@@ -73,3 +74,14 @@ abbrev pub after_answer : Operation → Progress → Writer → Writer
 after_answer operation Pending w = record w { waiting = min WAITING_MAX (w.waiting + 1) }
 after_answer operation Done w = record w { written = written_with operation w; synced = synced_with operation w; waiting = 0; phase = Idle }
 after_answer operation Failed w = record w { phase = Broken }
+
+-- one poll where the answer is pending
+abbrev pub pending_polls : Progress → ℕ
+pending_polls Pending = 1
+pending_polls Done = 0
+pending_polls Failed = 0
+
+-- A pending answer takes one of the polls left on the side of the operation, and no answer takes any other.
+pub record TakesPoll (id : OpId) (answer : Progress) (before after : DiskView) : Type 0 where
+  pub its : after.polls_left id.side + pending_polls answer ≡ before.polls_left id.side
+  pub others : (side : Side) → side ≢ id.side → after.polls_left side ≡ before.polls_left side

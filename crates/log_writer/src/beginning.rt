@@ -85,6 +85,7 @@ impl LogWriter {
         requires held { HoldsPart queue.now self.old.sent len }
         requires in_block { self.old.place < 32768 }
         ensures goes_on { GoesOn (D.view disk.old) (D.view disk.new) }
+        ensures stalls { (D.view disk.new).polls_left ≡ (D.view disk.old).polls_left }
         ensures starts { IfOk result (λ id. Starts (record { place = file_of self.old; act = writing }) self.old.side id (D.view disk.old) (D.view disk.new)) }
         ensures file { OnOk result (IsTrue D.tells → ChangesFile (file_of self.old) (λ f g. g ≡ after_start writing (frames_of queue.now self.old len) f) (D.view disk.old) (D.view disk.new)) }
         ensures sent { OnOk result (self.new ≡ sending Write queue.now len self.old) }
@@ -117,6 +118,7 @@ impl LogWriter {
         requires held { HoldsPart queue.now self.old.sent len }
         requires in_block { self.old.place < 32768 }
         ensures goes_on { GoesOn (D.view disk.old) (D.view disk.new) }
+        ensures stalls { (D.view disk.new).polls_left ≡ (D.view disk.old).polls_left }
         ensures starts { IfOk result (λ id. Starts (record { place = file_of self.old; act = act_of operation }) self.old.side id (D.view disk.old) (D.view disk.new)) }
         ensures file { OnOk result (IsTrue D.tells → ChangesFile (file_of self.old) (λ f g. g ≡ after_start (act_of operation) (frames_of queue.now self.old len) f) (D.view disk.old) (D.view disk.new)) }
         ensures sent { OnOk result (self.new ≡ sending operation queue.now len self.old) }
@@ -146,6 +148,7 @@ impl LogWriter {
         requires held { HoldsPart queue.now self.old.sent goal.now.len }
         requires fits { (records : List Batch) × Fits D.tells records self.old (D.view disk.old) × IsQueueOf records queue.now }
         ensures goes_on { GoesOn (D.view disk.old) (D.view disk.new) }
+        ensures stalls { (D.view disk.new).polls_left ≡ (D.view disk.old).polls_left }
         ensures starts { IfOk result (λ started. BeginsJust (next_operation self.old.phase self.old.written goal.now) goal.now.len started self.old self.new (D.view disk.old) (D.view disk.new)) }
         ensures err { OnErr result ((self.new ≡ self.old) × (D.view disk.new ≡ D.view disk.old)) }
         ensures fits { (records : List Batch) → Fits D.tells records self.old (D.view disk.old) → IsQueueOf records queue.now → Fits D.tells records self.new (D.view disk.new) }

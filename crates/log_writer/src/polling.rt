@@ -9,7 +9,7 @@ ghost use Rattle.log_writer.specs.declared.phase.Operation.{Operation};
 ghost use Rattle.log_writer.specs.declared.phase.Phase.TheVariants.{InFlight};
 ghost use Rattle.log_writer.specs.Fits.{Fits, IsBusy, SameFile, file_of};
 ghost use Rattle.log_writer.specs.Kept.{SegmentKept};
-ghost use Rattle.log_writer.specs.Steps.{after_answer};
+ghost use Rattle.log_writer.specs.Steps.{TakesPoll, after_answer};
 
 use crate::phase::{Operation, Phase};
 use crate::writer::LogWriter;
@@ -45,6 +45,7 @@ impl LogWriter {
         ensures goes_on { GoesOn (D.view disk.old) (D.view disk.new) }
         ensures polled { (operation : Operation) (id : OpId) → self.old.phase ≡ InFlight operation id → Polled D.tells id (D.view disk.old) (D.view disk.new) result }
         ensures answered { (operation : Operation) (id : OpId) → self.old.phase ≡ InFlight operation id → self.new ≡ after_answer operation result self.old }
+        ensures takes { (operation : Operation) (id : OpId) → self.old.phase ≡ InFlight operation id → TakesPoll id result (D.view disk.old) (D.view disk.new) }
         ensures synced { self.old.synced ≤ self.new.synced }
         ensures fits { (records : List Batch) → Fits D.tells records self.old (D.view disk.old) → Fits D.tells records self.new (D.view disk.new) }
 

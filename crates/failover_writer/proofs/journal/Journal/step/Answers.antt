@@ -21,6 +21,7 @@ returns-in-Some-clause-rule g c = record {
   rule = was_dead c.in-Some.mark.side c.in-Some.mark.faults (subst (λ (held : Held _). held.state.dead ≡ Some c.in-Some.mark) c.self.view_is c.in-Some.is);
   one_told = tt;
   other_told = tt;
+  taken = omega arith;
 }
 
 pub returns-then-not-is_up-clause-rule : goal.returns-then-not-is_up-clause-rule
@@ -31,6 +32,7 @@ returns-then-not-is_up-clause-rule g c =
       rule = idle (subst (λ (held : Held _). held.state.dead ≡ None) c.self.view_is c.in_default.is) c.if-not-is_up.ensures.up.0 c.if-not-is_up.ensures.up.1;
       one_told = tt;
       other_told = tt;
+      taken = omega arith;
     })
 
 -- the step that `advance` did

@@ -2,9 +2,11 @@
 use Rattle.std.proofs.Common.{◌≡◌, ap, sym, subst, ◌∙◌}
 use Rattle.log_writer.specs.declared.phase.Phase.TheVariants.{InFlight}
 use Rattle.log_writer.specs.Writer.{Writer}
+use Rattle.disk_face.specs.declared.OpId.{OpId}
+use Rattle.log_writer.specs.Steps.{TakesPoll}
 use Rattle.log_writer.specs.Fits.{Fits}
 use Rattle.log_writer.proofs.Fitting.{fits_kept}
-use Rattle.log_writer.proofs.Polls.{polled_fits, polled_moments, polled_others, polled_other_moments}
+use Rattle.log_writer.proofs.Polls.{polled_fits, polled_moments, polled_others, polled_other_moments, takes_poll}
 use Rattle.log_writer.proofs.writer.LogWriter.poll.Goals as goal
 
 in_flight : (g : _) (c : goal.After-take_answer g) → c.args.self.now.phase ≡ InFlight c.in-InFlight.operation c.in-InFlight.id
@@ -34,3 +36,10 @@ pub returns-clause-other_moments : goal.returns-clause-other_moments
 returns-clause-other_moments g c told =
     polled_other_moments g.D.Disk.tells c.args.self.now (g.D.Disk.view c.args.disk.now) (g.D.Disk.view c.poll-answer.new.self) c.in-InFlight.operation c.in-InFlight.id (in_flight g c) c.requires.fits.0
     c.poll-answer.result c.poll-answer.ensures.goes_on c.requires.fits.1 c.poll-answer.ensures.polled told
+
+pub returns-clause-takes : goal.returns-clause-takes
+returns-clause-takes g c operation id phase =
+    let same : InFlight c.in-InFlight.operation c.in-InFlight.id ≡ InFlight operation id = sym (in_flight g c) ∙ phase in
+    let is : c.in-InFlight.id ≡ id = cc in
+    subst (λ (i : OpId). TakesPoll i c.poll-answer.result (g.D.Disk.view c.args.disk.now) (g.D.Disk.view c.poll-answer.new.self)) is
+    (takes_poll g.D.Disk.tells c.in-InFlight.id c.poll-answer.result (g.D.Disk.view c.args.disk.now) (g.D.Disk.view c.poll-answer.new.self) c.poll-answer.ensures.stalls c.poll-answer.ensures.polled)
