@@ -2,8 +2,8 @@ ghost use Rattle.std.specs.Prelude.{◌≡◌, ◌≤◌, None, IsTrue};
 ghost use Rattle.disk_face.specs.View.{Place, files, NothingInFlight};
 ghost use Rattle.failover_writer.specs.Ranges.{AreUnsent};
 
-use crate::{DeadMark, Journal, JournalFault, Step};
-use batch_repr::{BatchBuilder, Numbered};
+use crate::{DeadMark, Journal, JournalFault, Step, a_journal_at_hand};
+use batch_repr::{BatchBuilder, NUMBER_MAX, Numbered};
 use disk_face::{Disk, ScriptDisk, SegName, Side};
 use mem_disk::{CrashPick, FilePick, FilePicks, MemDisk};
 use std::alloc::Global;
@@ -63,11 +63,22 @@ impl Fresh {
 
     /// A journal of no record over the disk.
     fn journal(self, rt: &impl Abort, alloc: Global, threshold: u32) -> Journal<MemDisk> {
+        self.journal_from(rt, alloc, BASE, threshold)
+    }
+
+    /// The same, which begins with this number.
+    fn journal_from(
+        self,
+        rt: &impl Abort,
+        alloc: Global,
+        base: u64,
+        threshold: u32,
+    ) -> Journal<MemDisk> {
         if threshold == 0 || threshold > 1_000 {
             panic!(rt; "a threshold");
         }
         let Fresh { disk } = self;
-        match Journal::start(alloc, disk, WAL, BASE, threshold) {
+        match Journal::start(alloc, disk, WAL, base, threshold) {
             Ok(journal) => journal,
             Err(_) => panic!(rt; "memory"),
         }
@@ -197,6 +208,57 @@ fn a_journal_whose_syncs_fail_is_dead_for_good(rt: HostRuntime) {
     };
     assert_eq!(rt; journal.dead(), Some(mark));
     assert_eq!(rt; (journal.segments(), journal.acked()), (10, 0));
+}
+
+#[test]
+fn a_settled_journal_has_done_all_that_waits_for_nothing(rt: HostRuntime) {
+    let alloc = rt.alloc();
+    let mut journal = journal_of(&rt, alloc, 3);
+    assert_eq!(rt; journal.threshold(), 3);
+    push(&rt, alloc, &mut journal, b'1', false);
+    assert_eq!(rt; journal.settle(), Ok(Step::Idle));
+    assert_eq!(rt; journal.acked(), 0);
+    journal.stall(Side::Primary, 2);
+    push(&rt, alloc, &mut journal, b'2', true);
+    assert_eq!(rt; journal.settle(), Ok(Step::Waited));
+    assert_eq!(rt; journal.settle(), Ok(Step::Waited));
+    assert_eq!(rt; journal.acked(), 0);
+    assert_eq!(rt; journal.settle(), Ok(Step::Idle));
+    assert_eq!(rt; (journal.segments(), journal.acked()), (1, 2));
+    a_journal_at_hand(&journal);
+}
+
+/// Pushes the next batch, of one Set, if its number is not above the greatest one.
+fn push_within(rt: &impl Abort, alloc: Global, journal: &mut Journal<MemDisk>) -> bool {
+    let mut builder = BatchBuilder::new(alloc).expect(rt, "memory");
+    builder.set(b"a", b"1").expect(rt, "an entry");
+    let Ok(batch) = builder.finish() else {
+        panic!(rt; "a batch");
+    };
+    let first = journal.next();
+    if u64::from(batch.count()) > NUMBER_MAX.saturating_sub(first) {
+        return false;
+    }
+    let batch = batch.number(first);
+    journal.reserve().expect(rt, "memory");
+    if journal.dead().is_some() || batch.first() != journal.next() {
+        panic!(rt; "a journal that lives");
+    }
+    journal.push(batch, true);
+    true
+}
+
+#[test]
+fn no_batch_is_numbered_above_the_greatest_number(rt: HostRuntime) {
+    let alloc = rt.alloc();
+    let last = 72_057_594_037_927_934;
+    let mut journal = Fresh::new(&rt, alloc).journal_from(&rt, alloc, last, 3);
+    assert_eq!(rt; journal.next(), last);
+    assert!(rt; push_within(&rt, alloc, &mut journal), "the last number");
+    assert_eq!(rt; journal.next(), 72_057_594_037_927_935);
+    assert!(rt; !push_within(&rt, alloc, &mut journal), "no number is left");
+    assert_eq!(rt; journal.close(), Ok(()));
+    assert_eq!(rt; (journal.len(), journal.acked()), (1, 1));
 }
 
 /// Closes the journal and answers how many segments it began.
