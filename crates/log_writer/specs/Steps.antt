@@ -1,10 +1,10 @@
 -- What the calls of a writer start and answer (docs/FORMATS.md, "The next operation of a segment").
-use Rattle.std.specs.Prelude.{◌≡◌, ◌≢◌, ℕ, ◌+◌, ◌≤◌, min, Bool, true, false, not, ◌&&◌, List, length, drop, nat_lt, if◌then◌else◌, Option, Some, None}
+use Rattle.std.specs.Prelude.{◌≡◌, ◌≢◌, ℕ, ◌+◌, ◌≤◌, min, Bool, true, false, not, ◌&&◌, List, [], ◌∷◌, length, drop, nat_lt, if◌then◌else◌, Option, Some, None}
 use Rattle.disk_face.specs.declared.Side.{Side}
 use Rattle.disk_face.specs.declared.OpId.{OpId}
 use Rattle.disk_face.specs.declared.Progress.{Progress}
 use Rattle.disk_face.specs.declared.Progress.TheVariants.{Pending, Done, Failed}
-use Rattle.disk_face.specs.View.{DiskView}
+use Rattle.disk_face.specs.View.{was_started, Makes, DiskView}
 use Rattle.disk_face.specs.Calls.{Starts}
 use Rattle.batch_repr.specs.declared.batch.Batch.{Batch}
 use Rattle.record_queue.specs.Queue.{Queue}
@@ -85,3 +85,8 @@ pending_polls Failed = 0
 pub record TakesPoll (id : OpId) (answer : Progress) (before after : DiskView) : Type 0 where
   pub its : after.polls_left id.side + pending_polls answer ≡ before.polls_left id.side
   pub others : (side : Side) → side ≢ id.side → after.polls_left side ≡ before.polls_left side
+
+-- The disk was asked once to start an operation, and for nothing else, or for nothing at all.
+abbrev pub AsksToStart : Bool → DiskView → DiskView → Type 0
+AsksToStart true before after = (id : OpId) × Makes (was_started id ∷ []) before after
+AsksToStart false before after = Makes [] before after

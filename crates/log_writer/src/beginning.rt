@@ -1,7 +1,7 @@
 //! How a writer starts its next operation.
 
-ghost use Rattle.std.specs.Prelude.{◌≡◌, ◌≢◌, ◌<◌, ◌≤◌, ◌++◌, suc, List, IsTrue, IfOk, OnOk, OnErr};
-ghost use Rattle.disk_face.specs.View.{Place, Files, writing, files, IsFree, AtEachMoment};
+ghost use Rattle.std.specs.Prelude.{◌≡◌, ◌≢◌, ◌<◌, ◌≤◌, ◌++◌, suc, List, [], ◌∷◌, IsTrue, IfOk, OnOk, OnErr};
+ghost use Rattle.disk_face.specs.View.{Place, Files, writing, files, was_started, Makes, IsFree, AtEachMoment};
 ghost use Rattle.disk_face.specs.Calls.{GoesOn, MayStart, Starts, ChangesFile, after_start};
 ghost use Rattle.batch_repr.specs.declared.batch.Batch.{Batch};
 ghost use Rattle.block_record.specs.Framing.{standing_after};
@@ -9,7 +9,7 @@ ghost use Rattle.log_writer.specs.declared.phase.Operation.TheVariants.{Write};
 ghost use Rattle.log_writer.specs.declared.phase.Phase.TheVariants.{Broken};
 ghost use Rattle.log_writer.specs.Fits.{Fits, IsBusy, SameFile, file_of, act_of};
 ghost use Rattle.log_writer.specs.Kept.{SegmentKept};
-ghost use Rattle.log_writer.specs.Steps.{IsQueueOf, HoldsPart, next_operation, BeginsJust};
+ghost use Rattle.log_writer.specs.Steps.{IsQueueOf, HoldsPart, next_operation, BeginsJust, AsksToStart};
 ghost use Rattle.log_writer.specs.Sending.{frames_from, frames_of, sending};
 
 use crate::goal::Goal;
@@ -86,6 +86,7 @@ impl LogWriter {
         requires in_block { self.old.place < 32768 }
         ensures goes_on { GoesOn (D.view disk.old) (D.view disk.new) }
         ensures stalls { (D.view disk.new).polls_left ≡ (D.view disk.old).polls_left }
+        ensures asks { IfOk result (λ id. Makes (was_started id ∷ []) (D.view disk.old) (D.view disk.new)) }
         ensures starts { IfOk result (λ id. Starts (record { place = file_of self.old; act = writing }) self.old.side id (D.view disk.old) (D.view disk.new)) }
         ensures file { OnOk result (IsTrue D.tells → ChangesFile (file_of self.old) (λ f g. g ≡ after_start writing (frames_of queue.now self.old len) f) (D.view disk.old) (D.view disk.new)) }
         ensures sent { OnOk result (self.new ≡ sending Write queue.now len self.old) }
@@ -119,6 +120,7 @@ impl LogWriter {
         requires in_block { self.old.place < 32768 }
         ensures goes_on { GoesOn (D.view disk.old) (D.view disk.new) }
         ensures stalls { (D.view disk.new).polls_left ≡ (D.view disk.old).polls_left }
+        ensures asks { IfOk result (λ id. Makes (was_started id ∷ []) (D.view disk.old) (D.view disk.new)) }
         ensures starts { IfOk result (λ id. Starts (record { place = file_of self.old; act = act_of operation }) self.old.side id (D.view disk.old) (D.view disk.new)) }
         ensures file { OnOk result (IsTrue D.tells → ChangesFile (file_of self.old) (λ f g. g ≡ after_start (act_of operation) (frames_of queue.now self.old len) f) (D.view disk.old) (D.view disk.new)) }
         ensures sent { OnOk result (self.new ≡ sending operation queue.now len self.old) }
@@ -149,6 +151,7 @@ impl LogWriter {
         requires fits { (records : List Batch) × Fits D.tells records self.old (D.view disk.old) × IsQueueOf records queue.now }
         ensures goes_on { GoesOn (D.view disk.old) (D.view disk.new) }
         ensures stalls { (D.view disk.new).polls_left ≡ (D.view disk.old).polls_left }
+        ensures asks { IfOk result (λ started. AsksToStart started (D.view disk.old) (D.view disk.new)) }
         ensures starts { IfOk result (λ started. BeginsJust (next_operation self.old.phase self.old.written goal.now) goal.now.len started self.old self.new (D.view disk.old) (D.view disk.new)) }
         ensures err { OnErr result ((self.new ≡ self.old) × (D.view disk.new ≡ D.view disk.old)) }
         ensures fits { (records : List Batch) → Fits D.tells records self.old (D.view disk.old) → IsQueueOf records queue.now → Fits D.tells records self.new (D.view disk.new) }

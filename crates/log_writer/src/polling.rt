@@ -1,8 +1,8 @@
 //! How a writer asks after its operation, and what the answer changes.
 
-ghost use Rattle.std.specs.Prelude.{◌≡◌, ◌≢◌, ◌≤◌, List, IsTrue};
+ghost use Rattle.std.specs.Prelude.{◌≡◌, ◌≢◌, ◌≤◌, List, [], ◌∷◌, IsTrue};
 ghost use Rattle.disk_face.specs.declared.OpId.{OpId};
-ghost use Rattle.disk_face.specs.View.{Place, Files, files, AtEachMoment};
+ghost use Rattle.disk_face.specs.View.{Place, was_polled, Makes, Files, files, AtEachMoment};
 ghost use Rattle.disk_face.specs.Calls.{GoesOn, Polled};
 ghost use Rattle.batch_repr.specs.declared.batch.Batch.{Batch};
 ghost use Rattle.log_writer.specs.declared.phase.Operation.{Operation};
@@ -46,6 +46,7 @@ impl LogWriter {
         ensures polled { (operation : Operation) (id : OpId) → self.old.phase ≡ InFlight operation id → Polled D.tells id (D.view disk.old) (D.view disk.new) result }
         ensures answered { (operation : Operation) (id : OpId) → self.old.phase ≡ InFlight operation id → self.new ≡ after_answer operation result self.old }
         ensures takes { (operation : Operation) (id : OpId) → self.old.phase ≡ InFlight operation id → TakesPoll id result (D.view disk.old) (D.view disk.new) }
+        ensures asks { (operation : Operation) (id : OpId) → self.old.phase ≡ InFlight operation id → Makes (was_polled id ∷ []) (D.view disk.old) (D.view disk.new) }
         ensures synced { self.old.synced ≤ self.new.synced }
         ensures fits { (records : List Batch) → Fits D.tells records self.old (D.view disk.old) → Fits D.tells records self.new (D.view disk.new) }
 
