@@ -12,7 +12,7 @@ use Rattle.disk_face.specs.declared.Side.TheVariants.{Primary, Secondary}
 use Rattle.disk_face.specs.declared.OpId.{OpId}
 use Rattle.disk_face.specs.declared.Progress.{Progress}
 use Rattle.disk_face.specs.declared.Progress.TheVariants.{Pending, Done, Failed}
-use Rattle.disk_face.specs.View.{Place, Files, DiskView, files}
+use Rattle.disk_face.specs.View.{was_polled, Makes, Place, Files, DiskView, files}
 use Rattle.disk_face.specs.Calls.{GoesOn, Polled}
 use Rattle.log_writer.specs.declared.phase.Operation.{Operation}
 use Rattle.log_writer.specs.declared.phase.Phase.{Phase}
@@ -183,9 +183,9 @@ sum_taken id answer before after takes = go id.side refl
     go Secondary is = omega (arith, subst (λ (s : Side). after.polls_left s + pending_polls answer ≡ before.polls_left s) is takes.its, takes.others Primary (λ e. let clash : Primary ≡ Secondary = e ∙ is in cc))
 
 pub polls_at : (tells : Bool) (index : ℕ) (state seen : State) (before seen_before after : DiskView) (old new : Writer) (operation : Operation) (id : OpId) (answer : Progress) (pending : Bool) → state ≡ seen → before ≡ seen_before
-    → IsAnswered state.segments index old new operation id answer → Polled tells id before after answer → TakesPoll id answer before after → pending ≡ is_pending answer
+    → IsAnswered state.segments index old new operation id answer → Polled tells id before after answer → TakesPoll id answer before after → Makes (was_polled id ∷ []) before after → pending ≡ is_pending answer
     → PollsAt tells index seen (record state { segments = set state.segments index new }) seen_before after pending
-polls_at tells index state seen before seen_before after old new operation id answer pending same same_disk is polled takes pending_is =
+polls_at tells index state seen before seen_before after old new operation id answer pending same same_disk is polled takes asks pending_is =
     subst (λ (s : State). PollsAt tells index s (record state { segments = set state.segments index new }) seen_before after pending) same
     (subst (λ (v : DiskView). PollsAt tells index state (record state { segments = set state.segments index new }) v after pending) same_disk (record {
       writer = old;
@@ -193,6 +193,7 @@ polls_at tells index state seen before seen_before after old new operation id an
       id = id;
       answer = answer;
       taken = sum_taken id answer before after takes;
+      asks = asks;
       stood = is.at;
       phase = is.phase;
       polled = polled;

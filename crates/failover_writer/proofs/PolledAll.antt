@@ -16,7 +16,7 @@ use Rattle.log_writer.specs.Writer.{Writer}
 use Rattle.log_writer.specs.Fits.{IsBusy}
 use Rattle.log_writer.specs.Steps.{after_answer}
 use Rattle.failover_writer.specs.Remaining.{polls_left}
-use Rattle.failover_writer.specs.Answered.{pending_count}
+use Rattle.failover_writer.specs.Answered.{AsksToPoll, pending_count}
 use Rattle.failover_writer.specs.State.{State, Held}
 use Rattle.failover_writer.specs.Ranges.{KeepsRecords}
 use Rattle.failover_writer.specs.Keeping.{Passes}
@@ -152,6 +152,7 @@ pub record PollsEarly (state mid : State) (before between : DiskView) (pending :
   pub early : ((state.segments ≡ []) × (mid ≡ state) × (one ≡ None)) ⊎ IsPolledEarly state mid one
   pub told : IsTold before between one
   pub taken : polls_left between + pending_count one ≡ polls_left before
+  pub asks : AsksToPoll one before between
   pub pending_is : pending ≡ was_pending one
 
 parted : (ws : List Writer) → (ws ≡ []) ⊎ ((w : Writer) × (slice_get ws (length ws - 1) ≡ Some w))
@@ -159,7 +160,7 @@ parted [] = inl refl
 parted (w ∷ ws) = inr (get_or (w ∷ ws) (length (w ∷ ws) - 1) w, slice_get-get_or (w ∷ ws) (length (w ∷ ws) - 1) w (omega arith))
 
 pub early_none : (state : State) (v : DiskView) → NoneBusy (take (length state.segments - 1) state.segments) → PollsEarly state state v v false
-early_none state v none = record { one = None; early = go (parted state.segments); told = tt; taken = omega arith; pending_is = refl }
+early_none state v none = record { one = None; early = go (parted state.segments); told = tt; taken = omega arith; asks = refl; pending_is = refl }
   where
     go : (state.segments ≡ []) ⊎ ((w : Writer) × (slice_get state.segments (length state.segments - 1) ≡ Some w)) → ((state.segments ≡ []) × (state ≡ state) × (◌≡◌ {A = Option Progress} None None)) ⊎ IsPolledEarly state state None
     go (inl empty) = inl (empty, refl, refl)
@@ -171,6 +172,7 @@ early_one tells state mid before between index pending first polls = record {
   early = go (parted state.segments);
   told = told_at tells polls.id polls.answer before between polls.polled;
   taken = polls.taken;
+  asks = (polls.id, polls.asks);
   pending_is = polls.pending_is;
 }
   where
@@ -187,6 +189,9 @@ all_none state mid before between pending early none = record {
   one_told = early.told;
   other_told = tt;
   taken = omega (arith, early.taken);
+  between = between;
+  first = early.asks;
+  second = refl;
   pending_is = ap (λ (b : Bool). b || false) early.pending_is;
 }
   where
@@ -209,6 +214,9 @@ all_one tells state mid new before between after index pending pending_now early
   one_told = told_earlier before between after early.one goes_later early.told;
   other_told = told_later before between after (Some polls.answer) goes (told_at tells polls.id polls.answer between after polls.polled);
   taken = omega (arith, early.taken, polls.taken);
+  between = between;
+  first = early.asks;
+  second = (polls.id, polls.asks);
   pending_is = ap (λ (b : Bool). b || pending_now) early.pending_is ∙ ap (λ (b : Bool). was_pending early.one || b) polls.pending_is;
 }
   where

@@ -22,7 +22,7 @@ use Rattle.failover_writer.specs.declared.fault.Step.TheVariants as steps
 use Rattle.failover_writer.specs.State.{State, len, acked, is_broken, broken_count}
 use Rattle.failover_writer.specs.Ranges.{side_at, AreJoined, StandsFor}
 use Rattle.failover_writer.specs.Stepping.{Verdict, IsToStay, GoesOn, starts, stays, Dies, IsUp, Releases, StepRule, dies, goes, short, moved_or_waited}
-use Rattle.failover_writer.specs.Answered.{IsTold, StepsBy}
+use Rattle.failover_writer.specs.Answered.{AsksOnce, IsTold, StepsBy}
 use Rattle.failover_writer.specs.Remaining.{polls_left}
 use Rattle.failover_writer.specs.Moves.{MayStartNext, started, nothing, PollsAll, was_pending, EndsGoing}
 use Rattle.failover_writer.proofs.Segments.{last_is}
@@ -77,23 +77,24 @@ told_later before between after (Some Done) onward told = tt
 told_later before between after (Some Failed) onward told = (told.0, omega (arith, told.1, onward.faults told.0))
 
 -- A step whose polls were told is one by its rule.
-steps_by : (old polled new : State) (before between after : DiskView) (waited : Bool) (answer : Result Step JournalFault) → calls.GoesOn between after → polls_left after ≡ polls_left between → (polls : PollsAll old polled before between waited)
+steps_by : (old polled new : State) (before between after : DiskView) (waited : Bool) (answer : Result Step JournalFault) → calls.GoesOn between after → polls_left after ≡ polls_left between → AsksOnce between after → (polls : PollsAll old polled before between waited)
     → StepRule old polls.one polls.other new answer → StepsBy old new before after answer
-steps_by old polled new before between after waited answer onward stalls polls rule = record {
+steps_by old polled new before between after waited answer onward stalls asks polls rule = record {
   one = polls.one;
   other = polls.other;
   rule = rule;
   one_told = told_later before between after polls.one onward polls.one_told;
   other_told = told_later before between after polls.other onward polls.other_told;
   taken = omega (arith, stalls, polls.taken);
+  asks = record { first_polled = polls.between; both_polled = between; first = polls.first; second = polls.second; start = asks };
 }
 
-pub rule_ended : (old polled new : State) (before between after : DiskView) (waited : Bool) (fault : JournalFault) → IsUp old → calls.GoesOn between after → polls_left after ≡ polls_left between → PollsAll old polled before between waited → EndsGoing polled new fault
+pub rule_ended : (old polled new : State) (before between after : DiskView) (waited : Bool) (fault : JournalFault) → IsUp old → calls.GoesOn between after → polls_left after ≡ polls_left between → AsksOnce between after → PollsAll old polled before between waited → EndsGoing polled new fault
     → StepsBy old new before after (Err fault)
-rule_ended old polled new before between after waited (faults.Dead side count) up onward stalls polls ends =
-    steps_by old polled new before between after waited (Err (faults.Dead side count)) onward stalls polls (dies polls.one polls.other polled new side count up polls.polls ends)
-rule_ended old polled new before between after waited faults.NoMemory up onward stalls polls ends =
-    steps_by old polled new before between after waited (Err faults.NoMemory) onward stalls polls
+rule_ended old polled new before between after waited (faults.Dead side count) up onward stalls asks polls ends =
+    steps_by old polled new before between after waited (Err (faults.Dead side count)) onward stalls asks polls (dies polls.one polls.other polled new side count up polls.polls ends)
+rule_ended old polled new before between after waited faults.NoMemory up onward stalls asks polls ends =
+    steps_by old polled new before between after waited (Err faults.NoMemory) onward stalls asks polls
     (subst (λ (s : State). StepRule old polls.one polls.other s (Err faults.NoMemory)) (sym ends) (short polls.one polls.other polled up polls.polls))
 
 answered : (one other : Option Progress) (waited : Bool) → waited ≡ (was_pending one || was_pending other) → moved_or_waited one other ≡ cond waited steps.Waited steps.Moved
@@ -115,8 +116,8 @@ answered one other waited is = go one other ∙ ap (λ (b : Bool). cond b steps.
     go (Some Failed) (Some Failed) = refl
 
 -- The release at the end of a step leaves the disk as it is.
-pub rule_went : (old polled going new : State) (before between after last : DiskView) (waited : Bool) → IsUp old → calls.GoesOn between after → polls_left after ≡ polls_left between → last ≡ after → PollsAll old polled before between waited → GoesOn polled going → Releases going new
+pub rule_went : (old polled going new : State) (before between after last : DiskView) (waited : Bool) → IsUp old → calls.GoesOn between after → polls_left after ≡ polls_left between → AsksOnce between after → last ≡ after → PollsAll old polled before between waited → GoesOn polled going → Releases going new
     → StepsBy old new before last (Ok (cond waited steps.Waited steps.Moved))
-rule_went old polled going new before between after last waited up onward stalls still polls went releases =
-    steps_by old polled new before between last waited (Ok (cond waited steps.Waited steps.Moved)) (subst (calls.GoesOn between) (sym still) onward) (ap polls_left still ∙ stalls) polls
+rule_went old polled going new before between after last waited up onward stalls asks still polls went releases =
+    steps_by old polled new before between last waited (Ok (cond waited steps.Waited steps.Moved)) (subst (calls.GoesOn between) (sym still) onward) (ap polls_left still ∙ stalls) (subst (AsksOnce between) (sym still) asks) polls
     (subst (λ (s : Step). StepRule old polls.one polls.other new (Ok s)) (answered polls.one polls.other waited polls.pending_is) (goes polls.one polls.other polled going new up polls.polls went releases))

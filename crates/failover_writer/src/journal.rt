@@ -15,7 +15,7 @@ ghost use Rattle.failover_writer.specs.declared.fault.Step.TheVariants as steps;
 ghost use Rattle.failover_writer.specs.Setting.{KeepsEnd, KeepsGoal, KeepsSegments};
 ghost use Rattle.failover_writer.specs.Remaining.{polls_left, Falls};
 ghost use Rattle.failover_writer.specs.Sound.{HasGivenUp, IsSound};
-ghost use Rattle.failover_writer.specs.Answered.{StepsBy, Settles, IsIdle, IsMarked, IsHarmed, IsSmooth, FaultsRose, PollsFell, Closes};
+ghost use Rattle.failover_writer.specs.Answered.{AsksOnce, StepsBy, Settles, IsIdle, IsMarked, IsHarmed, IsSmooth, FaultsRose, PollsFell, Closes};
 ghost use Rattle.failover_writer.specs.Keeping.{KeepsRun, RecoversTo, OthersStay, IsOpenedOn, IsOpening, KeepsBase, Passes};
 ghost use Rattle.failover_writer.specs.Closing.{Drains, Moves};
 ghost use Rattle.failover_writer.specs.Moves.{IsBusyAt, IsFirstBusy, PollsAt, PollsAll, MayStartNext, IsRestingAt, NoneRests, EndsGoing, Pushes};
@@ -334,6 +334,7 @@ impl<D: Disk> Journal<D> {
         ensures passes { Passes D.tells self.old.state self.new.state (D.view self.old.disk) (D.view self.new.disk) }
         ensures goes_on { GoesOn (D.view self.old.disk) (D.view self.new.disk) }
         ensures stalls { polls_left (D.view self.new.disk) ≡ polls_left (D.view self.old.disk) }
+        ensures asks { AsksOnce (D.view self.old.disk) (D.view self.new.disk) }
     {
         let index = self.writers.len();
         let name = SegName {
@@ -374,6 +375,7 @@ impl<D: Disk> Journal<D> {
         ensures passes { Passes D.tells self.old.state self.new.state (D.view self.old.disk) (D.view self.new.disk) }
         ensures goes_on { GoesOn (D.view self.old.disk) (D.view self.new.disk) }
         ensures stalls { polls_left (D.view self.new.disk) ≡ polls_left (D.view self.old.disk) }
+        ensures asks { AsksOnce (D.view self.old.disk) (D.view self.new.disk) }
     {
         let goal = self.goal();
         let Some(last) = self.resting() else {
@@ -471,6 +473,7 @@ impl<D: Disk> Journal<D> {
         ensures passes { Passes D.tells self.old.state self.new.state (D.view self.old.disk) (D.view self.new.disk) }
         ensures goes_on { GoesOn (D.view self.old.disk) (D.view self.new.disk) }
         ensures stalls { polls_left (D.view self.new.disk) ≡ polls_left (D.view self.old.disk) }
+        ensures asks { AsksOnce (D.view self.old.disk) (D.view self.new.disk) }
     {
         let Some(current) = self.writers.last() else {
             if self.is_behind() {

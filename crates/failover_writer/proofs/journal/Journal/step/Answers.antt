@@ -1,11 +1,12 @@
 -- A dead journal and an idle one stay as they are, and every other one does what its rule says.
-use Rattle.std.proofs.Common.{◌≡◌, Some, None, Ok, ap, sym, subst, refl, arith}
+use Rattle.std.proofs.Common.{◌≡◌, false, Some, None, Ok, ap, sym, subst, refl, arith}
+use Rattle.disk_face.specs.View.{DiskView}
 use Rattle.disk_face.specs.Calls.{GoesOn}
 use Rattle.failover_writer.specs.declared.fault.Step.TheVariants as steps
 use Rattle.failover_writer.specs.State.{Held}
 use Rattle.failover_writer.specs.Ranges.{Stands, KeepsRecords}
 use Rattle.failover_writer.specs.Stepping.{was_dead, idle}
-use Rattle.failover_writer.specs.Answered.{StepsBy}
+use Rattle.failover_writer.specs.Answered.{AsksInTurn, StepsBy}
 use Rattle.failover_writer.specs.Keeping.{Passes}
 use Rattle.failover_writer.proofs.Passing.{passes_still}
 use Rattle.failover_writer.proofs.Stopped.{base_kept, run_at_moments, run_at_exit, base_at_moments, base_at_exit}
@@ -13,6 +14,10 @@ use Rattle.failover_writer.proofs.Stepped.{idle_of, waited_of, dead_of, harmed_o
 use Rattle.failover_writer.proofs.Closing.{falls}
 use Rattle.failover_writer.proofs.Settling.{goal_still, goal_kept, records_are}
 use Rattle.failover_writer.proofs.journal.Journal.step.Goals as goal
+
+-- Nothing is asked.
+no_calls : (v : DiskView) → AsksInTurn None None v v
+no_calls v = record { first_polled = v; both_polled = v; first = refl; second = refl; start = (false, refl) }
 
 pub returns-in-Some-clause-rule : goal.returns-in-Some-clause-rule
 returns-in-Some-clause-rule g c = record {
@@ -22,6 +27,7 @@ returns-in-Some-clause-rule g c = record {
   one_told = tt;
   other_told = tt;
   taken = omega arith;
+  asks = no_calls (g.D.Disk.view c.args.self.now.disk);
 }
 
 pub returns-then-not-is_up-clause-rule : goal.returns-then-not-is_up-clause-rule
@@ -33,6 +39,7 @@ returns-then-not-is_up-clause-rule g c =
       one_told = tt;
       other_told = tt;
       taken = omega arith;
+      asks = no_calls (g.D.Disk.view c.args.self.now.disk);
     })
 
 -- the step that `advance` did
