@@ -49,7 +49,7 @@ below_some from n (b ∷ batches) up le less = elim (two_cases n (end_of b)) [
 
 -- ---- rows that are accepted
 
-accepted_none : IsAccepted []
+pub accepted_none : IsAccepted []
 accepted_none [] batch after e = absurd cc
 accepted_none (b ∷ before) batch after e = absurd cc
 
@@ -70,6 +70,20 @@ accepted_push all batch a new before x after e = of (places all batch [] before 
     ))
     of (one p q r) = subst (λ xs. IsNewOrKept xs x) p (subst (λ b. IsNewOrKept all b) q new)
     of (later mid is) = a before x mid is
+
+-- batches in the order of their numbers are accepted
+ascending_cut : (from : ℕ) (before : List Batch) (batch : Batch) (after : List Batch) → IsAscending from (before ++ batch ∷ after) → IsAscending from before × (end_after from before ≤ batch.first)
+unfolding IsAscending end_after
+ascending_cut from [] batch after up = (tt, up.0)
+ascending_cut from (b ∷ before) batch after up = let rest = ascending_cut (end_of b) before batch after up.2 in ((up.0, up.1, rest.0), rest.1)
+
+ascending_accepted : (batches : List Batch) → IsAscending 0 batches → IsAccepted batches
+ascending_accepted batches up before batch after e =
+    let cut = ascending_cut 0 before batch after (subst (IsAscending 0) e up) in inr (λ earlier at. omega (arith, ends_within 0 before earlier cut.0 at, cut.1))
+
+-- what is kept is what it is itself merged to
+pub keeps_own : (all : List Batch) (kept : Kept) → KeepsLenient all kept → KeepsLenient kept.batches kept
+keeps_own all kept k = record { ascending = k.ascending; same = λ batch. (λ h. h, λ h. h); accepted = ascending_accepted kept.batches k.ascending; next_is = k.next_is }
 
 -- ---- the steps of the pass
 

@@ -12,3 +12,4 @@ pub mod Answered
 pub mod OneLenient
 pub mod LenientPass
 pub mod LenientRefusals
+pub mod LenientRows

@@ -26,6 +26,10 @@ pub record MergedLenient (segments : List (List Batch)) (merged : List Batch) : 
   pub same : (batch : Batch) → Contains merged batch ↔ Contains (all_of segments) batch
   pub accepted : IsAccepted (all_of segments)
 
+-- The segments are merged to these batches.
+abbrev pub AreMergedOf : List SegmentRead → List Batch → Type 0
+AreMergedOf segments merged = MergedLenient (batches_in segments) merged
+
 -- The first batch that is neither new nor kept, in the segment with this index.
 pub record IsLenientConflict (segments : List SegmentRead) (index found : ℕ) : Type 0 where
   pub before : List SegmentRead

@@ -77,3 +77,8 @@ pub record KeepsLenient (all : List Batch) (kept : Kept) : Type 0 where
 abbrev pub LenientAnswers : List SegmentRead → SegmentRead → Kept → Result (Unit {0}) MergeFault → Type 0
 LenientAnswers before segment kept (Ok done) = KeepsLenient (all_of (batches_in (before ++ segment ∷ []))) kept
 LenientAnswers before segment kept (Err fault) = (later : List SegmentRead) → MemoryOr (IsLenientlyRefused (before ++ segment ∷ later)) fault
+
+-- What merging more segments answers.
+abbrev pub RowAnswers : List SegmentRead → List SegmentRead → Kept → Result (Unit {0}) MergeFault → Type 0
+RowAnswers before row kept (Ok done) = KeepsLenient (all_of (batches_in (before ++ row))) kept
+RowAnswers before row kept (Err fault) = MemoryOr (IsLenientlyRefused (before ++ row)) fault

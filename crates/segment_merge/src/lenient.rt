@@ -1,20 +1,21 @@
 //! Merging that accepts gaps, in one pass over the batches of a row.
 
-ghost use Rattle.std.specs.Prelude.{ℕ, List, IfErr, IfOk};
+ghost use Rattle.std.specs.Prelude.{◌≡◌, ◌++◌, [], ℕ, List, All, IfErr, IfOk};
 ghost use Rattle.batch_repr.specs.declared.batch.Batch.{Batch};
 ghost use Rattle.segment_merge.specs.declared.segment.SegmentRead.{SegmentRead};
 ghost use Rattle.segment_merge.specs.declared.fault.MergeFault.TheVariants as faults;
 ghost use Rattle.segment_merge.specs.Rows.{IsNumbered, IsNumberedSegment, IsRow, batches_in};
 ghost use Rattle.segment_merge.specs.Merging.{all_of};
-ghost use Rattle.segment_merge.specs.Lenient.{MergedLenient, IsLenientConflict, IsLenientlyRefused};
+ghost use Rattle.segment_merge.specs.Lenient.{MergedLenient, AreMergedOf, IsLenientConflict, IsLenientlyRefused};
 ghost use Rattle.segment_merge.specs.Returned.{OkOrMemory, ErrOrMemory, MemoryOr, IsNoGap};
-ghost use Rattle.segment_merge.specs.Steps.{KeepsLenient, LenientSteps, LenientAnswers};
+ghost use Rattle.segment_merge.specs.Steps.{KeepsLenient, LenientSteps, LenientAnswers, RowAnswers};
 
 use crate::fault::MergeFault;
 use crate::kept::Kept;
 use crate::segment::{SegmentRead, Segments};
 use batch_repr::{Batch, Batches};
 use std::alloc::Global;
+use std::marker::Model;
 
 /// What the next batch does. It is appended where it begins behind all that is kept, and passed over where it is
 /// kept already.
@@ -45,6 +46,67 @@ fn merge_segment(kept: &mut Kept, segment: SegmentRead) -> Result<(), MergeFault
     Ok(())
 }
 
+/// Merges more segments into what was kept of those before them.
+fn merge_row(kept: &mut Kept, row: Segments) -> Result<(), MergeFault>
+    requires { All IsNumberedSegment row }
+    ensures { (before : List SegmentRead) → KeepsLenient (all_of (batches_in before)) kept.old → RowAnswers before row kept.new result }
+{
+    for segment in row.into_vec() {
+        merge_segment(kept, segment)?;
+    }
+    Ok(())
+}
+
+/// A merge that accepts gaps and goes on, row by row. A contract sees the batches that it has merged so far.
+#[derive(Drop)]
+pub struct LenientMerge {
+    kept: Kept,
+}
+
+impl Model for LenientMerge {
+    ghost use Rattle.std.specs.Prelude.{List};
+    ghost use Rattle.batch_repr.specs.declared.batch.Batch.{Batch};
+    ghost use Rattle.segment_merge.specs.Steps.{KeepsLenient};
+
+    ghost Value = { List Batch };
+
+    ghost view = { λ merge. merge.kept.batches };
+
+    ghost invariant = { λ merge. KeepsLenient merge.kept.batches merge.kept };
+}
+
+impl LenientMerge {
+    /// Nothing is merged yet.
+    pub fn new(alloc: Global) -> LenientMerge
+        ensures { result ≡ [] }
+    {
+        LenientMerge {
+            kept: Kept::new(alloc, 0),
+        }
+    }
+
+    /// Goes on with more segments, in the time of a pass over their batches. Whatever segments were merged before,
+    /// the answer is that of `merge_lenient` for these and the new ones as one row.
+    pub fn add(self, row: Segments) -> Result<LenientMerge, MergeFault>
+        requires { All IsNumberedSegment row }
+        ensures found { (before : List SegmentRead) → AreMergedOf before self → IfOk result (AreMergedOf (before ++ row)) }
+        ensures merged { (before : List SegmentRead) (merged : List Batch) → AreMergedOf before self → AreMergedOf (before ++ row) merged → OkOrMemory result merged }
+        ensures refused { (before : List SegmentRead) → AreMergedOf before self → IfErr result (MemoryOr (IsLenientlyRefused (before ++ row))) }
+        ensures conflict { (before : List SegmentRead) (index number : ℕ) → AreMergedOf before self → IsLenientConflict (before ++ row) index number → ErrOrMemory result (faults.Conflict index number) }
+    {
+        let mut kept = self.kept;
+        merge_row(&mut kept, row)?;
+        Ok(LenientMerge { kept })
+    }
+
+    /// Gives the batches up.
+    pub fn into_batches(self) -> Batches
+        ensures { result ≡ self }
+    {
+        self.kept.into_batches()
+    }
+}
+
 /// The batches of a row of segments, without repeated ones, whatever numbers are left out between them. Batches are
 /// moved, not copied, and each is compared with one other at most.
 ///
@@ -58,9 +120,6 @@ pub fn merge_lenient(alloc: Global, segs: Segments) -> Result<Batches, MergeFaul
     ensures conflict { (index number : ℕ) → IsLenientConflict segs index number → ErrOrMemory result (faults.Conflict index number) }
     ensures no_gap { IfErr result IsNoGap }
 {
-    let mut kept = Kept::new(alloc, 0);
-    for segment in segs.into_vec() {
-        merge_segment(&mut kept, segment)?;
-    }
-    Ok(kept.into_batches())
+    let merge = LenientMerge::new(alloc).add(segs)?;
+    Ok(merge.into_batches())
 }

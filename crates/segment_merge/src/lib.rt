@@ -3,7 +3,7 @@
 //! Stands on `batch_repr` for the batches and on `wal_base` for lists and want of memory. The layer above uses one
 //! contract: `merge` gives the one list that is contiguous from a number and has exactly the batches of all
 //! segments, and refuses a row exactly where there is none, at its first wrong batch. `merge_lenient` is the same
-//! for rows with gaps.
+//! for rows with gaps, and `LenientMerge` goes on with one from row to row.
 //!
 //! What holds of each value here: of the batches that were kept so far, each takes a number and begins at or above
 //! the end of the one before it.
@@ -20,7 +20,7 @@ mod segment;
 
 pub use fault::MergeFault;
 pub use laws::{rows_have_one_answer, rows_with_gaps_have_one_answer};
-pub use lenient::merge_lenient;
+pub use lenient::{LenientMerge, merge_lenient};
 pub use merging::merge;
 pub use segment::{SegmentRead, Segments};
 

@@ -3,7 +3,7 @@ ghost use Rattle.segment_merge.specs.Rows.{IsNumbered, IsRow};
 
 use crate::numbers::count;
 use crate::same::same_batch;
-use crate::{MergeFault, SegmentRead, Segments, merge, merge_lenient};
+use crate::{LenientMerge, MergeFault, SegmentRead, Segments, merge, merge_lenient};
 use batch_repr::{Batch, Batches, NUMBER_MAX};
 use std::alloc::Global;
 use std::process::Abort;
@@ -222,4 +222,34 @@ fn a_segment_that_repeats_itself_is_accepted_with_gaps_alone(rt: HostRuntime) {
         merge_lenient(alloc, row(&rt, alloc, segments.as_slice())),
         &batches[..1],
     );
+}
+
+#[test]
+fn a_merge_with_gaps_goes_on_from_row_to_row(rt: HostRuntime) {
+    let alloc = rt.alloc();
+    let batches = [(10, b'1'), (12, b'2'), (15, b'3')];
+    // The second row repeats a batch of the first one, under the same index.
+    let first = row(&rt, alloc, [(0, &batches[..2])].as_slice());
+    let second = row(&rt, alloc, [(0, &batches[1..])].as_slice());
+    let merged = LenientMerge::new(alloc)
+        .add(first)
+        .and_then(|so_far| so_far.add(second));
+    gives(
+        &rt,
+        alloc,
+        merged.map(|so_far| so_far.into_batches()),
+        batches.as_slice(),
+    );
+    // The third one has another batch 12. Its index is told.
+    let first = row(&rt, alloc, [(0, &batches[..2])].as_slice());
+    let other = [(15, b'3'), (12, b'9')];
+    let third = row(&rt, alloc, [(4, other.as_slice())].as_slice());
+    let refused = LenientMerge::new(alloc)
+        .add(first)
+        .and_then(|so_far| so_far.add(third));
+    let fault = MergeFault::Conflict {
+        index: 4,
+        first: 12,
+    };
+    assert_eq!(rt; refused.err(), Some(fault));
 }
