@@ -1,7 +1,7 @@
 -- Segments that are added one after another, and the rows that they make.
 use Rattle.std.proofs.Common.{◌≡◌, ℕ, zero, suc, ◌+◌, ◌≤◌, ◌<◌, Bool, List, [], ◌∷◌, ◌++◌, IsTrue, map, length, take, drop, get_or, subst, sym, ap, ◌∙◌, refl, arith, append_assoc}
 use Rattle.std.specs.List.{AllZip, AllByRecursion}
-use Rattle.std.proofs.lemmas.List.{append-nil, length-append, length_push, length-take-le, get_or_append_left, get_or_push, take_more, drop_more, take-append-drop}
+use Rattle.std.proofs.lemmas.List.{append-nil, length-append, length_push, get_or_append_left, get_or_push, take_more, drop_more, take-append-drop}
 use Rattle.std.proofs.lemmas.List.Elements.{All-push, All-nil, All-from_recursion, recursion_from_All}
 use Rattle.batch_repr.specs.declared.batch.Batch.{Batch}
 use Rattle.segment_merge.specs.declared.segment.SegmentRead.{SegmentRead}
@@ -13,10 +13,10 @@ use Rattle.wal_recovery.specs.declared.listing.Found.{Found}
 use Rattle.wal_recovery.specs.declared.reports.SegReport.{SegReport}
 use Rattle.wal_recovery.specs.Listing.{Stored, AreByIndex}
 use Rattle.wal_recovery.specs.Recovering.{counted}
-use Rattle.wal_recovery.specs.Refused.{by_index, by_place}
+use Rattle.wal_recovery.specs.Refused.{by_index}
 use Rattle.wal_recovery.specs.Answers.{DiskMemoryOr}
 use Rattle.wal_recovery.specs.Rows.{place_of, bytes_at, stored_in}
-use Rattle.wal_recovery.specs.Gathered.{IsAsListed, AreAsListed, IsBadIn, IsFirstBadOf, read_as, counted_in, IsNumberedReport, AddsSegment, AddsSegments, GathersWal, GathersAll}
+use Rattle.wal_recovery.specs.Gathered.{IsAsListed, AreAsListed, IsBadIn, IsFirstBadOf, read_as, counted_in, IsNumberedReport, AddsSegment, AddsSegments, GathersWal}
 
 zip_push : {A B : Type 0} (R : A → B → Type 0) (xs : List A) (ys : List B) (x : A) (y : B) → AllZip R xs ys → R x y → AllZip R (xs ++ x ∷ []) (ys ++ y ∷ [])
 zip_push R [] [] x y h r = (r, tt)
@@ -72,13 +72,6 @@ module _ (tells : Bool) (files : Files) where
   by_index_push (q ∷ segments) [] s batches e = absurd (omega (arith, e))
   by_index_push (q ∷ segments) (b ∷ row) s batches e = ap (λ (l : List SegmentRead). record { index = q.index; batches = b } ∷ l) (by_index_push segments row s batches (omega (arith, e)))
 
-  by_place_push : (n : ℕ) (rows : List (List Batch)) (batches : List Batch) → by_place n (rows ++ batches ∷ []) ≡ by_place n rows ++ record { index = n + length rows; batches = batches } ∷ []
-  by_place_push n [] batches = let e : n ≡ n + 0 = omega arith in ap (λ (k : ℕ). record { index = k; batches = batches } ∷ []) e
-  by_place_push n (b ∷ rows) batches =
-      let e : suc n + length rows ≡ n + length (b ∷ rows) = omega arith in
-      ap (λ (l : List SegmentRead). record { index = n; batches = b } ∷ l)
-      (by_place_push (suc n) rows batches ∙ ap (λ (k : ℕ). by_place (suc n) rows ++ record { index = k; batches = batches } ∷ []) e)
-
   pub counted_length : (own : List SegReport) → length (counted_in own) ≡ length own
   counted_length [] = refl
   counted_length (r ∷ own) = ap suc (counted_length own)
@@ -104,23 +97,6 @@ module _ (tells : Bool) (files : Files) where
         ∙ ap (by_index (map (stored_in files) (front ++ f ∷ []))) (sym (mapped_push (λ (r : SegReport). counted r.batches) a.added.own b.report));
   }
 
-  pub all_none : (old : List SegReport) → GathersAll tells files [] old old []
-  unfolding adds_none
-  all_none old = record { added = adds_none old; rows = refl }
-
-  pub all_more : (front : List Found) (f : Found) (place : ℕ) (old mid new : List SegReport) (row longer : List SegmentRead) → GathersAll tells files front old mid row → AddsSegment tells files f place mid new row longer → place ≡ length front
-      → GathersAll tells files (front ++ f ∷ []) old new longer
-  unfolding adds_more
-  all_more front f place old mid new row longer a b at = record {
-    added = adds_more front f place old mid new row longer a.added b;
-    rows =
-        let here : place ≡ 0 + length (counted_in a.added.own) = let many : length (counted_in a.added.own) ≡ length front = counted_length a.added.own ∙ a.added.as_many in omega (arith, at, many) in
-        b.rows ∙ ap (λ (l : List SegmentRead). l ++ read_as place b.report ∷ []) a.rows
-        ∙ ap (λ (k : ℕ). by_place 0 (counted_in a.added.own) ++ record { index = k; batches = counted b.report.batches } ∷ []) here
-        ∙ sym (by_place_push 0 (counted_in a.added.own) (counted b.report.batches))
-        ∙ ap (by_place 0) (sym (mapped_push (λ (r : SegReport). counted r.batches) a.added.own b.report));
-  }
-
   -- ---- the rows are fit to be merged
 
   index_rises : (low : ℕ) (segments : List Stored) (row : List (List Batch)) → AreByIndex low segments → Rises low (by_index segments row)
@@ -129,18 +105,10 @@ module _ (tells : Bool) (files : Files) where
   index_rises low (s ∷ segments) [] by = tt
   index_rises low (s ∷ segments) (b ∷ row) by = (by.0, index_rises (suc s.index) segments row by.1)
 
-  place_rises : (n : ℕ) (rows : List (List Batch)) → Rises n (by_place n rows)
-  place_rises n [] = tt
-  place_rises n (b ∷ rows) = (omega arith, place_rises (suc n) rows)
-
   index_numbered : (segments : List Stored) (own : List SegReport) → AllByRecursion IsNumberedReport own → AllByRecursion IsNumberedSegment (by_index segments (counted_in own))
   index_numbered [] own h = tt
   index_numbered (s ∷ segments) [] h = tt
   index_numbered (s ∷ segments) (r ∷ own) h = (h.0, index_numbered segments own h.1)
-
-  place_numbered : (n : ℕ) (own : List SegReport) → AllByRecursion IsNumberedReport own → AllByRecursion IsNumberedSegment (by_place n (counted_in own))
-  place_numbered n [] h = tt
-  place_numbered n (r ∷ own) h = (h.0, place_numbered (suc n) own h.1)
 
   pub wal_row : (segments : List Found) (old new : List SegReport) (row : List SegmentRead) → AreByIndex 0 (map (stored_in files) segments) → GathersWal tells files segments old new row → IsRow row
   wal_row segments old new row by g = subst IsRow (sym g.rows) (record {
@@ -149,21 +117,7 @@ module _ (tells : Bool) (files : Files) where
         (index_numbered (map (stored_in files) segments) g.added.own (recursion_from_All IsNumberedReport g.added.own g.added.numbered));
   })
 
-  pub all_row : (segments : List Found) (old new : List SegReport) (row : List SegmentRead) → GathersAll tells files segments old new row → IsRow row
-  all_row segments old new row g = subst IsRow (sym g.rows) (record {
-    indexes = rises_ascend 0 (by_place 0 (counted_in g.added.own)) (place_rises 0 (counted_in g.added.own));
-    numbered = All-from_recursion IsNumberedSegment (by_place 0 (counted_in g.added.own)) (place_numbered 0 g.added.own (recursion_from_All IsNumberedReport g.added.own g.added.numbered));
-  })
-
   -- ---- the segment at a place of a list
-
-  pub all_step : (before : Files) → before ≡ files → (segments : List Found) (i : ℕ) (d : Found) (place : ℕ) (old mid new : List SegReport) (row longer : List SegmentRead) → i < length segments → place ≡ i → GathersAll tells files (take i segments) old mid row
-      → AddsSegment tells before (get_or segments i d) place mid new row longer → GathersAll tells files (take (i + 1) segments) old new longer
-  all_step before same segments i d place old mid new row longer lt at a added =
-      let b : AddsSegment tells files (get_or segments i d) place mid new row longer = subst (λ (fs : Files). AddsSegment tells fs (get_or segments i d) place mid new row longer) same added in
-      let front : length (take i segments) ≡ i = length-take-le i segments (omega (arith, lt)) in
-      subst (λ (l : List Found). GathersAll tells files l old new longer) (sym (take_more segments i d lt))
-      (all_more (take i segments) (get_or segments i d) place old mid new row longer a b (at ∙ sym front))
 
   pub wal_step : (before : Files) → before ≡ files → (segments : List Found) (i : ℕ) (d : Found) (old mid new : List SegReport) (row longer : List SegmentRead) → i < length segments → GathersWal tells files (take i segments) old mid row
       → AddsSegment tells before (get_or segments i d) (get_or segments i d).name.index mid new row longer → GathersWal tells files (take (i + 1) segments) old new longer

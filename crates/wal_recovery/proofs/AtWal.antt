@@ -45,7 +45,7 @@ unfolding ReportOnAll
 reports_none files wals = refl
 
 module _ (files : Files) where
-  cut_at : (wals : List FoundWal) (i : ℕ) (wal : FoundWal) → i < length wals → wal ≡ get_or wals i wal
+  pub cut_at : (wals : List FoundWal) (i : ℕ) (wal : FoundWal) → i < length wals → wal ≡ get_or wals i wal
       → (after : List Wal) × (wals_in files wals ≡ wals_in files (take i wals) ++ wal_in files wal ∷ after)
   cut_at [] i wal lt is = absurd (omega (arith, lt))
   cut_at (w ∷ wals) zero wal lt is = (wals_in files wals, ap (λ (x : FoundWal). wal_in files x ∷ wals_in files wals) (sym is))
@@ -64,7 +64,7 @@ module _ (files : Files) where
         (subst (λ (l : List Wal). Contains l (wal_in files wal)) (sym cut.1) (Contains-append_right (wals_in files (take i wals)) (wal_in files wal ∷ cut.0) (wal_in files wal) (within_head (wal_in files wal) cut.0)))
 
     -- it is as it was listed
-    listed_at : AreListedWals files wals → AreAsListed files wal.segments.items
+    pub listed_at : AreListedWals files wals → AreAsListed files wal.segments.items
     listed_at listed = at_place (λ (w : FoundWal). AreAsListed files w.segments.items) wals i wal at listed.as_listed
 
     -- those up to it merge

@@ -1,5 +1,5 @@
 -- What was gathered of segments, as rows that a merge is given and as reports.
-use Rattle.std.proofs.Common.{◌≡◌, ℕ, suc, List, [], ◌∷◌, map, Contains, length, subst, sym, ap, ◌∙◌, refl}
+use Rattle.std.proofs.Common.{◌≡◌, ℕ, List, [], ◌∷◌, map, Contains, length, subst, sym, ap, ◌∙◌, refl}
 use Rattle.std.specs.List.{AllZip}
 use Rattle.batch_repr.specs.declared.batch.Batch.{Batch}
 use Rattle.segment_merge.specs.Rows.{batches_in}
@@ -11,7 +11,7 @@ use Rattle.wal_recovery.specs.declared.reports.SegReport.{SegReport}
 use Rattle.wal_recovery.specs.declared.wals.FoundWal.{FoundWal}
 use Rattle.wal_recovery.specs.Listing.{Stored}
 use Rattle.wal_recovery.specs.Recovering.{log_number, counted, HoldsBatches, HoldRow, WalMerges}
-use Rattle.wal_recovery.specs.Refused.{by_index, by_place}
+use Rattle.wal_recovery.specs.Refused.{by_index}
 use Rattle.wal_recovery.specs.Reports.{IsReport}
 use Rattle.wal_recovery.specs.Rows.{place_of, bytes_at, stored_in, wal_in}
 use Rattle.wal_recovery.specs.Gathered.{IsAsListed, IsReportOf, counted_in}
@@ -68,11 +68,6 @@ batches_by_index log [] [] h = refl
 batches_by_index log [] (b ∷ row) h = absurd h
 batches_by_index log (s ∷ segments) [] h = absurd h
 batches_by_index log (s ∷ segments) (b ∷ row) h = ap (λ (l : List (List Batch)). b ∷ l) (batches_by_index log segments row h.1)
-
--- and so has a row under places
-pub batches_by_place : (n : ℕ) (rows : List (List Batch)) → batches_in (by_place n rows) ≡ rows
-batches_by_place n [] = refl
-batches_by_place n (batches ∷ rows) = ap (λ (l : List (List Batch)). batches ∷ l) (batches_by_place (suc n) rows)
 
 -- so a WAL whose row was merged is merged
 pub wal_merged : (files : Files) (first : ℕ) (wal : FoundWal) (own : List SegReport) (merged : List Batch) → AreOfWal wal.number wal.segments.items → AreReportsOf files wal.segments.items own

@@ -13,10 +13,10 @@ pub mod Gathering
 pub mod Adding
 pub mod Strictly
 pub mod WalsListed
-pub mod Placed
 pub mod Duplicates
 pub mod OneBad
 pub mod OneRefusal
+pub mod Leniently
 pub mod OneLenient
 pub mod Answered
 pub mod NextWals
@@ -24,4 +24,4 @@ pub mod Rested
 pub mod OneWal
 pub mod AtWal
 pub mod ByWal
-pub mod AllWals
+pub mod Limits

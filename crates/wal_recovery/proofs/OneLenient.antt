@@ -1,24 +1,27 @@
--- Where gaps are accepted, directories have one answer: they are merged as one row, and the first bad record comes before each conflict.
-use Rattle.std.proofs.Common.{◌≡◌, ℕ, List, [], ◌∷◌, ◌++◌, length, sym, subst, ap, ◌∙◌, arith}
-use Rattle.std.proofs.lemmas.List.{length-append}
+-- Where gaps are accepted, directories have one answer. Of two WALs that are refused the lesser is merged on the way to the other.
+use Rattle.std.proofs.Common.{◌≡◌, ◌⊎◌, inl, inr, ℕ, List, [], ◌∷◌, ◌++◌, map, sym, subst, ap, ◌∙◌, refl, append_assoc}
+use Rattle.std.proofs.lemmas.List.{map-append}
 use Rattle.batch_repr.specs.declared.batch.Batch.{Batch}
-use Rattle.batch_repr.specs.declared.fault.BatchFault.{BatchFault}
+use Rattle.segment_merge.specs.declared.segment.SegmentRead.{SegmentRead}
 use Rattle.segment_merge.specs.declared.fault.MergeFault.TheVariants as merges
+use Rattle.segment_merge.specs.Rows.{batches_in}
 use Rattle.segment_merge.specs.Lenient.{MergedLenient, IsLenientConflict}
 use Rattle.segment_merge.proofs.OneLenient.{one_lenient}
 use Rattle.segment_merge.proofs.LenientRefusals.{merged_or_conflict, one_conflict}
 use Rattle.segment_merge.proofs.Places.{Places, sooner, one, later, places}
-use Rattle.disk_face.specs.declared.SegName.{SegName}
 use Rattle.disk_face.specs.View.{Dirs}
 use Rattle.wal_recovery.specs.declared.fault.RecoverFault.{RecoverFault}
 use Rattle.wal_recovery.specs.declared.fault.RecoverFault.TheVariants as faults
-use Rattle.wal_recovery.specs.Listing.{Wal, name_in, IsListingOf, IsDuplicate}
-use Rattle.wal_recovery.specs.Recovering.{log_number, HoldRow, HoldAll, RecoversLenient}
-use Rattle.wal_recovery.specs.Refused.{by_place, names_of, IsNamed, IsBadBatch, IsFirstBadBatch, IsConflictOfAll, IsLenientlyRefused}
-use Rattle.wal_recovery.proofs.Gathering.{batches_by_place}
+use Rattle.wal_recovery.specs.Listing.{Wal}
+use Rattle.wal_recovery.specs.Recovering.{log_number, HoldAll, RecoversLenient}
+use Rattle.wal_recovery.specs.Refused.{by_index, segments_of, ReachesLenient, IsLenientlyRefused}
+use Rattle.wal_recovery.specs.OneWal.{HoldsRow, IsLenientlyRefusedWal}
+use Rattle.wal_recovery.proofs.Gathering.{batches_by_index}
+use Rattle.wal_recovery.proofs.Leniently.{all_batches}
 use Rattle.wal_recovery.proofs.Duplicates.{listed_or_twice, one_duplicate}
 use Rattle.wal_recovery.proofs.OneBad.{held_or_bad, one_bad_batch}
 use Rattle.wal_recovery.proofs.OneAnswer.{one_listing, one_row}
+use Rattle.wal_recovery.proofs.OneRefusal.{IsTwiceNamed, wal_of, same_row, bad_or_held, one_named}
 use Rattle.wal_recovery.proofs.OneReading as reading
 
 -- ---- the rows of all WALs
@@ -31,10 +34,26 @@ one_all (wal ∷ wals) rows others (own, more, here, rest, is) (own2, more2, her
     let mores : more ≡ more2 = one_all wals more more2 rest rest2 in
     is ∙ ap (λ (l : List (List Batch)). l ++ more) owns ∙ ap (λ (l : List (List Batch)). own2 ++ l) mores ∙ sym is2
 
-row_at : (before : List Wal) (wal : Wal) (after : List Wal) (rows : List (List Batch)) → HoldAll (before ++ wal ∷ after) rows → (row : List (List Batch)) × HoldRow (log_number wal.number) wal.segments row
+-- the rows of WALs, up to one of them
+record HoldsUpTo (before : List Wal) (wal : Wal) (rows : List (List Batch)) : Type 0 where
+  earlier : List (List Batch)
+  held : HoldsRow wal
+  more : List (List Batch)
+  hold : HoldAll before earlier
+  is : rows ≡ earlier ++ (held.row ++ more)
+
+holds_up_to : (before : List Wal) (wal : Wal) (after : List Wal) (rows : List (List Batch)) → HoldAll (before ++ wal ∷ after) rows → HoldsUpTo before wal rows
 unfolding HoldAll
-row_at [] wal after rows (own, more, here, rest, is) = (own, here)
-row_at (w ∷ before) wal after rows (own, more, here, rest, is) = row_at before wal after more rest
+holds_up_to [] wal after rows (own, more, here, rest, is) = record { earlier = []; held = record { row = own; holds = here }; more = more; hold = refl; is = is }
+holds_up_to (w ∷ before) wal after rows (own, more, here, rest, is) =
+    let r = holds_up_to before wal after more rest in
+    record {
+      earlier = own ++ r.earlier;
+      held = r.held;
+      more = r.more;
+      hold = (own, r.earlier, here, r.hold, refl);
+      is = is ∙ ap (λ (l : List (List Batch)). own ++ l) r.is ∙ sym (append_assoc own r.earlier (r.held.row ++ r.more));
+    }
 
 -- ---- what recovers
 
@@ -43,98 +62,144 @@ lenient_once dirs a b h k =
     let held : HoldAll k.wals h.rows = subst (λ (w : List Wal). HoldAll w h.rows) (one_listing dirs h.wals k.wals h.listed k.listed) h.hold in
     one_lenient k.rows a b (subst (λ (r : List (List Batch)). MergedLenient r a) (one_all k.wals h.rows k.rows held k.hold) h.merges) k.merges
 
--- ---- the first bad record
+-- ---- one WAL behind those before it
 
-abbrev bad_wal : (dirs : Dirs) (n i p : ℕ) (f : BatchFault) → IsFirstBadBatch dirs n i p f → Wal
-bad_wal dirs n i p f bad = record { number = n; segments = bad.segments }
+-- a row that goes on behind a conflict has it too
+conflict_on : (row more : List SegmentRead) (index first : ℕ) → IsLenientConflict row index first → IsLenientConflict (row ++ more) index first
+conflict_on row more index first w = record {
+  before = w.before;
+  segment = w.segment;
+  after = w.after ++ more;
+  row = ap (λ (l : List SegmentRead). l ++ more) w.row ∙ append_assoc w.before (w.segment ∷ w.after) more;
+  index_is = w.index_is;
+  front = w.front;
+  batch = w.batch;
+  back = w.back;
+  cut = w.cut;
+  right = w.right;
+  wrong = w.wrong;
+  found_is = w.found_is;
+}
 
--- no WALs hold batches that go on behind it
-bad_behind : (dirs : Dirs) (n i p : ℕ) (f : BatchFault) (bad : IsFirstBadBatch dirs n i p f) (wals mid : List Wal) (rows : List (List Batch)) → wals ≡ bad.before ++ bad_wal dirs n i p f bad ∷ mid → HoldAll wals rows → ⊥
-bad_behind dirs n i p f bad wals mid rows is h =
-    let row = row_at bad.before (bad_wal dirs n i p f bad) mid rows (subst (λ (w : List Wal). HoldAll w rows) is h) in
-    held_or_bad (log_number n) bad.segments row.0 i p f row.1 bad.bad
+-- rows as segments
+abbrev plain : List (List Batch) → List SegmentRead
+plain rows = map (λ (b : List Batch). record { index = 0; batches = b }) rows
 
-held_or_bad_of_all : (dirs : Dirs) (n i p : ℕ) (f : BatchFault) (wals : List Wal) (rows : List (List Batch)) → IsFirstBadBatch dirs n i p f → IsListingOf dirs wals → HoldAll wals rows → ⊥
-held_or_bad_of_all dirs n i p f wals rows bad listed h =
-    bad_behind dirs n i p f bad wals bad.after rows (one_listing dirs wals (bad.before ++ bad_wal dirs n i p f bad ∷ bad.after) listed bad.listed) h
+batches_plain : (rows : List (List Batch)) → batches_in (plain rows) ≡ rows
+batches_plain [] = refl
+batches_plain (b ∷ rows) = ap (λ (l : List (List Batch)). b ∷ l) (batches_plain rows)
 
-one_bad : (dirs : Dirs) (n i p : ℕ) (f : BatchFault) (m j q : ℕ) (g : BatchFault) → IsFirstBadBatch dirs n i p f → IsFirstBadBatch dirs m j q g → faults.BadBatch n i p f ≡ faults.BadBatch m j q g
-one_bad dirs n i p f m j q g a b =
-    of_places (places a.before (bad_wal dirs n i p f a) a.after b.before (bad_wal dirs m j q g b) b.after
-    (one_listing dirs (a.before ++ bad_wal dirs n i p f a ∷ a.after) (b.before ++ bad_wal dirs m j q g b ∷ b.after) a.listed b.listed))
+merged_or_conflict_behind : (before : List Wal) (wal : Wal) (rows more : List (List Batch)) (held : HoldsRow wal) (merged : List Batch) (index first : ℕ) → HoldAll before rows → MergedLenient (rows ++ (held.row ++ more)) merged
+    → IsLenientConflict (by_index (segments_of before) rows ++ by_index wal.segments held.row) index first → ⊥
+merged_or_conflict_behind before wal rows more held merged index first hold m wrong =
+    let front = by_index (segments_of before) rows in
+    let here = by_index wal.segments held.row in
+    let is : batches_in ((front ++ here) ++ plain more) ≡ rows ++ (held.row ++ more) =
+    map-append (λ (s : SegmentRead). s.batches) (front ++ here) (plain more)
+    ∙ ap (λ (l : List (List Batch)). l ++ batches_in (plain more)) (map-append (λ (s : SegmentRead). s.batches) front here)
+    ∙ append_assoc (batches_in front) (batches_in here) (batches_in (plain more))
+    ∙ ap (λ (l : List (List Batch)). l ++ (batches_in here ++ batches_in (plain more))) (all_batches before rows hold)
+    ∙ ap (λ (l : List (List Batch)). rows ++ (l ++ batches_in (plain more))) (batches_by_index (log_number wal.number) wal.segments held.row held.holds)
+    ∙ ap (λ (l : List (List Batch)). rows ++ (held.row ++ l)) (batches_plain more) in
+    merged_or_conflict ((front ++ here) ++ plain more) merged index first (subst (λ (r : List (List Batch)). MergedLenient r merged) (sym is) m) (conflict_on (front ++ here) (plain more) index first wrong)
+
+merged_or_wrong : (before : List Wal) (wal : Wal) (rows more : List (List Batch)) (held : HoldsRow wal) (merged : List Batch) (fault : RecoverFault) → HoldAll before rows → MergedLenient (rows ++ (held.row ++ more)) merged
+    → IsLenientlyRefusedWal (by_index (segments_of before) rows) wal fault → ⊥
+merged_or_wrong before wal rows more held merged (faults.Disk side) hold m w = w
+merged_or_wrong before wal rows more held merged (faults.DuplicateSegment number index) hold m w = w
+merged_or_wrong before wal rows more held merged (faults.BadBatch number index place fault) hold m w = held_or_bad (log_number wal.number) wal.segments held.row index place fault held.holds w.1
+merged_or_wrong before wal rows more held merged (faults.Gap number index expected found) hold m w = w
+merged_or_wrong before wal rows more held merged (faults.Conflict number index first) hold m w =
+    merged_or_conflict_behind before wal rows more held merged index first hold m
+    (subst (λ (row : List (List Batch)). IsLenientConflict (by_index (segments_of before) rows ++ by_index wal.segments row) index first) (same_row wal w.1 held) w.2)
+merged_or_wrong before wal rows more held merged faults.NoMemory hold m w = w
+
+one_wrong : (before : List SegmentRead) (wal : Wal) (f g : RecoverFault) → IsLenientlyRefusedWal before wal f → IsLenientlyRefusedWal before wal g → f ≡ g
+one_wrong before wal (faults.Disk side) g a b = absurd a
+one_wrong before wal (faults.DuplicateSegment w i) g a b = absurd a
+one_wrong before wal (faults.Gap w i e x) g a b = absurd a
+one_wrong before wal faults.NoMemory g a b = absurd a
+one_wrong before wal (faults.BadBatch w i p f) (faults.Disk side) a b = absurd b
+one_wrong before wal (faults.BadBatch w i p f) (faults.DuplicateSegment v j) a b = absurd b
+one_wrong before wal (faults.BadBatch w i p f) (faults.Gap v j e x) a b = absurd b
+one_wrong before wal (faults.BadBatch w i p f) faults.NoMemory a b = absurd b
+one_wrong before wal (faults.BadBatch w i p f) (faults.BadBatch v j q g) a b =
+    let same = one_bad_batch (log_number wal.number) wal.segments i p j q f g a.1 b.1 in
+    let wals : w ≡ v = a.0 ∙ sym b.0 in
+    λ k. faults.BadBatch (wals k) (same.0 k) (same.1 k) (same.2 k)
+one_wrong before wal (faults.BadBatch w i p f) (faults.Conflict v j x) a b = absurd (bad_or_held wal i p f a.1 b.1)
+one_wrong before wal (faults.Conflict w i x) (faults.Disk side) a b = absurd b
+one_wrong before wal (faults.Conflict w i x) (faults.DuplicateSegment v j) a b = absurd b
+one_wrong before wal (faults.Conflict w i x) (faults.Gap v j e y) a b = absurd b
+one_wrong before wal (faults.Conflict w i x) faults.NoMemory a b = absurd b
+one_wrong before wal (faults.Conflict w i x) (faults.BadBatch v j q g) a b = absurd (bad_or_held wal j q g b.1 a.1)
+one_wrong before wal (faults.Conflict w i x) (faults.Conflict v j y) a b =
+    let wrong : IsLenientConflict (before ++ by_index wal.segments b.1.row) i x = subst (λ (row : List (List Batch)). IsLenientConflict (before ++ by_index wal.segments row) i x) (same_row wal a.1 b.1) a.2 in
+    one_named wal.number w v (merges.Conflict i x) (merges.Conflict j y) a.0 b.0 (one_conflict (before ++ by_index wal.segments b.1.row) i x j y wrong b.2)
+
+-- ---- all WALs
+
+-- a WAL of the directories is refused
+record IsWrongAt (dirs : Dirs) (fault : RecoverFault) : Type 0 where
+  wal : Wal
+  reached : ReachesLenient dirs wal.number wal.segments
+  wrong : IsLenientlyRefusedWal (by_index (segments_of reached.before) reached.rows) wal fault
+
+-- so no WALs are merged that go on behind it
+wrong_behind : (dirs : Dirs) (fault : RecoverFault) (w : IsWrongAt dirs fault) (wals mid : List Wal) (rows : List (List Batch)) (merged : List Batch) → wals ≡ w.reached.before ++ w.wal ∷ mid → HoldAll wals rows
+    → MergedLenient rows merged → ⊥
+wrong_behind dirs fault w wals mid rows merged is h m =
+    let cut = holds_up_to w.reached.before w.wal mid rows (subst (λ (l : List Wal). HoldAll l rows) is h) in
+    let earlier : cut.earlier ≡ w.reached.rows = one_all w.reached.before cut.earlier w.reached.rows cut.hold w.reached.hold in
+    merged_or_wrong w.reached.before w.wal w.reached.rows cut.more cut.held merged fault w.reached.hold
+    (subst (λ (r : List (List Batch)). MergedLenient (r ++ (cut.held.row ++ cut.more)) merged) earlier (subst (λ (r : List (List Batch)). MergedLenient r merged) cut.is m)) w.wrong
+
+recovered_or_wrong : (dirs : Dirs) (merged : List Batch) (fault : RecoverFault) → RecoversLenient dirs merged → IsWrongAt dirs fault → ⊥
+recovered_or_wrong dirs merged fault r w =
+    wrong_behind dirs fault w r.wals w.reached.after r.rows merged (one_listing dirs r.wals (w.reached.before ++ w.wal ∷ w.reached.after) r.listed w.reached.listed) r.hold r.merges
+
+one_wrong_at : (dirs : Dirs) (f g : RecoverFault) → IsWrongAt dirs f → IsWrongAt dirs g → f ≡ g
+one_wrong_at dirs f g a b =
+    of_places (places a.reached.before a.wal a.reached.after b.reached.before b.wal b.reached.after
+    (one_listing dirs (a.reached.before ++ a.wal ∷ a.reached.after) (b.reached.before ++ b.wal ∷ b.reached.after) a.reached.listed b.reached.listed))
   where
-    of_places : Places a.before (bad_wal dirs n i p f a) a.after b.before (bad_wal dirs m j q g b) b.after → faults.BadBatch n i p f ≡ faults.BadBatch m j q g
-    of_places (sooner mid is) = absurd (bad_behind dirs n i p f a b.before mid b.rows is b.right)
+    of_places : Places a.reached.before a.wal a.reached.after b.reached.before b.wal b.reached.after → f ≡ g
+    of_places (sooner mid is) = absurd (wrong_behind dirs f a b.reached.before mid b.reached.rows b.reached.base is b.reached.hold b.reached.merges)
     of_places (one befores wals afters) =
-        let bad : IsBadBatch (log_number m) b.segments i p f = subst (λ (w : Wal). IsBadBatch (log_number w.number) w.segments i p f) wals a.bad in
-        let same = one_bad_batch (log_number m) b.segments i p j q f g bad b.bad in
-        let numbers : n ≡ m = ap (λ (w : Wal). w.number) wals in
-        λ k. faults.BadBatch (numbers k) (same.0 k) (same.1 k) (same.2 k)
-    of_places (later mid is) = absurd (bad_behind dirs m j q g b a.before mid a.rows is a.right)
-
--- ---- the conflict
-
-one_name : (names : List SegName) (place : ℕ) (a b : SegName) → IsNamed names place a → IsNamed names place b → a ≡ b
-one_name names place a b (front, back, is, at) (front2, back2, is2, at2) = of_places (places front a back front2 b back2 (sym is ∙ is2))
-  where
-    of_places : Places front a back front2 b back2 → a ≡ b
-    of_places (sooner mid cut) = absurd (omega (arith, at, at2, ap length cut, length-append front (a ∷ mid)))
-    of_places (one fronts as_one backs) = as_one
-    of_places (later mid cut) = absurd (omega (arith, at, at2, ap length cut, length-append front2 (b ∷ mid)))
-
-merged_or_conflict_of_all : (dirs : Dirs) (merged : List Batch) (w i x : ℕ) → RecoversLenient dirs merged → IsConflictOfAll dirs w i x → ⊥
-merged_or_conflict_of_all dirs merged w i x r c =
-    let held : HoldAll c.wals r.rows = subst (λ (l : List Wal). HoldAll l r.rows) (one_listing dirs r.wals c.wals r.listed c.listed) r.hold in
-    let rows : r.rows ≡ c.rows = one_all c.wals r.rows c.rows held c.hold in
-    merged_or_conflict (by_place 0 c.rows) merged c.place x (subst (λ (l : List (List Batch)). MergedLenient l merged) (rows ∙ sym (batches_by_place 0 c.rows)) r.merges) c.wrong
-
-one_conflict_of_all : (dirs : Dirs) (w i x v j y : ℕ) → IsConflictOfAll dirs w i x → IsConflictOfAll dirs v j y → faults.Conflict w i x ≡ faults.Conflict v j y
-one_conflict_of_all dirs w i x v j y a b =
-    let wals : a.wals ≡ b.wals = one_listing dirs a.wals b.wals a.listed b.listed in
-    let rows : a.rows ≡ b.rows = one_all b.wals a.rows b.rows (subst (λ (l : List Wal). HoldAll l a.rows) wals a.hold) b.hold in
-    let same : merges.Conflict a.place x ≡ merges.Conflict b.place y =
-    one_conflict (by_place 0 b.rows) a.place x b.place y (subst (λ (l : List (List Batch)). IsLenientConflict (by_place 0 l) a.place x) rows a.wrong) b.wrong in
-    let place : a.place ≡ b.place = cc in
-    let first : x ≡ y = cc in
-    let named : IsNamed (names_of b.wals) b.place (name_in w i) =
-    subst (λ (n : ℕ). IsNamed (names_of b.wals) n (name_in w i)) place (subst (λ (l : List Wal). IsNamed (names_of l) a.place (name_in w i)) wals a.named) in
-    let name : name_in w i ≡ name_in v j = one_name (names_of b.wals) b.place (name_in w i) (name_in v j) named b.named in
-    λ k. faults.Conflict (name k).wal (name k).index (first k)
+        let hold : HoldAll b.reached.before a.reached.rows = subst (λ (l : List Wal). HoldAll l a.reached.rows) befores a.reached.hold in
+        let rows : a.reached.rows ≡ b.reached.rows = one_all b.reached.before a.reached.rows b.reached.rows hold b.reached.hold in
+        one_wrong (by_index (segments_of b.reached.before) b.reached.rows) b.wal f g
+        (subst (λ (x : Wal). IsLenientlyRefusedWal (by_index (segments_of b.reached.before) b.reached.rows) x f) wals
+        (subst (λ (r : List (List Batch)). IsLenientlyRefusedWal (by_index (segments_of b.reached.before) r) a.wal f) rows
+        (subst (λ (l : List Wal). IsLenientlyRefusedWal (by_index (segments_of l) a.reached.rows) a.wal f) befores a.wrong))) b.wrong
+    of_places (later mid is) = absurd (wrong_behind dirs g b a.reached.before mid a.reached.rows a.reached.base is a.reached.hold a.reached.merges)
 
 -- ---- the directories
 
+why : (dirs : Dirs) (fault : RecoverFault) → IsLenientlyRefused dirs fault → IsTwiceNamed dirs fault ⊎ IsWrongAt dirs fault
+why dirs (faults.Disk side) r = absurd r
+why dirs (faults.DuplicateSegment w i) r = inl (w, i, refl, r)
+why dirs (faults.BadBatch w i p f) r = inr (record { wal = wal_of w r.segments; reached = r.reached; wrong = (refl, r.bad) })
+why dirs (faults.Gap w i e x) r = absurd r
+why dirs (faults.Conflict w i x) r = inr (record { wal = wal_of w r.segments; reached = r.reached; wrong = (refl, record { row = r.own; holds = r.holds }, r.wrong) })
+why dirs faults.NoMemory r = absurd r
+
 -- directories that recover are refused by nothing
 pub lenient_or_refused : (dirs : Dirs) (merged : List Batch) (fault : RecoverFault) → RecoversLenient dirs merged → IsLenientlyRefused dirs fault → ⊥
-lenient_or_refused dirs merged (faults.Disk side) r refused = refused
-lenient_or_refused dirs merged (faults.DuplicateSegment w i) r refused = listed_or_twice dirs r.wals w i r.listed refused.twice
-lenient_or_refused dirs merged (faults.BadBatch w i p f) r refused = held_or_bad_of_all dirs w i p f r.wals r.rows refused r.listed r.hold
-lenient_or_refused dirs merged (faults.Gap w i e x) r refused = refused
-lenient_or_refused dirs merged (faults.Conflict w i x) r refused = merged_or_conflict_of_all dirs merged w i x r refused
-lenient_or_refused dirs merged faults.NoMemory r refused = refused
-
-twice_or_bad : (dirs : Dirs) (w i n j p : ℕ) (f : BatchFault) → IsDuplicate dirs w i → IsFirstBadBatch dirs n j p f → ⊥
-twice_or_bad dirs w i n j p f a b = listed_or_twice dirs (b.before ++ bad_wal dirs n j p f b ∷ b.after) w i b.listed a.twice
+lenient_or_refused dirs merged fault r refused = elim (why dirs fault refused) [
+  | inl twice ↦ listed_or_twice dirs r.wals twice.0 twice.1 r.listed twice.3.twice
+  | inr wrong ↦ recovered_or_wrong dirs merged fault r wrong
+]
 
 -- and directories that are refused are refused for one reason
 pub lenient_refused_once : (dirs : Dirs) (f g : RecoverFault) → IsLenientlyRefused dirs f → IsLenientlyRefused dirs g → f ≡ g
-lenient_refused_once dirs (faults.Disk side) g a b = absurd a
-lenient_refused_once dirs (faults.Gap w i e x) g a b = absurd a
-lenient_refused_once dirs faults.NoMemory g a b = absurd a
-lenient_refused_once dirs (faults.DuplicateSegment w i) (faults.Disk side) a b = absurd b
-lenient_refused_once dirs (faults.DuplicateSegment w i) (faults.Gap v j e x) a b = absurd b
-lenient_refused_once dirs (faults.DuplicateSegment w i) faults.NoMemory a b = absurd b
-lenient_refused_once dirs (faults.DuplicateSegment w i) (faults.DuplicateSegment v j) a b = one_duplicate dirs w i v j a b
-lenient_refused_once dirs (faults.DuplicateSegment w i) (faults.BadBatch v j q g) a b = absurd (twice_or_bad dirs w i v j q g a b)
-lenient_refused_once dirs (faults.DuplicateSegment w i) (faults.Conflict v j y) a b = absurd (listed_or_twice dirs b.wals w i b.listed a.twice)
-lenient_refused_once dirs (faults.BadBatch w i p f) (faults.Disk side) a b = absurd b
-lenient_refused_once dirs (faults.BadBatch w i p f) (faults.Gap v j e x) a b = absurd b
-lenient_refused_once dirs (faults.BadBatch w i p f) faults.NoMemory a b = absurd b
-lenient_refused_once dirs (faults.BadBatch w i p f) (faults.DuplicateSegment v j) a b = absurd (twice_or_bad dirs v j w i p f b a)
-lenient_refused_once dirs (faults.BadBatch w i p f) (faults.BadBatch v j q g) a b = one_bad dirs w i p f v j q g a b
-lenient_refused_once dirs (faults.BadBatch w i p f) (faults.Conflict v j y) a b = absurd (held_or_bad_of_all dirs w i p f b.wals b.rows a b.listed b.hold)
-lenient_refused_once dirs (faults.Conflict w i x) (faults.Disk side) a b = absurd b
-lenient_refused_once dirs (faults.Conflict w i x) (faults.Gap v j e y) a b = absurd b
-lenient_refused_once dirs (faults.Conflict w i x) faults.NoMemory a b = absurd b
-lenient_refused_once dirs (faults.Conflict w i x) (faults.DuplicateSegment v j) a b = absurd (listed_or_twice dirs a.wals v j a.listed b.twice)
-lenient_refused_once dirs (faults.Conflict w i x) (faults.BadBatch v j q g) a b = absurd (held_or_bad_of_all dirs v j q g a.wals a.rows b a.listed a.hold)
-lenient_refused_once dirs (faults.Conflict w i x) (faults.Conflict v j y) a b = one_conflict_of_all dirs w i x v j y a b
+lenient_refused_once dirs f g a b = elim (why dirs f a) [
+  | inl twice ↦ elim (why dirs g b) [
+    | inl again ↦ twice.2 ∙ one_duplicate dirs twice.0 twice.1 again.0 again.1 twice.3 again.3 ∙ sym again.2
+    | inr wrong ↦ absurd (listed_or_twice dirs (wrong.reached.before ++ wrong.wal ∷ wrong.reached.after) twice.0 twice.1 wrong.reached.listed twice.3.twice)
+  ]
+  | inr wrong ↦ elim (why dirs g b) [
+    | inl again ↦ absurd (listed_or_twice dirs (wrong.reached.before ++ wrong.wal ∷ wrong.reached.after) again.0 again.1 wrong.reached.listed again.3.twice)
+    | inr also ↦ one_wrong_at dirs f g wrong also
+  ]
+]

@@ -26,7 +26,7 @@ use Rattle.wal_recovery.proofs.OneReading as reading
 
 -- ---- one WAL
 
-same_row : (wal : Wal) (a b : HoldsRow wal) → a.row ≡ b.row
+pub same_row : (wal : Wal) (a b : HoldsRow wal) → a.row ≡ b.row
 same_row wal a b = one_row reading.one_read reading.one_spelled (log_number wal.number) wal.segments a.row b.row a.holds b.holds
 
 merged_or_row_refused : (from : ℕ) (wal : Wal) (own : List Batch) (held : HoldsRow wal) (fault : MergeFault) → WalMerges from wal own → IsRowRefused from (by_index wal.segments held.row) fault → ⊥
@@ -46,11 +46,11 @@ merged_or_wrong from wal own faults.NoMemory m w = w
 one_row_refused : (from : ℕ) (wal : Wal) (a b : HoldsRow wal) (f g : MergeFault) → IsRowRefused from (by_index wal.segments a.row) f → IsRowRefused from (by_index wal.segments b.row) g → f ≡ g
 one_row_refused from wal a b f g p q = one_refusal from (by_index wal.segments b.row) f g (subst (λ (row : List (List Batch)). IsRowRefused from (by_index wal.segments row) f) (same_row wal a b) p) q
 
-bad_or_held : (wal : Wal) (index place : ℕ) (fault : BatchFault) → IsBadBatch (log_number wal.number) wal.segments index place fault → HoldsRow wal → ⊥
+pub bad_or_held : (wal : Wal) (index place : ℕ) (fault : BatchFault) → IsBadBatch (log_number wal.number) wal.segments index place fault → HoldsRow wal → ⊥
 bad_or_held wal index place fault bad held = held_or_bad (log_number wal.number) wal.segments held.row index place fault held.holds bad
 
 -- one refusal of the row, so one of the WAL
-one_named : (number w v : ℕ) (f g : MergeFault) → w ≡ number → v ≡ number → f ≡ g → named_in_wal w f ≡ named_in_wal v g
+pub one_named : (number w v : ℕ) (f g : MergeFault) → w ≡ number → v ≡ number → f ≡ g → named_in_wal w f ≡ named_in_wal v g
 one_named number w v f g ew ev e = ap (λ (n : ℕ). named_in_wal n f) (ew ∙ sym ev) ∙ ap (named_in_wal v) e
 
 one_wrong : (from : ℕ) (wal : Wal) (f g : RecoverFault) → IsRefusedWal from wal f → IsRefusedWal from wal g → f ≡ g
@@ -133,10 +133,10 @@ one_wrong_at dirs f g a b =
 
 -- ---- the directories
 
-abbrev IsTwiceNamed : Dirs → RecoverFault → Type 0
+abbrev pub IsTwiceNamed : Dirs → RecoverFault → Type 0
 IsTwiceNamed dirs fault = (w : ℕ) × (i : ℕ) × (fault ≡ faults.DuplicateSegment w i) × IsDuplicate dirs w i
 
-abbrev wal_of : ℕ → List Stored → Wal
+abbrev pub wal_of : ℕ → List Stored → Wal
 wal_of number segments = record { number = number; segments = segments }
 
 why : (dirs : Dirs) (fault : RecoverFault) → IsRefused dirs fault → IsTwiceNamed dirs fault ⊎ IsWrongAt dirs fault

@@ -25,7 +25,7 @@ use Rattle.wal_recovery.specs.Gathered.{IsAsListed, AreAsListed, counted_in, Add
 use Rattle.wal_recovery.specs.OneWal.{AddsReports, HoldsRow, IsRefusedWal}
 use Rattle.wal_recovery.proofs.Gathering.{AreOfWal, row_holds, reports_on, wal_merged}
 
-own_of : (wal : FoundWal) → IsOwnWal wal → AreOfWal wal.number wal.segments.items
+pub own_of : (wal : FoundWal) → IsOwnWal wal → AreOfWal wal.number wal.segments.items
 own_of wal own f at = All-contains (λ (g : Found). g.name.wal ≡ wal.number) wal.segments.items f own at
 
 -- a refusal of a merge is no fault of the disk
@@ -62,7 +62,7 @@ module _ (tells : Bool) (files : Files) (wal : FoundWal) (own : IsOwnWal wal) wh
       go (merges.Conflict index first) h = (refl, held, subst (λ (r : List SegmentRead). IsConflict next r index first) g.rows h)
       go merges.NoMemory h = tt
 
-  bad_refused : (next : ℕ) (fault : RecoverFault) → IsFirstBadOf files wal.segments.items fault → IsRefusedWal next (wal_in files wal) fault
+  pub bad_refused : (next : ℕ) (fault : RecoverFault) → IsFirstBadOf files wal.segments.items fault → IsRefusedWal next (wal_in files wal) fault
   bad_refused next (faults.Disk side) b = absurd b.bad
   bad_refused next (faults.DuplicateSegment number index) b = absurd b.bad
   bad_refused next (faults.Gap number index expected found) b = absurd b.bad

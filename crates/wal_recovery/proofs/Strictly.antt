@@ -43,9 +43,9 @@ by_index_at low (w ∷ wals) wal by at = elim (within_cases w wals wal at) [
 ]
 
 -- and so does what was merged with gaps
-pub lenient_numbered : (row : List SegmentRead) (merged : List Batch) → IsRow row → MergedLenient (batches_in row) merged → All IsNumbered merged
-lenient_numbered row merged is m k d lt =
-    numbered_in row (get_or merged k d) (recursion_from_All IsNumberedSegment row is.numbered) ((m.same (get_or merged k d)).0 (Contains-get_or merged k d lt))
+pub lenient_numbered : (row : List SegmentRead) (merged : List Batch) → AllByRecursion IsNumberedSegment row → MergedLenient (batches_in row) merged → All IsNumbered merged
+lenient_numbered row merged numbered m k d lt =
+    numbered_in row (get_or merged k d) numbered ((m.same (get_or merged k d)).0 (Contains-get_or merged k d lt))
 
 ends_within : (n : ℕ) (own : List Batch) → n ≤ NUMBER_MAX → AllByRecursion IsNumbered own → end_after n own ≤ NUMBER_MAX
 unfolding end_after

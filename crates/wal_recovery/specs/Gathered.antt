@@ -1,5 +1,5 @@
 -- What recovery gathers while it reads segments one after another (docs/FORMATS.md, "Recovery").
-use Rattle.std.specs.Prelude.{◌≡◌, ℕ, ◌<◌, Bool, List, [], ◌∷◌, ◌++◌, length, get_or, map, All, IsTrue}
+use Rattle.std.specs.Prelude.{◌≡◌, ℕ, Bool, List, [], ◌∷◌, ◌++◌, length, map, All, IsTrue}
 use Rattle.std.specs.List.{AllZip}
 use Rattle.batch_repr.specs.declared.batch.Batch.{Batch}
 use Rattle.block_record.specs.declared.records.Rec.{Rec}
@@ -8,6 +8,7 @@ use Rattle.segment_merge.specs.declared.segment.SegmentRead.{SegmentRead}
 use Rattle.segment_merge.specs.declared.fault.MergeFault.{MergeFault}
 use Rattle.segment_merge.specs.declared.fault.MergeFault.TheVariants as merges
 use Rattle.segment_merge.specs.Rows.{IsNumbered}
+use Rattle.segment_merge.specs.Lenient.{MergedLenient}
 use Rattle.disk_face.specs.View.{Files}
 use Rattle.disk_face.specs.Image.{dirs_as_read}
 use Rattle.disk_face.specs.Listing.{HasLength}
@@ -18,7 +19,7 @@ use Rattle.wal_recovery.specs.declared.reports.SegReport.{SegReport}
 use Rattle.wal_recovery.specs.declared.wals.FoundWal.{FoundWal}
 use Rattle.wal_recovery.specs.Listing.{IsListingOf}
 use Rattle.wal_recovery.specs.Recovering.{log_number, counted, Spell}
-use Rattle.wal_recovery.specs.Refused.{IsBadRecord, by_index, by_place}
+use Rattle.wal_recovery.specs.Refused.{IsBadRecord, by_index}
 use Rattle.wal_recovery.specs.Rows.{place_of, bytes_at, stored_in, wals_in}
 
 -- The segment has as many bytes as it was listed with.
@@ -65,6 +66,11 @@ pub record AddsSegment (tells : Bool) (files : Files) (segment : Found) (index :
 abbrev pub counted_in : List SegReport → List (List Batch)
 counted_in reports = map (λ (r : SegReport). counted r.batches) reports
 
+-- The batches of the reports that take a number, where gaps are accepted, are merged to these.
+pub record AreReportsMerged (reports : List SegReport) (merged : List Batch) : Type 0 where
+  pub merges : MergedLenient (counted_in reports) merged
+  pub numbered : All IsNumberedReport reports
+
 -- Segments more, in their order.
 pub record AddsSegments (tells : Bool) (files : Files) (segments : List Found) (old new : List SegReport) : Type 0 where
   pub own : List SegReport
@@ -77,11 +83,6 @@ pub record AddsSegments (tells : Bool) (files : Files) (segments : List Found) (
 pub record GathersWal (tells : Bool) (files : Files) (segments : List Found) (old new : List SegReport) (row : List SegmentRead) : Type 0 where
   pub added : AddsSegments tells files segments old new
   pub rows : row ≡ by_index (map (stored_in files) segments) (counted_in added.own)
-
--- The row of all WALs, each segment under its place.
-pub record GathersAll (tells : Bool) (files : Files) (segments : List Found) (old new : List SegReport) (row : List SegmentRead) : Type 0 where
-  pub added : AddsSegments tells files segments old new
-  pub rows : row ≡ by_place 0 (counted_in added.own)
 
 -- The first bad record of the segments: those before its segment read well.
 pub record IsFirstBadOf (files : Files) (segments : List Found) (fault : RecoverFault) : Type 0 where
@@ -109,18 +110,6 @@ abbrev pub named_in_wal : ℕ → MergeFault → RecoverFault
 named_in_wal wal (merges.Gap index expected found) = faults.Gap wal index expected found
 named_in_wal wal (merges.Conflict index first) = faults.Conflict wal index first
 named_in_wal wal merges.NoMemory = faults.NoMemory
-
--- The place that is refused, if any, is one of so many.
-abbrev pub IsPlaceBelow : ℕ → MergeFault → Type 0
-IsPlaceBelow len (merges.Gap index expected found) = index < len
-IsPlaceBelow len (merges.Conflict index first) = index < len
-IsPlaceBelow len merges.NoMemory = Unit {0}
-
--- The refusal names the segment that stands at the place.
-abbrev pub IsNamedAs : List Found → MergeFault → RecoverFault → Type 0
-IsNamedAs segments (merges.Conflict index first) refusal =
-    (f : Found) × (index < length segments) × (get_or segments index f ≡ f) × (refusal ≡ faults.Conflict f.name.wal f.name.index first)
-IsNamedAs segments fault refusal = refusal ≡ faults.NoMemory
 
 -- No side failed.
 abbrev pub IsNoDisk : RecoverFault → Type 0

@@ -1,7 +1,9 @@
 -- One WAL as it is read and merged, from the end of those before it (docs/FORMATS.md, "Recovery").
 use Rattle.std.specs.Prelude.{◌≡◌, ℕ, List, ◌++◌}
 use Rattle.batch_repr.specs.declared.batch.Batch.{Batch}
+use Rattle.segment_merge.specs.declared.segment.SegmentRead.{SegmentRead}
 use Rattle.segment_merge.specs.Refusals.{IsGap, IsConflict}
+use Rattle.segment_merge.specs.Lenient.{IsLenientConflict}
 use Rattle.wal_recovery.specs.declared.fault.RecoverFault.{RecoverFault}
 use Rattle.wal_recovery.specs.declared.fault.RecoverFault.TheVariants as faults
 use Rattle.wal_recovery.specs.declared.reports.SegReport.{SegReport}
@@ -27,3 +29,11 @@ IsRefusedWal next wal (faults.BadBatch number index place fault) = (number ≡ w
 IsRefusedWal next wal (faults.Gap number index expected found) = (number ≡ wal.number) × (h : HoldsRow wal) × IsGap next (by_index wal.segments h.row) index expected found
 IsRefusedWal next wal (faults.Conflict number index first) = (number ≡ wal.number) × (h : HoldsRow wal) × IsConflict next (by_index wal.segments h.row) index first
 IsRefusedWal next wal fault = ⊥
+
+-- ---- where gaps are accepted
+
+-- Why the WAL is refused behind this row of the WALs before it.
+abbrev pub IsLenientlyRefusedWal : List SegmentRead → Wal → RecoverFault → Type 0
+IsLenientlyRefusedWal before wal (faults.BadBatch number index place fault) = (number ≡ wal.number) × IsBadBatch (log_number wal.number) wal.segments index place fault
+IsLenientlyRefusedWal before wal (faults.Conflict number index first) = (number ≡ wal.number) × (h : HoldsRow wal) × IsLenientConflict (before ++ by_index wal.segments h.row) index first
+IsLenientlyRefusedWal before wal fault = ⊥

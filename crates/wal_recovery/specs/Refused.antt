@@ -1,5 +1,5 @@
 -- Why the directories are refused, in the order in which it is looked for (docs/FORMATS.md, "Recovery").
-use Rattle.std.specs.Prelude.{◌≡◌, ℕ, suc, ◌++◌, Bool, List, [], ◌∷◌, length}
+use Rattle.std.specs.Prelude.{◌≡◌, ℕ, ◌++◌, Bool, List, [], ◌∷◌}
 use Rattle.std.specs.List.{flat_map}
 use Rattle.batch_repr.specs.declared.batch.Batch.{Batch}
 use Rattle.batch_repr.specs.declared.fault.BatchFault.{BatchFault}
@@ -9,12 +9,11 @@ use Rattle.block_record.specs.declared.records.Rec.{Rec}
 use Rattle.block_record.specs.ReadOut.{ReadsOut}
 use Rattle.segment_merge.specs.declared.segment.SegmentRead.{SegmentRead}
 use Rattle.segment_merge.specs.Refusals.{IsGap, IsConflict}
-use Rattle.segment_merge.specs.Lenient.{IsLenientConflict}
+use Rattle.segment_merge.specs.Lenient.{MergedLenient, IsLenientConflict}
 use Rattle.disk_face.specs.View.{Dirs}
-use Rattle.disk_face.specs.declared.SegName.{SegName}
 use Rattle.wal_recovery.specs.declared.fault.RecoverFault.{RecoverFault}
 use Rattle.wal_recovery.specs.declared.fault.RecoverFault.TheVariants as faults
-use Rattle.wal_recovery.specs.Listing.{Stored, Wal, name_in, IsListingOf, IsDuplicate}
+use Rattle.wal_recovery.specs.Listing.{Stored, Wal, IsListingOf, IsDuplicate}
 use Rattle.wal_recovery.specs.Recovering.{FIRST_NUMBER, log_number, Spell, HoldRow, WalsMerge, HoldAll}
 
 -- The first of the records that spells no batch: it stands at this place, and this is the first thing wrong with it.
@@ -75,42 +74,37 @@ IsRefused dirs faults.NoMemory = ⊥
 
 -- ---- where gaps are accepted
 
--- the batches of segments, each list under its place in the row, from this place on
-abbrev pub by_place : ℕ → List (List Batch) → List SegmentRead
-by_place place [] = []
-by_place place (batches ∷ rows) = record { index = place; batches = batches } ∷ by_place (suc place) rows
-
--- the names of the segments of a WAL
-abbrev pub names_in : Wal → List SegName
-names_in wal = flat_map (λ (s : Stored). name_in wal.number s.index ∷ []) wal.segments
-
--- the names of all segments
-abbrev pub names_of : List Wal → List SegName
-names_of wals = flat_map names_in wals
-
--- This name stands at that place.
-abbrev pub IsNamed : List SegName → ℕ → SegName → Type 0
-IsNamed names place name = (before : List SegName) × (after : List SegName) × (names ≡ before ++ name ∷ after) × (place ≡ length before)
-
--- The record of a WAL that spells no batch; those of all segments before it do.
-pub record IsFirstBadBatch (dirs : Dirs) (number index place : ℕ) (fault : BatchFault) : Type 0 where
+-- The segments of the WALs before this one are merged, with gaps, to these batches: they hold these rows.
+pub record ReachesLenient (dirs : Dirs) (number : ℕ) (segments : List Stored) : Type 0 where
   pub before : List Wal
-  pub segments : List Stored
   pub after : List Wal
   pub listed : IsListingOf dirs (before ++ record { number = number; segments = segments } ∷ after)
   pub rows : List (List Batch)
-  pub right : HoldAll before rows
+  pub hold : HoldAll before rows
+  pub base : List Batch
+  pub merges : MergedLenient rows base
+
+-- the segments of WALs, one WAL after another
+abbrev pub segments_of : List Wal → List Stored
+segments_of wals = flat_map (λ (wal : Wal). wal.segments) wals
+
+-- the segments of the earlier WALs and of this one as one row, each with its batches and under its own index
+abbrev pub row_up_to : {dirs : Dirs} → {number : ℕ} → {segments : List Stored} → ReachesLenient dirs number segments → List (List Batch) → List SegmentRead
+row_up_to {segments = segments} reached own = by_index (segments_of reached.before) reached.rows ++ by_index segments own
+
+-- The record of a WAL that spells no batch, the first of them: the WALs before this one are merged.
+pub record IsFirstBadBatch (dirs : Dirs) (number index place : ℕ) (fault : BatchFault) : Type 0 where
+  pub segments : List Stored
+  pub reached : ReachesLenient dirs number segments
   pub bad : IsBadBatch (log_number number) segments index place fault
 
--- The batch of a segment that begins below the end of one before it in the row of all WALs, and is none of those.
+-- The first batch in the row up to this WAL that begins below the end of one before it and is none of those: the segments of this WAL hold batches, and the WALs before it are merged.
 pub record IsConflictOfAll (dirs : Dirs) (number index first : ℕ) : Type 0 where
-  pub wals : List Wal
-  pub listed : IsListingOf dirs wals
-  pub rows : List (List Batch)
-  pub hold : HoldAll wals rows
-  pub place : ℕ
-  pub named : IsNamed (names_of wals) place (name_in number index)
-  pub wrong : IsLenientConflict (by_place 0 rows) place first
+  pub segments : List Stored
+  pub reached : ReachesLenient dirs number segments
+  pub own : List (List Batch)
+  pub holds : HoldRow (log_number number) segments own
+  pub wrong : IsLenientConflict (row_up_to reached own) index first
 
 -- Why recovery with gaps refuses.
 abbrev pub IsLenientlyRefused : Dirs → RecoverFault → Type 0

@@ -11,6 +11,8 @@
 
 mod decoding;
 mod fault;
+#[cfg(test)]
+mod first_reasons;
 mod listing;
 mod merging;
 mod reading;

@@ -1,22 +1,23 @@
 //! The segments of WALs as rows of batches, and the rows as one list.
 
-ghost use Rattle.std.specs.Prelude.{◌≡◌, ◌<◌, ◌≤◌, ◌++◌, [], List, All, IfOk, IfErr, OnOk, IsTrue, length, map};
+ghost use Rattle.std.specs.Prelude.{◌≡◌, ◌≤◌, ◌++◌, [], List, All, IfOk, IfErr, OnOk, IsTrue, map};
 ghost use Rattle.batch_repr.specs.declared.batch.Batch.{Batch};
 ghost use Rattle.batch_repr.specs.declared.limits.TheConstants.{NUMBER_MAX};
 ghost use Rattle.batch_repr.specs.Batches.{end_after, IsContiguous};
 ghost use Rattle.segment_merge.specs.Rows.{IsNumbered, IsRow};
-ghost use Rattle.segment_merge.specs.Returned.{IsNoGap};
+ghost use Rattle.segment_merge.specs.declared.segment.SegmentRead.{SegmentRead};
+ghost use Rattle.segment_merge.specs.Lenient.{AreMergedOf};
 ghost use Rattle.disk_face.specs.View.{files};
 ghost use Rattle.disk_face.specs.Image.{dirs_as_read};
 ghost use Rattle.disk_face.specs.Calls.{GoesOn, SameDisk};
 ghost use Rattle.wal_recovery.specs.Listing.{AreByIndex, AreByNumber};
 ghost use Rattle.wal_recovery.specs.Recovering.{FIRST_NUMBER, WalMerges, WalsMerge, RecoversLenient};
 ghost use Rattle.wal_recovery.specs.Refused.{IsRefused, IsLenientlyRefused};
-ghost use Rattle.wal_recovery.specs.Reports.{ReportOnAll, AreReports};
+ghost use Rattle.wal_recovery.specs.Reports.{ReportOnAll};
 ghost use Rattle.wal_recovery.specs.Answers.{FaultRose, DiskMemoryOr};
-ghost use Rattle.wal_recovery.specs.Rows.{Ascends, IsRowOf, place_of, bytes_at, stored_in, wal_in, wals_in};
-ghost use Rattle.wal_recovery.specs.Gathered.{IsAsListed, AreAsListed, IsReportOf, IsBadIn, AddsSegment, GathersWal, GathersAll, IsFirstBadOf, IsOwnWal, AreListedWals, named_in_wal, IsPlaceBelow, IsNamedAs, IsNoDisk};
-ghost use Rattle.wal_recovery.specs.OneWal.{AddsReports, IsRefusedWal};
+ghost use Rattle.wal_recovery.specs.Rows.{place_of, bytes_at, stored_in, wal_in, wals_in};
+ghost use Rattle.wal_recovery.specs.Gathered.{IsAsListed, AreAsListed, IsReportOf, IsBadIn, AddsSegment, GathersWal, AreReportsMerged, IsFirstBadOf, IsOwnWal, AreListedWals, named_in_wal, IsNoDisk};
+ghost use Rattle.wal_recovery.specs.OneWal.{AddsReports, IsRefusedWal, IsLenientlyRefusedWal};
 
 use crate::decoding::{DecodeFault, batches_of, count, counted_of};
 use crate::fault::RecoverFault;
@@ -27,7 +28,7 @@ use crate::wals::{FoundWal, FoundWals};
 use batch_repr::{Batch, Batches};
 use block_record::read_out;
 use disk_face::Disk;
-use segment_merge::{MergeFault, SegmentRead, Segments, merge, merge_lenient};
+use segment_merge::{LenientMerge, MergeFault, SegmentRead, Segments, merge};
 use std::alloc::Global;
 
 /// The number of the first batch.
@@ -217,73 +218,55 @@ pub(crate) fn merge_strict<D: Disk>(
     Ok(Merged { batches, next })
 }
 
-/// Reads the segments of all WALs as one row. In the row each has its place as its index.
-fn read_all<D: Disk>(
+/// Reads one WAL and goes on with the merge of those before it.
+fn add_wal<D: Disk>(
     alloc: Global,
     disk: &mut D,
-    segments: &[Found],
+    so_far: LenientMerge,
+    wal: &FoundWal,
     reports: &mut SegReports,
-) -> Result<Segments, RecoverFault>
+) -> Result<LenientMerge, RecoverFault>
+    requires order { AreByIndex 0 (map (stored_in (files (D.view disk.old))) wal.now.segments.items) }
+    requires own { IsOwnWal wal.now }
+    requires so_far { AreReportsMerged reports.old so_far }
     ensures goes_on { GoesOn (D.view disk.old) (D.view disk.new) }
     ensures same { SameDisk (D.view disk.old) (D.view disk.new) }
     ensures rose { IfErr result (FaultRose (D.view disk.old) (D.view disk.new)) }
-    ensures row { IfOk result IsRow }
-    ensures gathered { IfOk result (GathersAll D.tells (files (D.view disk.old)) segments.now reports.old reports.new) }
-    ensures bad { IfErr result (λ fault. IsTrue D.tells → AreAsListed (files (D.view disk.old)) segments.now → DiskMemoryOr (IsFirstBadOf (files (D.view disk.old)) segments.now) fault) }
+    ensures merged { IfOk result (AreReportsMerged reports.new) }
+    ensures reports { OnOk result (IsTrue D.tells → AreAsListed (files (D.view disk.old)) wal.now.segments.items → AddsReports (wal_in (files (D.view disk.old)) wal.now) reports.old reports.new) }
+    ensures refused { (before : List SegmentRead) → AreMergedOf before so_far → IfErr result (λ fault. IsTrue D.tells → AreAsListed (files (D.view disk.old)) wal.now.segments.items → DiskMemoryOr (IsLenientlyRefusedWal before (wal_in (files (D.view disk.old)) wal.now)) fault) }
 {
-    let mut row = Segments::new(alloc);
-    for segment in segments {
-        let Ok(place) = u32::try_from(row.len()) else {
-            return Err(RecoverFault::NoMemory);
-        };
-        read_segment(alloc, disk, *segment, place, reports, &mut row)?;
-    }
-    Ok(row)
-}
-
-/// The refusal of the segment at a place of the row.
-fn refusal_at(segments: &[Found], fault: MergeFault) -> RecoverFault
-    requires no_gap { IsNoGap fault }
-    requires within { IsPlaceBelow (length segments.now) fault }
-    ensures { IsNamedAs segments.now fault result }
-{
-    match fault {
-        MergeFault::Gap { .. } => unreachable!(),
-        MergeFault::Conflict { index, first } => {
-            let name = segments[index as usize].name;
-            RecoverFault::Conflict {
-                wal: name.wal,
-                index: name.index,
-                first,
-            }
-        }
-        MergeFault::NoMemory => RecoverFault::NoMemory,
+    let row = read_wal(alloc, disk, wal, reports)?;
+    match so_far.add(row) {
+        Ok(more) => Ok(more),
+        Err(fault) => Err(refusal(wal.number, fault)),
     }
 }
 
-/// Merges all WALs as one row, with gaps.
+/// Merges all WALs as one row, with gaps. Each is read only once those before it are merged.
 pub(crate) fn merge_all<D: Disk>(
     alloc: Global,
     disk: &mut D,
-    segments: &[Found],
+    wals: &FoundWals,
     reports: &mut SegReports,
 ) -> Result<Merged, RecoverFault>
+    requires order { AreByNumber 0 (wals_in (files (D.view disk.old)) wals.now) }
+    requires own { All IsOwnWal wals.now }
     requires none { reports.old ≡ [] }
     ensures goes_on { GoesOn (D.view disk.old) (D.view disk.new) }
     ensures same { SameDisk (D.view disk.old) (D.view disk.new) }
     ensures rose { IfErr result (FaultRose (D.view disk.old) (D.view disk.new)) }
     ensures next { IfOk result (λ merged. merged.next ≡ end_after FIRST_NUMBER merged.batches) }
     ensures within { IfOk result (λ merged. merged.next ≤ NUMBER_MAX) }
-    ensures merged { IfOk result (λ merged. IsTrue D.tells → IsRowOf (files (D.view disk.old)) segments.now → Ascends segments.now → RecoversLenient (dirs_as_read (files (D.view disk.old))) merged.batches) }
-    ensures reports { OnOk result (IsTrue D.tells → IsRowOf (files (D.view disk.old)) segments.now → Ascends segments.now → AreReports (dirs_as_read (files (D.view disk.old))) reports.new) }
-    ensures refused { IfErr result (λ fault. IsTrue D.tells → IsRowOf (files (D.view disk.old)) segments.now → Ascends segments.now → DiskMemoryOr (IsLenientlyRefused (dirs_as_read (files (D.view disk.old)))) fault) }
+    ensures merged { IfOk result (λ merged. IsTrue D.tells → AreListedWals (files (D.view disk.old)) wals.now → RecoversLenient (dirs_as_read (files (D.view disk.old))) merged.batches) }
+    ensures reports { OnOk result (IsTrue D.tells → AreListedWals (files (D.view disk.old)) wals.now → ReportOnAll (wals_in (files (D.view disk.old)) wals.now) reports.new) }
+    ensures refused { IfErr result (λ fault. IsTrue D.tells → AreListedWals (files (D.view disk.old)) wals.now → DiskMemoryOr (IsLenientlyRefused (dirs_as_read (files (D.view disk.old)))) fault) }
 {
-    let row = read_all(alloc, disk, segments, reports)?;
-    match merge_lenient(alloc, row) {
-        Ok(batches) => {
-            let next = end_behind(FIRST_NUMBER, batches.as_slice());
-            Ok(Merged { batches, next })
-        }
-        Err(fault) => Err(refusal_at(segments, fault)),
+    let mut so_far = LenientMerge::new(alloc);
+    for wal in wals.as_slice() {
+        so_far = add_wal(alloc, disk, so_far, wal, reports)?;
     }
+    let batches = so_far.into_batches();
+    let next = end_behind(FIRST_NUMBER, batches.as_slice());
+    Ok(Merged { batches, next })
 }

@@ -20,25 +20,20 @@ fn buffer_of(alloc: Global, len: usize) -> Result<Vec<u8>, AllocError>
     vec![in alloc; 0u8; len]
 }
 
-/// Reads into the buffer until it is full or the file ends, and answers how many bytes it read.
+/// Reads a segment into the buffer by one call, and answers how many bytes it read. An empty one is not read.
 fn fill<D: Disk>(disk: &mut D, segment: Found, buffer: &mut [u8]) -> Result<usize, DiskErr>
     ensures goes_on { GoesOn (D.view disk.old) (D.view disk.new) }
     ensures same { SameDisk (D.view disk.old) (D.view disk.new) }
     ensures failed { IsErrOf result DiskErr.Failed → Rose ((D.view disk.old).faults segment.side) ((D.view disk.new).faults segment.side) }
     ensures bytes { IfOk result (λ n. IsTrue D.tells → HasLength (files (D.view disk.old)) (place_of segment) (length buffer.old) → take n buffer.new ≡ bytes_at (files (D.view disk.old)) (place_of segment)) }
 {
-    let mut at = 0;
-    while at < buffer.len() {
-        let count = disk.read(segment.side, segment.name, at as u64, &mut buffer[at..])?;
-        if count == 0 {
-            break;
-        }
-        at += count;
+    if buffer.is_empty() {
+        return Ok(0);
     }
-    Ok(at)
+    disk.read(segment.side, segment.name, 0, buffer)
 }
 
-/// Reads a segment: at most as many bytes as were listed, in one piece of memory.
+/// Reads a segment: as many bytes as were listed, in one piece of memory.
 pub(crate) fn read_bytes<D: Disk>(
     alloc: Global,
     disk: &mut D,

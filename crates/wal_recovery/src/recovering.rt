@@ -83,19 +83,21 @@ fn recover_lenient<D: Disk>(
     requires idle { NothingInFlight (D.view disk.old) }
     requires ascends { Ascends segments.now }
     requires numbers { All (λ (f : Found). IsSegmentName f.name) segments.now }
+    requires listed { IsTrue D.tells → IsRowOf (files (D.view disk.old)) segments.now }
     ensures goes_on { GoesOn (D.view disk.old) (D.view disk.new) }
     ensures idle { NothingInFlight (D.view disk.new) }
     ensures disk { IfErr result (FaultRose (D.view disk.old) (D.view disk.new)) }
-    ensures recovered { IfOk result (λ found. IsTrue D.tells → IsRowOf (files (D.view disk.old)) segments.now → RecoversBy Lenient (dirs_as_read (files (D.view disk.old))) found.batches) }
-    ensures refused { IfErr result (λ fault. IsTrue D.tells → IsRowOf (files (D.view disk.old)) segments.now → DiskMemoryOr (IsRefusedBy Lenient (dirs_as_read (files (D.view disk.old)))) fault) }
-    ensures reports { IfOk result (λ found. IsTrue D.tells → IsRowOf (files (D.view disk.old)) segments.now → AreReports (dirs_as_read (files (D.view disk.old))) found.segments) }
+    ensures recovered { IfOk result (λ found. IsTrue D.tells → RecoversBy Lenient (dirs_as_read (files (D.view disk.old))) found.batches) }
+    ensures refused { IfErr result (λ fault. IsTrue D.tells → DiskMemoryOr (IsRefusedBy Lenient (dirs_as_read (files (D.view disk.old)))) fault) }
+    ensures reports { IfOk result (λ found. IsTrue D.tells → AreReports (dirs_as_read (files (D.view disk.old))) found.segments) }
     ensures within { IfOk result (λ found. found.next ≤ NUMBER_MAX) }
     ensures next { IfOk result (λ found. found.next ≡ end_after FIRST_NUMBER found.batches) }
     ensures next_wal { IfOk result (λ found. IsNextBehind segments.now found.next_wal) }
     ensures same { SameDisk (D.view disk.old) (D.view disk.new) }
 {
+    let wals = by_wal(alloc, segments)?;
     let mut reports = SegReports::new(alloc);
-    let merged = merge_all(alloc, disk, segments, &mut reports)?;
+    let merged = merge_all(alloc, disk, &wals, &mut reports)?;
     Ok(Recovered {
         batches: merged.batches,
         next: merged.next,
@@ -107,9 +109,10 @@ fn recover_lenient<D: Disk>(
 /// Recovers the batches that the two directories hold, and reports on each segment.
 ///
 /// Each side is listed once, the primary one first. `DuplicateSegment` is looked for over all names, before any
-/// segment is read. `Strict` then reads, decodes and merges WAL by WAL in ascending order, each from the end of those
-/// before it, and syncs every segment before it answers `Ok`. `Lenient` reads the segments of all WALs as one row,
-/// accepts gaps, and starts no operation. `Disk` is answered at the call that failed, and `NoMemory` may come at any
+/// segment is read. Then the WALs are read, decoded and merged in ascending order, each only once those before it are
+/// merged, and the first refusal met is the answer. `Strict` merges each WAL from the end of those before it, and syncs
+/// every segment before it answers `Ok`. `Lenient` merges the segments of all WALs as one row, accepts gaps, and starts
+/// no operation. `Disk` is answered at the call that failed, and `NoMemory` may come at any
 /// time. Nothing is in flight at the end, whatever is answered.
 pub fn recover<D: Disk>(alloc: Global, disk: &mut D, mode: Mode) -> Result<Recovered, RecoverFault>
     requires { NothingInFlight (D.view disk.old) }

@@ -10,14 +10,14 @@ use wal_base::{Buf, Entry};
 
 /// A segment of a WAL, with batches by their first numbers. Each sets `a` to one digit.
 #[derive(Clone, Copy)]
-struct Segment<'a> {
-    side: Side,
-    wal: u64,
-    index: u32,
-    batches: &'a [(u8, u8)],
+pub(crate) struct Segment<'a> {
+    pub(crate) side: Side,
+    pub(crate) wal: u64,
+    pub(crate) index: u32,
+    pub(crate) batches: &'a [(u8, u8)],
 }
 
-fn primary<'a>(wal: u64, index: u32, batches: &'a [(u8, u8)]) -> Segment<'a> {
+pub(crate) fn primary<'a>(wal: u64, index: u32, batches: &'a [(u8, u8)]) -> Segment<'a> {
     Segment {
         side: Side::Primary,
         wal,
@@ -26,7 +26,7 @@ fn primary<'a>(wal: u64, index: u32, batches: &'a [(u8, u8)]) -> Segment<'a> {
     }
 }
 
-fn secondary<'a>(wal: u64, index: u32, batches: &'a [(u8, u8)]) -> Segment<'a> {
+pub(crate) fn secondary<'a>(wal: u64, index: u32, batches: &'a [(u8, u8)]) -> Segment<'a> {
     Segment {
         side: Side::Secondary,
         wal,
@@ -35,11 +35,18 @@ fn secondary<'a>(wal: u64, index: u32, batches: &'a [(u8, u8)]) -> Segment<'a> {
     }
 }
 
+/// In place of a digit: the record ends within its batch, in the entry at 12.
+pub(crate) const CUT: u8 = 10;
+
 /// The record of a batch.
 fn record_of(first: u8, digit: u8) -> [u8; 17] {
     let mut record = *b"\x0a\0\0\0\0\0\0\0\x01\0\0\0\x01\x01a\x010";
     record[0] = first;
-    record[16] = b'0'.wrapping_add(digit);
+    if digit == CUT {
+        record[15] = 2;
+    } else {
+        record[16] = b'0'.wrapping_add(digit);
+    }
     record
 }
 
@@ -61,7 +68,7 @@ fn bytes_of(rt: &impl Abort, alloc: Global, log: u32, batches: &[(u8, u8)]) -> B
 
 /// A disk on which nothing is in flight.
 #[derive(Drop)]
-struct Rig {
+pub(crate) struct Rig {
     disk: MemDisk,
 }
 
@@ -83,7 +90,7 @@ impl Rig {
     }
 
     /// A disk with these segments.
-    fn of(rt: &impl Abort, alloc: Global, segments: &[Segment<'_>]) -> Rig {
+    pub(crate) fn of(rt: &impl Abort, alloc: Global, segments: &[Segment<'_>]) -> Rig {
         let mut rig = Rig::new(rt, alloc);
         for segment in segments {
             let name = SegName {
@@ -111,7 +118,7 @@ impl Rig {
         self.disk.fail_op(number).expect(rt, "memory");
     }
 
-    fn recover(&mut self, alloc: Global, mode: Mode) -> Result<Recovered, RecoverFault> {
+    pub(crate) fn recover(&mut self, alloc: Global, mode: Mode) -> Result<Recovered, RecoverFault> {
         recover(alloc, &mut self.disk, mode)
     }
 }
@@ -145,9 +152,9 @@ fn report_at(
 }
 
 /// What a recovery gave: how many batches, the last digit, and the numbers that come next.
-fn summary(
-    found: Result<Recovered, RecoverFault>,
-) -> Result<(usize, Option<u8>, u64, u64), RecoverFault> {
+pub(crate) type Summary = Result<(usize, Option<u8>, u64, u64), RecoverFault>;
+
+pub(crate) fn summary(found: Result<Recovered, RecoverFault>) -> Summary {
     let found = found?;
     let len = found.batches.len();
     let last = digit_at(&found.batches, len.saturating_sub(1));

@@ -1,65 +1,95 @@
-use Rattle.std.proofs.Common.{◌≡◌, ◌++◌, List, Err, All, IsTrue, length, sym, subst, ap, ◌∙◌, rules, arith}
-use Rattle.std.specs.Prelude.{IfErr, Result}
+-- Each WAL goes on with the merge of those before it, so those up to it are merged as one row, and what refuses it refuses the directories.
+use Rattle.std.proofs.Common.{◌≡◌, map, [], Err, IsTrue, All, length, sym, subst, ap, rules, arith}
+use Rattle.std.specs.Prelude.{IfErr, Result, List}
+use Rattle.std.proofs.lemmas.List.{take_all}
 use Rattle.batch_repr.specs.Batches.{end_after}
 use Rattle.segment_merge.specs.Rows.{IsNumbered}
-use Rattle.disk_face.specs.View.{files}
+use Rattle.segment_merge.specs.Lenient.{MergedLenient}
+use Rattle.disk_face.specs.View.{Files, files}
 use Rattle.disk_face.specs.Image.{dirs_as_read}
+use Rattle.disk_face.proofs.Moments.{goes_on_from, goes_on_further, same_from, same_further, same_files}
 use Rattle.wal_recovery.specs.declared.fault.RecoverFault.{RecoverFault}
 use Rattle.wal_recovery.specs.declared.merging.Merged.{Merged}
-use Rattle.wal_recovery.specs.declared.reports.SegReport.{SegReport}
-use Rattle.wal_recovery.specs.Answers.{DiskMemoryOr}
+use Rattle.wal_recovery.specs.declared.wals.FoundWal.{FoundWal}
+use Rattle.wal_recovery.specs.Listing.{AreByIndex}
 use Rattle.wal_recovery.specs.Recovering.{FIRST_NUMBER}
-use Rattle.wal_recovery.specs.Reports.{AreReports}
 use Rattle.wal_recovery.specs.Refused.{IsLenientlyRefused}
-use Rattle.wal_recovery.specs.Rows.{Ascends, IsRowOf}
-use Rattle.wal_recovery.specs.Gathered.{IsFirstBadOf, counted_in}
-use Rattle.wal_recovery.proofs.Adding.{counted_length}
-use Rattle.wal_recovery.proofs.AllWals.{refused_map, row_as_listed, all_merged, all_reported, all_bad, all_denied}
-use Rattle.wal_recovery.proofs.Placed.{below_all}
-use Rattle.wal_recovery.proofs.Strictly.{lenient_numbered, end_within}
+use Rattle.wal_recovery.specs.Reports.{ReportOnAll}
+use Rattle.wal_recovery.specs.Answers.{DiskMemoryOr}
+use Rattle.wal_recovery.specs.Rows.{stored_in, wal_in, wals_in}
+use Rattle.wal_recovery.specs.Gathered.{AreAsListed, AreListedWals, counted_in}
+use Rattle.wal_recovery.specs.OneWal.{AddsReports, IsLenientlyRefusedWal}
+use Rattle.wal_recovery.proofs.Strictly.{end_within}
+use Rattle.wal_recovery.proofs.AtWal.{StandsAt, stands_at, reports_none, order_at, reports_at}
+use Rattle.wal_recovery.proofs.Leniently as leniently
+use Rattle.wal_recovery.proofs.Leniently.{reports_hold, reports_numbered, refused_behind}
 use Rattle.wal_recovery.proofs.merging.merge_all.Goals as goal
 
-pub end_behind-next-requires : goal.end_behind-next-requires
-end_behind-next-requires g c = subst (All IsNumbered) (sym c.as_slice.ensures) (lenient_numbered c.in_ok-row.row c.in-Ok.batches c.in_ok-row.ensures.row c.in-Ok.ensures.found)
+pub loop-wal-init : goal.loop-wal-init
+loop-wal-init g c =
+    let v = g.D.Disk.view c.args.disk.now in
+    record {
+      goes = goes_on_from v;
+      same = same_from v;
+      merged = leniently.reports_none c.args.reports.now c.new-so_far.result c.requires.none c.new-so_far.ensures;
+      reports = λ told listed. subst (ReportOnAll []) (sym c.requires.none) (reports_none (files v) c.args.wals.now);
+    }
 
-pub refusal_at-requires-clause-within : goal.refusal_at-requires-clause-within
-refusal_at-requires-clause-within g c =
-    let added = c.in_ok-row.ensures.gathered.added in
-    below_all c.in_ok-row.row (counted_in added.own) (length c.args.segments.now) c.in-Err.fault c.in_ok-row.ensures.gathered.rows
-    (counted_length g.D.Disk.tells (files (g.D.Disk.view c.args.disk.now)) added.own ∙ added.as_many) c.in-Err.ensures.refused
+pub add_wal-requires-clause-order : goal.add_wal-requires-clause-order
+add_wal-requires-clause-order g c =
+    let first = g.D.Disk.view c.args.disk.now in
+    let mid = g.D.Disk.view c.loop-wal.disk in
+    let now : files mid ≡ files first = same_files first mid c.loop-wal.invariant.same in
+    let at : StandsAt c.args.wals.now c.loop-wal.wal-index c.wal-item.result = stands_at c.as_slice-wal-items.ensures c.loop-wal-test.true c.wal-item.is in
+    subst (λ (fs : Files). AreByIndex 0 (map (stored_in fs) c.wal-item.result.segments.items)) (sym now) (order_at (files first) c.args.wals.now c.loop-wal.wal-index c.wal-item.result at c.requires.order)
 
-pub returns-in_err-row-clause-refused : goal.returns-in_err-row-clause-refused
-returns-in_err-row-clause-refused g c =
-    let now = files (g.D.Disk.view c.args.disk.now) in
-    let segments = c.args.segments.now in
-    let fault = c.in_err-row.field-0.0 in
+pub loop-wal-preserved : goal.loop-wal-preserved
+loop-wal-preserved g c =
+    let first = g.D.Disk.view c.args.disk.now in
+    let mid = g.D.Disk.view c.loop-wal.disk in
+    let new = g.D.Disk.view c.add_wal.new.disk in
+    let now : files mid ≡ files first = same_files first mid c.loop-wal.invariant.same in
+    let at : StandsAt c.args.wals.now c.loop-wal.wal-index c.wal-item.result = stands_at c.as_slice-wal-items.ensures c.loop-wal-test.true c.wal-item.is in
+    record {
+      goes = goes_on_further first mid new c.loop-wal.invariant.goes c.in_ok-so_far.ensures.goes_on;
+      same = same_further first mid new c.loop-wal.invariant.same c.in_ok-so_far.ensures.same;
+      merged = c.in_ok-so_far.ensures.merged;
+      reports = λ told listed. reports_at (files first) c.args.wals.now c.loop-wal.wal-index c.wal-item.result at c.loop-wal.reports c.add_wal.new.reports
+          (c.loop-wal.invariant.reports told listed)
+          (subst (λ (fs : Files). AreAsListed fs c.wal-item.result.segments.items → AddsReports (wal_in fs c.wal-item.result) c.loop-wal.reports c.add_wal.new.reports) now (c.in_ok-so_far.ensures.reports told)) listed;
+    }
+
+pub returns-in_err-so_far-clause-refused : goal.returns-in_err-so_far-clause-refused
+returns-in_err-so_far-clause-refused g c =
+    let first = g.D.Disk.view c.args.disk.now in
+    let mid = g.D.Disk.view c.loop-wal.disk in
+    let now : files mid ≡ files first = same_files first mid c.loop-wal.invariant.same in
+    let at : StandsAt c.args.wals.now c.loop-wal.wal-index c.wal-item.result = stands_at c.as_slice-wal-items.ensures c.loop-wal-test.true c.wal-item.is in
+    let fault = c.in_err-so_far.field-0.0 in
     let is : c.from_residual.result ≡ Err fault = search rules in
-    subst (λ (r : Result Merged RecoverFault). IfErr r (λ fault. IsTrue g.D.Disk.tells → IsRowOf now segments → Ascends segments → DiskMemoryOr (IsLenientlyRefused (dirs_as_read now)) fault)) (sym is)
-    (λ told row up. refused_map (IsFirstBadOf now segments) (IsLenientlyRefused (dirs_as_read now)) fault (all_bad now segments up row) (c.in_err-row.ensures.bad told (row_as_listed now segments row)))
+    subst (λ (r : Result Merged RecoverFault). IfErr r (λ fault. IsTrue g.D.Disk.tells → AreListedWals (files first) c.args.wals.now → DiskMemoryOr (IsLenientlyRefused (dirs_as_read (files first))) fault)) (sym is)
+    (λ told listed. refused_behind (files first) c.args.wals.now c.loop-wal.wal-index c.wal-item.result at c.loop-wal.reports c.loop-wal.so_far fault (c.loop-wal.invariant.reports told listed) c.loop-wal.invariant.merged
+    (λ before m. subst (λ (fs : Files). AreAsListed fs c.wal-item.result.segments.items → DiskMemoryOr (IsLenientlyRefusedWal before (wal_in fs c.wal-item.result)) fault) now (c.in_err-so_far.ensures.refused before m told)) listed)
 
-pub returns-in-Ok-clause-merged : goal.returns-in-Ok-clause-merged
-returns-in-Ok-clause-merged g c =
-    let now = files (g.D.Disk.view c.args.disk.now) in
-    let segments = c.args.segments.now in
-    let gathered = c.in_ok-row.ensures.gathered in
-    λ told row up. all_merged now segments up row gathered.added.own c.in_ok-row.row c.in-Ok.batches (gathered.added.holds told (row_as_listed now segments row)) gathered.rows c.in-Ok.ensures.found
+pub end_behind-next-requires : goal.end_behind-next-requires
+end_behind-next-requires g c = subst (All IsNumbered) (sym c.as_slice.ensures) (subst (All IsNumbered) (sym c.into_batches-batches.ensures) (reports_numbered c.loop-wal.reports c.loop-wal.so_far c.loop-wal.invariant.merged))
 
-pub returns-in-Ok-clause-reports : goal.returns-in-Ok-clause-reports
-returns-in-Ok-clause-reports g c =
-    let now = files (g.D.Disk.view c.args.disk.now) in
-    let segments = c.args.segments.now in
-    let added = c.in_ok-row.ensures.gathered.added in
-    λ told row up. subst (AreReports (dirs_as_read now)) (sym (added.reports ∙ ap (λ (l : List SegReport). l ++ added.own) c.requires.none))
-    (all_reported now segments up row added.own (added.holds told (row_as_listed now segments row)))
-
-pub returns-in-Err-clause-refused : goal.returns-in-Err-clause-refused
-returns-in-Err-clause-refused g c =
-    let now = files (g.D.Disk.view c.args.disk.now) in
-    let segments = c.args.segments.now in
-    let gathered = c.in_ok-row.ensures.gathered in
-    λ told row up. all_denied now segments up row gathered.added.own c.in_ok-row.row c.in-Err.fault c.refusal_at.result (gathered.added.holds told (row_as_listed now segments row)) gathered.rows c.in-Err.ensures.refused c.refusal_at.ensures
-
-pub returns-in-Ok-clause-within : goal.returns-in-Ok-clause-within
-returns-in-Ok-clause-within g c =
-    let low = end_within FIRST_NUMBER c.in-Ok.batches (omega arith) (lenient_numbered c.in_ok-row.row c.in-Ok.batches c.in_ok-row.ensures.row c.in-Ok.ensures.found) in
+pub returns-clause-within : goal.returns-clause-within
+returns-clause-within g c =
+    let numbered : All IsNumbered c.into_batches-batches.result = subst (All IsNumbered) (sym c.into_batches-batches.ensures) (reports_numbered c.loop-wal.reports c.loop-wal.so_far c.loop-wal.invariant.merged) in
+    let low = end_within FIRST_NUMBER c.into_batches-batches.result (omega arith) numbered in
     omega (arith, low, c.end_behind-next.ensures, ap (end_after FIRST_NUMBER) c.as_slice.ensures)
+
+pub returns-clause-merged : goal.returns-clause-merged
+returns-clause-merged g c =
+    let at = files (g.D.Disk.view c.args.disk.now) in
+    λ told listed.
+    let reported : ReportOnAll (wals_in at c.args.wals.now) c.loop-wal.reports =
+    subst (λ (l : List FoundWal). ReportOnAll (wals_in at l) c.loop-wal.reports) (take_all c.loop-wal.wal-index c.args.wals.now (omega (arith, c.loop-wal-test.false, ap (λ (l : List FoundWal). length l) c.as_slice-wal-items.ensures))) (c.loop-wal.invariant.reports told listed) in
+    record {
+      wals = wals_in at c.args.wals.now;
+      listed = listed.listed;
+      rows = counted_in c.loop-wal.reports;
+      hold = reports_hold (wals_in at c.args.wals.now) c.loop-wal.reports reported;
+      merges = subst (MergedLenient (counted_in c.loop-wal.reports)) (sym c.into_batches-batches.ensures) c.loop-wal.invariant.merged.merges;
+    }

@@ -7,11 +7,10 @@ use Rattle.wal_recovery.specs.declared.fault.RecoverFault.{RecoverFault}
 use Rattle.wal_recovery.specs.declared.listing.Found.{Found}
 use Rattle.wal_recovery.specs.declared.reports.Mode.TheVariants.{Strict, Lenient}
 use Rattle.wal_recovery.specs.declared.reports.Recovered.{Recovered}
-use Rattle.wal_recovery.specs.Reports.{AreReports}
 use Rattle.wal_recovery.specs.Resting.{AreSegmentsStable, OnlySynced}
-use Rattle.wal_recovery.specs.Answers.{RecoversBy, IsRefusedBy, DiskMemoryOr, OkOrFailed, ErrOrFailed}
+use Rattle.wal_recovery.specs.Answers.{OkOrFailed, ErrOrFailed}
 use Rattle.wal_recovery.specs.Rows.{Ascends, IsRowOf}
-use Rattle.wal_recovery.proofs.Tools.{on_ok_map, ok_given, err_given}
+use Rattle.wal_recovery.proofs.Tools.{on_ok_map}
 use Rattle.wal_recovery.proofs.Rested.{same_then, synced_moments}
 use Rattle.wal_recovery.proofs.NextWals.{next_wal_answered}
 use Rattle.wal_recovery.proofs.Answered.{twice_refused, only_recovered, only_refused, row_behind, recovered_before, refused_before, reported_before}
@@ -90,35 +89,21 @@ returns-in-Strict-clause-stable g c =
 
 -- ---- gaps are accepted
 
+pub recover_lenient-requires-clause-listed : goal.recover_lenient-requires-clause-listed
+recover_lenient-requires-clause-listed g c = λ told.
+    row_behind (g.D.Disk.view c.args.disk.now) (g.D.Disk.view c.list_all.new.disk) c.in_ok-segments.ensures.same c.as_slice-in-Lenient.result.now c.in_ok-segments.segments c.as_slice-in-Lenient.ensures (c.in_ok-segments.ensures.listed told)
+
 pub returns-clause-recovered : goal.returns-clause-recovered
 returns-clause-recovered g c =
-    let now = g.D.Disk.view c.args.disk.now in
-    let mid = g.D.Disk.view c.list_all.new.disk in
-    let row = c.as_slice-in-Lenient.result.now in
-    recovered_before now mid c.in_ok-segments.ensures.same c.args.mode Lenient c.in-Lenient.is g.D.Disk.tells c.recover_lenient.result
-    (ok_given (IsRowOf (files mid) row) (IsTrue g.D.Disk.tells) (λ (found : Recovered). RecoversBy Lenient (dirs_as_read (files mid)) found.batches) c.recover_lenient.result
-    (λ told. row_behind now mid c.in_ok-segments.ensures.same row c.in_ok-segments.segments c.as_slice-in-Lenient.ensures (c.in_ok-segments.ensures.listed told))
-    c.recover_lenient.ensures.recovered)
+    recovered_before (g.D.Disk.view c.args.disk.now) (g.D.Disk.view c.list_all.new.disk) c.in_ok-segments.ensures.same c.args.mode Lenient c.in-Lenient.is g.D.Disk.tells c.recover_lenient.result c.recover_lenient.ensures.recovered
 
 pub returns-clause-refused : goal.returns-clause-refused
 returns-clause-refused g c =
-    let now = g.D.Disk.view c.args.disk.now in
-    let mid = g.D.Disk.view c.list_all.new.disk in
-    let row = c.as_slice-in-Lenient.result.now in
-    refused_before now mid c.in_ok-segments.ensures.same c.args.mode Lenient c.in-Lenient.is g.D.Disk.tells c.recover_lenient.result
-    (err_given (IsRowOf (files mid) row) (IsTrue g.D.Disk.tells) (DiskMemoryOr (IsRefusedBy Lenient (dirs_as_read (files mid)))) c.recover_lenient.result
-    (λ told. row_behind now mid c.in_ok-segments.ensures.same row c.in_ok-segments.segments c.as_slice-in-Lenient.ensures (c.in_ok-segments.ensures.listed told))
-    c.recover_lenient.ensures.refused)
+    refused_before (g.D.Disk.view c.args.disk.now) (g.D.Disk.view c.list_all.new.disk) c.in_ok-segments.ensures.same c.args.mode Lenient c.in-Lenient.is g.D.Disk.tells c.recover_lenient.result c.recover_lenient.ensures.refused
 
 pub returns-clause-reports : goal.returns-clause-reports
 returns-clause-reports g c =
-    let now = g.D.Disk.view c.args.disk.now in
-    let mid = g.D.Disk.view c.list_all.new.disk in
-    let row = c.as_slice-in-Lenient.result.now in
-    reported_before now mid c.in_ok-segments.ensures.same g.D.Disk.tells c.recover_lenient.result
-    (ok_given (IsRowOf (files mid) row) (IsTrue g.D.Disk.tells) (λ (found : Recovered). AreReports (dirs_as_read (files mid)) found.segments) c.recover_lenient.result
-    (λ told. row_behind now mid c.in_ok-segments.ensures.same row c.in_ok-segments.segments c.as_slice-in-Lenient.ensures (c.in_ok-segments.ensures.listed told))
-    c.recover_lenient.ensures.reports)
+    reported_before (g.D.Disk.view c.args.disk.now) (g.D.Disk.view c.list_all.new.disk) c.in_ok-segments.ensures.same g.D.Disk.tells c.recover_lenient.result c.recover_lenient.ensures.reports
 
 pub returns-clause-complete : goal.returns-clause-complete
 returns-clause-complete g c = λ told merged h.

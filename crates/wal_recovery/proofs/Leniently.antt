@@ -1,0 +1,197 @@
+-- WALs that are merged one after another as one row, with gaps: their reports hold the row, and what refuses a WAL behind it refuses the directories.
+use Rattle.std.proofs.Common.{◌≡◌, ℕ, suc, List, [], ◌∷◌, ◌++◌, All, IsTrue, Bool, length, map, take, subst, sym, ap, ◌∙◌, refl, arith}
+use Rattle.std.specs.List.{AllZip, AllByRecursion}
+use Rattle.std.proofs.lemmas.List.{map-append}
+use Rattle.std.proofs.lemmas.List.Elements.{All-append, All-nil, recursion_from_All}
+use Rattle.batch_repr.specs.declared.batch.Batch.{Batch}
+use Rattle.segment_merge.specs.declared.segment.SegmentRead.{SegmentRead}
+use Rattle.segment_merge.specs.declared.fault.MergeFault.{MergeFault}
+use Rattle.segment_merge.specs.declared.fault.MergeFault.TheVariants as merges
+use Rattle.segment_merge.specs.Rows.{IsNumbered, IsNumberedSegment, batches_in}
+use Rattle.segment_merge.specs.Lenient.{MergedLenient, AreMergedOf, IsLenientConflict}
+use Rattle.segment_merge.specs.Lenient as lenient
+use Rattle.segment_merge.specs.Returned.{MemoryOr}
+use Rattle.segment_merge.proofs.LenientRows.{merged_none}
+use Rattle.disk_face.specs.View.{Files}
+use Rattle.disk_face.specs.Image.{dirs_as_read}
+use Rattle.wal_recovery.specs.declared.fault.RecoverFault.{RecoverFault}
+use Rattle.wal_recovery.specs.declared.fault.RecoverFault.TheVariants as faults
+use Rattle.wal_recovery.specs.declared.listing.Found.{Found}
+use Rattle.wal_recovery.specs.declared.reports.SegReport.{SegReport}
+use Rattle.wal_recovery.specs.declared.wals.FoundWal.{FoundWal}
+use Rattle.wal_recovery.specs.Listing.{Stored, Wal, IsListingOf}
+use Rattle.wal_recovery.specs.Recovering.{log_number, counted, HoldRow, HoldAll}
+use Rattle.wal_recovery.specs.Refused.{by_index, segments_of, ReachesLenient, IsLenientlyRefused}
+use Rattle.wal_recovery.specs.Reports.{IsReport, ReportOnAll}
+use Rattle.wal_recovery.specs.Answers.{DiskMemoryOr}
+use Rattle.wal_recovery.specs.Rows.{stored_in, wal_in, wals_in}
+use Rattle.wal_recovery.specs.Gathered.{AreAsListed, IsNumberedReport, counted_in, read_as, GathersWal, AreReportsMerged, IsFirstBadOf, IsOwnWal, AreListedWals, named_in_wal}
+use Rattle.wal_recovery.specs.OneWal.{HoldsRow, IsLenientlyRefusedWal}
+use Rattle.wal_recovery.proofs.Gathering.{row_holds}
+use Rattle.wal_recovery.proofs.Adding.{counted_length}
+use Rattle.wal_recovery.proofs.AtWal.{StandsAt, cut_at, listed_at}
+use Rattle.wal_recovery.proofs.OneWal.{own_of, bad_refused}
+use Rattle.wal_recovery.proofs.Strictly.{lenient_numbered}
+
+-- ---- reports hold the row of their segments
+
+wal_holds : (number : ℕ) (segments : List Stored) (own : List SegReport) → AllZip (IsReport number) segments own → HoldRow (log_number number) segments (counted_in own)
+wal_holds number [] [] on = tt
+wal_holds number [] (r ∷ own) on = absurd on
+wal_holds number (s ∷ segments) [] on = absurd on
+wal_holds number (s ∷ segments) (r ∷ own) on =
+    (record { records = on.0.records; ends_at = r.ends_at; torn = r.torn; read = on.0.read; all = r.batches; spelled = on.0.batches; counted_are = refl }, wal_holds number segments own on.1)
+
+counted_append : (old own : List SegReport) → counted_in (old ++ own) ≡ counted_in old ++ counted_in own
+counted_append old own = map-append (λ (r : SegReport). counted r.batches) old own
+
+pub reports_hold : (wals : List Wal) (reports : List SegReport) → ReportOnAll wals reports → HoldAll wals (counted_in reports)
+unfolding HoldAll ReportOnAll
+reports_hold [] reports h = ap counted_in h
+reports_hold (wal ∷ wals) reports (own, later, on, rest, is) =
+    (counted_in own, counted_in later, wal_holds wal.number wal.segments own on, reports_hold wals later rest, ap counted_in is ∙ counted_append own later)
+
+-- ---- rows under indexes
+
+pub by_index_append : (log : ℕ) (segments more : List Stored) (own later : List (List Batch)) → HoldRow log segments own → by_index (segments ++ more) (own ++ later) ≡ by_index segments own ++ by_index more later
+by_index_append log [] more [] later h = refl
+by_index_append log [] more (b ∷ own) later h = absurd h
+by_index_append log (s ∷ segments) more [] later h = absurd h
+by_index_append log (s ∷ segments) more (b ∷ own) later h = ap (λ (l : List SegmentRead). record { index = s.index; batches = b } ∷ l) (by_index_append log segments more own later h.1)
+
+pub batches_by_length : (segments : List Stored) (row : List (List Batch)) → length row ≡ length segments → batches_in (by_index segments row) ≡ row
+batches_by_length [] [] e = refl
+batches_by_length [] (b ∷ row) e = absurd (omega (arith, e))
+batches_by_length (s ∷ segments) [] e = absurd (omega (arith, e))
+batches_by_length (s ∷ segments) (b ∷ row) e = ap (λ (l : List (List Batch)). b ∷ l) (batches_by_length segments row (omega (arith, e)))
+
+batches_append : (before row : List SegmentRead) → batches_in (before ++ row) ≡ batches_in before ++ batches_in row
+batches_append before row = map-append (λ (s : SegmentRead). s.batches) before row
+
+row_batches : (log : ℕ) (segments : List Stored) (row : List (List Batch)) → HoldRow log segments row → batches_in (by_index segments row) ≡ row
+row_batches log [] [] h = refl
+row_batches log [] (b ∷ row) h = absurd h
+row_batches log (s ∷ segments) [] h = absurd h
+row_batches log (s ∷ segments) (b ∷ row) h = ap (λ (l : List (List Batch)). b ∷ l) (row_batches log segments row h.1)
+
+-- the row of all WALs has the batches that they hold
+pub all_batches : (wals : List Wal) (rows : List (List Batch)) → HoldAll wals rows → batches_in (by_index (segments_of wals) rows) ≡ rows
+unfolding HoldAll
+all_batches [] rows h = sym h
+all_batches (wal ∷ wals) rows (own, later, here, rest, is) =
+    ap (λ (r : List (List Batch)). batches_in (by_index (wal.segments ++ segments_of wals) r)) is
+    ∙ ap batches_in (by_index_append (log_number wal.number) wal.segments (segments_of wals) own later here)
+    ∙ batches_append (by_index wal.segments own) (by_index (segments_of wals) later)
+    ∙ ap (λ (r : List (List Batch)). r ++ batches_in (by_index (segments_of wals) later)) (row_batches (log_number wal.number) wal.segments own here)
+    ∙ ap (λ (r : List (List Batch)). own ++ r) (all_batches wals later rest)
+    ∙ sym is
+
+-- ---- reports that are merged
+
+-- the reports as a row
+abbrev pub as_row : List SegReport → List SegmentRead
+as_row reports = map (read_as 0) reports
+
+row_counted : (reports : List SegReport) → batches_in (as_row reports) ≡ counted_in reports
+row_counted [] = refl
+row_counted (r ∷ reports) = ap (λ (l : List (List Batch)). counted r.batches ∷ l) (row_counted reports)
+
+row_numbered : (reports : List SegReport) → AllByRecursion IsNumberedReport reports → AllByRecursion IsNumberedSegment (as_row reports)
+row_numbered [] h = tt
+row_numbered (r ∷ reports) h = (h.0, row_numbered reports h.1)
+
+pub reports_none : (reports : List SegReport) (merged : List Batch) → reports ≡ [] → merged ≡ [] → AreReportsMerged reports merged
+reports_none reports merged none empty = subst (λ (l : List SegReport). AreReportsMerged l merged) (sym none) (record { merges = merged_none merged empty; numbered = All-nil IsNumberedReport })
+
+pub reports_merged_of : (reports : List SegReport) (merged : List Batch) → AreReportsMerged reports merged → AreMergedOf (as_row reports) merged
+reports_merged_of reports merged a = subst (λ (rows : List (List Batch)). MergedLenient rows merged) (sym (row_counted reports)) a.merges
+
+pub reports_numbered : (reports : List SegReport) (merged : List Batch) → AreReportsMerged reports merged → All IsNumbered merged
+reports_numbered reports merged a = lenient_numbered (as_row reports) merged (row_numbered reports (recursion_from_All IsNumberedReport reports a.numbered)) (reports_merged_of reports merged a)
+
+module _ (tells : Bool) (files : Files) where
+  stored_length : (segments : List Found) → length (map (stored_in files) segments) ≡ length segments
+  stored_length [] = refl
+  stored_length (f ∷ segments) = ap suc (stored_length segments)
+
+  -- with one WAL more
+  pub reports_more : (wal : FoundWal) (old new : List SegReport) (row : List SegmentRead) (merged longer : List Batch) → GathersWal tells files wal.segments.items old new row → AreReportsMerged old merged
+      → AreMergedOf (as_row old ++ row) longer → AreReportsMerged new longer
+  reports_more wal old new row merged longer g a m = record {
+    merges =
+        let own = g.added.own in
+        let many : length (counted_in own) ≡ length (map (stored_in files) wal.segments.items) = counted_length tells files own ∙ g.added.as_many ∙ sym (stored_length wal.segments.items) in
+        let is : batches_in (as_row old ++ row) ≡ counted_in new =
+        batches_append (as_row old) row
+        ∙ ap (λ (r : List (List Batch)). r ++ batches_in row) (row_counted old)
+        ∙ ap (λ (r : List SegmentRead). counted_in old ++ batches_in r) g.rows
+        ∙ ap (λ (r : List (List Batch)). counted_in old ++ r) (batches_by_length (map (stored_in files) wal.segments.items) (counted_in own) many)
+        ∙ sym (counted_append old own)
+        ∙ ap counted_in (sym g.added.reports) in
+        subst (λ (rows : List (List Batch)). MergedLenient rows longer) is m;
+    numbered = subst (All IsNumberedReport) (sym g.added.reports) (All-append IsNumberedReport old g.added.own a.numbered g.added.numbered);
+  }
+
+  module _ (wal : FoundWal) (own : IsOwnWal wal) where
+    -- what refuses a merge of its row refuses the WAL
+    pub row_refused_behind : (before : List SegmentRead) (old new : List SegReport) (row : List SegmentRead) (fault : MergeFault) → GathersWal tells files wal.segments.items old new row → MemoryOr (lenient.IsLenientlyRefused (before ++ row)) fault
+        → IsTrue tells → AreAsListed files wal.segments.items → DiskMemoryOr (IsLenientlyRefusedWal before (wal_in files wal)) (named_in_wal wal.number fault)
+    row_refused_behind before old new row fault g wrong told listed = go fault wrong
+      where
+        held : HoldsRow (wal_in files wal)
+        held = record { row = counted_in g.added.own; holds = row_holds files wal.number wal.segments.items g.added.own (own_of wal own) (g.added.holds told listed) }
+
+        go : (fault : MergeFault) → MemoryOr (lenient.IsLenientlyRefused (before ++ row)) fault → DiskMemoryOr (IsLenientlyRefusedWal before (wal_in files wal)) (named_in_wal wal.number fault)
+        go (merges.Gap index expected found) h = absurd h
+        go (merges.Conflict index first) h = (refl, held, subst (λ (r : List SegmentRead). IsLenientConflict (before ++ r) index first) g.rows h)
+        go merges.NoMemory h = tt
+
+    -- and so does its first bad record
+    pub read_refused_behind : (before : List SegmentRead) (fault : RecoverFault) → DiskMemoryOr (IsFirstBadOf files wal.segments.items) fault → DiskMemoryOr (IsLenientlyRefusedWal before (wal_in files wal)) fault
+    read_refused_behind before (faults.Disk side) h = tt
+    read_refused_behind before faults.NoMemory h = tt
+    read_refused_behind before (faults.DuplicateSegment number index) h = absurd h.bad
+    read_refused_behind before (faults.BadBatch number index place fault) h = bad_refused tells files wal own 0 (faults.BadBatch number index place fault) h
+    read_refused_behind before (faults.Gap number index expected found) h = absurd h.bad
+    read_refused_behind before (faults.Conflict number index first) h = absurd h.bad
+
+-- ---- what refuses a WAL behind those before it refuses the directories
+
+module _ (files : Files) (wals : List FoundWal) (i : ℕ) (wal : FoundWal) (at : StandsAt wals i wal) where
+  pub refused_behind : (reports : List SegReport) (base : List Batch) (fault : RecoverFault) → ReportOnAll (wals_in files (take i wals)) reports → AreReportsMerged reports base
+      → ((before : List SegmentRead) → AreMergedOf before base → AreAsListed files wal.segments.items → DiskMemoryOr (IsLenientlyRefusedWal before (wal_in files wal)) fault)
+      → AreListedWals files wals → DiskMemoryOr (IsLenientlyRefused (dirs_as_read files)) fault
+  refused_behind reports base fault on a wrong listed = go fault (wrong earlier merged (listed_at files wals i wal at listed))
+    where
+      hold : HoldAll (wals_in files (take i wals)) (counted_in reports)
+      hold = reports_hold (wals_in files (take i wals)) reports on
+
+      reached : ReachesLenient (dirs_as_read files) wal.number (map (stored_in files) wal.segments.items)
+      reached =
+          let cut = cut_at files wals i wal at.within at.is in
+          record {
+            before = wals_in files (take i wals);
+            after = cut.0;
+            listed = subst (IsListingOf (dirs_as_read files)) cut.1 listed.listed;
+            rows = counted_in reports;
+            hold = hold;
+            base = base;
+            merges = a.merges;
+          }
+
+      earlier : List SegmentRead
+      earlier = by_index (segments_of (wals_in files (take i wals))) (counted_in reports)
+
+      merged : AreMergedOf earlier base
+      merged = subst (λ (rows : List (List Batch)). MergedLenient rows base) (sym (all_batches (wals_in files (take i wals)) (counted_in reports) hold)) a.merges
+
+      go : (fault : RecoverFault) → DiskMemoryOr (IsLenientlyRefusedWal earlier (wal_in files wal)) fault → DiskMemoryOr (IsLenientlyRefused (dirs_as_read files)) fault
+      go (faults.Disk side) h = tt
+      go (faults.DuplicateSegment number index) h = absurd h
+      go (faults.BadBatch number index place bad) h =
+          subst (λ (n : ℕ). IsLenientlyRefused (dirs_as_read files) (faults.BadBatch n index place bad)) (sym h.0) (record { segments = map (stored_in files) wal.segments.items; reached = reached; bad = h.1 })
+      go (faults.Gap number index expected found) h = absurd h
+      go (faults.Conflict number index first) h =
+          subst (λ (n : ℕ). IsLenientlyRefused (dirs_as_read files) (faults.Conflict n index first)) (sym h.0)
+          (record { segments = map (stored_in files) wal.segments.items; reached = reached; own = h.1.row; holds = h.1.holds; wrong = h.2 })
+      go faults.NoMemory h = tt
