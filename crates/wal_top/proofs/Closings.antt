@@ -1,5 +1,6 @@
 -- What a commit and a closing leave of a replay in its course.
-use Rattle.std.proofs.Common.{◌≡◌, ◌≢◌, ℕ, ◌+◌, ◌≤◌, Bool, false, List, [], ◌∷◌, ◌++◌, length, Option, Some, None, IsTrue, refl, sym, ap, ◌∙◌, subst, arith}
+use Rattle.std.specs.Prelude.{is_some}
+use Rattle.std.proofs.Common.{◌≡◌, ◌≢◌, ℕ, ◌+◌, ◌≤◌, Bool, true, false, List, [], ◌∷◌, ◌++◌, length, Option, Some, None, IsTrue, refl, sym, ap, ◌∙◌, subst, arith}
 use Rattle.wal_base.specs.declared.entry.Entry.{Entry}
 use Rattle.batch_repr.specs.declared.batch.Batch.{Batch}
 use Rattle.batch_repr.specs.declared.limits.TheConstants.{NUMBER_MAX}
@@ -18,16 +19,17 @@ use Rattle.wal_top.specs.Journaling.{Runs, RunsStill, HasEnded}
 use Rattle.wal_top.specs.Doing.{numbered_behind, Stage, Commits, Closes, EndsRun}
 use Rattle.wal_top.proofs.Running.{len_is, has_ended}
 
-not_none : (o : Option DeadMark) (mark : DeadMark) → o ≡ Some mark → o ≡ None → ⊥
-not_none o mark is none = cc
-
 -- a journal with the mark of it is dead
-pub marked_dead : (state : State) (fault : JournalFault) (side : Side) (count : ℕ) → fault ≡ faults.Dead side count → IsMarked state fault → state.dead ≢ None
-marked_dead state fault side count is marked none =
-    not_none state.dead (record { side = side; faults = count }) (subst (IsMarked state) is marked) none
+pub marked_dead : (state : State) (fault : JournalFault) (side : Side) (count : ℕ) → fault ≡ faults.Dead side count → IsMarked state fault → true ≡ is_some state.dead
+marked_dead state fault side count is marked =
+    ap (λ (o : Option DeadMark). is_some o) (sym (subst (IsMarked state) is marked))
+
+-- one without a mark lives
+pub unmarked_lives : (state : State) → state.dead ≡ None → false ≡ is_some state.dead
+unmarked_lives state lives = ap (λ (o : Option DeadMark). is_some o) (sym lives)
 
 pub closes_stage : (tells died : Bool) (batches : List Batch) (text : List ℕ) (limited : Bool) (old new : State) (before after : DiskView) → RunsStill tells old before new after
-    → (died ≡ false → old.dead ≡ None) → (IsTrue died → new.dead ≢ None) → (died ≡ false → acked new ≡ len new) → (died ≡ false → NothingInFlight after)
+    → (died ≡ false → old.dead ≡ None) → (died ≡ is_some new.dead) → (died ≡ false → acked new ≡ len new) → (died ≡ false → NothingInFlight after)
     → Closes tells died (record { batches = batches; journal = old; view = before; text = text; limited = limited }) (record { batches = batches; journal = new; view = after; text = text; limited = limited })
 closes_stage tells died batches text limited old new before after runs lives dead all rests = record {
   batches = refl;

@@ -21,7 +21,8 @@ use Rattle.wal_top.specs.declared.replies.JournalEnd.{JournalEnd}
 use Rattle.wal_top.specs.declared.status.Status.{Status}
 use Rattle.wal_top.specs.declared.status.Status.TheVariants.{Read}
 use Rattle.wal_top.specs.Replay.{FIRST}
-use Rattle.wal_top.specs.Log.{LAST_WAL, directories, OthersStay, PollsLeft, EndsAs, LogsBatches}
+use Rattle.wal_top.specs.declared.replaying.TheConstants.{LAST_WAL}
+use Rattle.wal_top.specs.Log.{directories, OthersStay, PollsLeft, EndsAs, LogsBatches}
 use Rattle.wal_top.specs.Journaling.{OthersSame, HasEnded}
 use Rattle.wal_top.specs.Outcomes.{Unrecovered, failed, refused}
 use Rattle.wal_top.specs.Doing.{IsShort, status_after, ReplaysOver, ReplaysActs, ComesTo, unrecovered, last_wal, dead, limited, committed, ScriptComesTo, bad_line, asked}

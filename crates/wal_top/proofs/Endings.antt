@@ -28,7 +28,8 @@ use Rattle.wal_top.specs.Cutting.{lines_of}
 use Rattle.wal_top.specs.Script.{LinesSay, IsAccepted, IsScript, IsFirstBad}
 use Rattle.wal_top.specs.Printing.{usage_text, read_fault_text}
 use Rattle.wal_top.specs.Replay.{FIRST, numbers_taken, IsReplayText, AllCommitted, LacksBatch}
-use Rattle.wal_top.specs.Log.{LAST_WAL, directories}
+use Rattle.wal_top.specs.declared.replaying.TheConstants.{LAST_WAL}
+use Rattle.wal_top.specs.Log.{directories}
 use Rattle.wal_top.specs.Reading.{ReadsWhole, ReadsScript, TellsScript, TellsNoScript, IsNoScript, longer, bad}
 use Rattle.wal_top.specs.Outcomes.{RefusesScript, ReachesDisk, Unrecovered, Replays, IsDone, IsLimited, FailsDisk, RefusesDirectories, HasToSay, Wrote, WrotePart, WrotePartOf, YieldsTo, Ended, IsBeforeDisk, IsCalm}
 use Rattle.wal_top.specs.Outcomes as outcomes

@@ -1,4 +1,5 @@
 mod Examples
+pub mod Limits
 pub mod OneScript
 pub mod Running
 pub mod Closings

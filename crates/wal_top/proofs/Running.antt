@@ -1,5 +1,6 @@
 -- What the calls of a run's journal keep of it, one after another.
 use Rattle.std.proofs.Common.{◌≡◌, ◌≢◌, ◌⊎◌, inl, inr, ℕ, suc, ◌≤◌, ◌<◌, Bool, true, false, List, [], ◌∷◌, ◌++◌, length, map, Option, Some, None, IsTrue, Result, Ok, ap, sym, subst, ◌∙◌, refl, arith, append_assoc}
+use Rattle.std.specs.Prelude.{is_some}
 use native.Mathlib.Decide.{dec_le}
 use Rattle.std.specs.Prelude.{max, Contains}
 use Rattle.std.specs.List.{AllByRecursion}
@@ -31,6 +32,7 @@ use Rattle.failover_writer.proofs.OverBase.{base_recovers, none_of_opening}
 use Rattle.wal_top.specs.declared.replies.JournalEnd.{JournalEnd}
 use Rattle.wal_top.specs.Log.{PollsLeft, EndsAs}
 use Rattle.wal_top.specs.Journaling.{Runs, RunsOn, RunsStill, OthersSame, HasEnded}
+use Rattle.wal_top.proofs.Limits.{threshold}
 
 -- ---- what a step leaves alone
 
@@ -138,6 +140,15 @@ ok_lives old _ _ _ _ step (stepping.dies one other polled new side count up poll
 ok_lives old _ _ _ _ step (stepping.goes one other polled started new up polls on releases) e = up.lives
 ok_lives old _ _ _ _ step (stepping.short one other polled up polls) e = absurd cc
 
+-- what a step that ends with no fault leaves lives
+ok_leaves : (old : State) (one other : Option Progress) (new : State) (answer : Result Step JournalFault) (step : Step) → StepRule old one other new answer → answer ≡ Ok step → new.dead ≡ None
+ok_leaves old _ _ _ _ step (stepping.was_dead side count dead) e = absurd cc
+ok_leaves old _ _ _ _ step (stepping.idle lives rests work) e = lives
+ok_leaves old _ _ _ _ step (stepping.dies one other polled new side count up polls dying) e = absurd cc
+ok_leaves old _ _ _ _ step (stepping.goes one other polled started new up polls on releases) e =
+    ap (λ (s : State). s.dead) releases.new_is ∙ (goes_setting polled started on).1.0 ∙ (polls_setting old one other polled polls).1.0 ∙ up.lives
+ok_leaves old _ _ _ _ step (stepping.short one other polled up polls) e = absurd cc
+
 steps_live : (from : State) (before : DiskView) (to : State) (v : DiskView) → StepsOn from before to v → to.dead ≡ None → from.dead ≡ None
 steps_live from before _ _ answered.none lives = lives
 steps_live from before _ _ (answered.one_more mid new v after answer steps step) lives = steps_live from before mid v steps (ok_lives mid step.one step.other new (Ok answer) answer step.rule refl)
@@ -146,6 +157,9 @@ pub closed_lives : (old new : State) (before after : DiskView) (answer : Result 
 closed_lives old new before after answer done closes e =
     steps_live (record old { want = len old }) before closes.mid closes.v closes.steps
     (ok_lives closes.mid closes.last.one closes.last.other new (last_answer answer) _ closes.last.rule (ap last_answer e))
+
+pub closed_leaves : (old new : State) (before after : DiskView) (answer : Result Unit JournalFault) (done : Unit) → Closes old new before after answer → answer ≡ Ok done → new.dead ≡ None
+closed_leaves old new before after answer done closes e = ok_leaves closes.mid closes.last.one closes.last.other new (last_answer answer) _ closes.last.rule (ap last_answer e)
 
 -- ---- what a run's journal keeps
 
@@ -217,7 +231,7 @@ module _ (tells : Bool) (start : DiskView) (wal base : ℕ) where
       by_new (inr (inr (side, fell))) = inr (inr (side, omega (arith, fell, r.goes.polls side)))
 
       by_smooth : IsSmooth old ⊎ (FaultsRose start v ⊎ PollsLeft start) → IsSmooth new ⊎ (FaultsRose start w ⊎ PollsLeft start)
-      by_smooth (inl s) = by_new (smooth (omega (arith, r.threshold)) s)
+      by_smooth (inl s) = by_new (smooth (omega (arith, r.threshold, threshold)) s)
       by_smooth (inr (inl rose)) = inr (inl (rose_then start v w goes r.goes rose))
       by_smooth (inr (inr left)) = inr (inr left)
 
@@ -293,9 +307,12 @@ module _ (tells : Bool) (start : DiskView) (wal base : ℕ) (own : List Batch) (
   unfolding most_synced
   acked_none empty = ap (λ (ws : List Writer). most_synced 0 ws) empty
 
-  module _ (died : Bool) (dead : IsTrue died → state.dead ≢ None) (all : died ≡ false → acked state ≡ len state) (rests : died ≡ false → NothingInFlight v) where
+  module _ (died : Bool) (died_is : died ≡ is_some state.dead) (all : died ≡ false → acked state ≡ len state) (rests : died ≡ false → NothingInFlight v) where
     abbrev end : JournalEnd
     end = record { acked = acked state; segments = length state.segments; died = died }
+
+    dead : IsTrue died → state.dead ≢ None
+    dead d none = let clash : IsTrue (is_some {T = DeadMark} None) = subst (λ (o : Option DeadMark). IsTrue (is_some o)) none (subst IsTrue died_is d) in cc
 
     all_own : died ≡ false → acked state ≡ length own
     all_own lives = all lives ∙ len_is tells own state v r.stands
@@ -329,7 +346,7 @@ module _ (tells : Bool) (start : DiskView) (wal base : ℕ) (own : List Batch) (
     pub has_ended : HasEnded tells start wal base own end v
     has_ended = record {
       ends = ends;
-      of = record { journal = state; stands = r.stands; wal_is = r.wal_is; base_is = r.base_is; threshold_is = r.threshold; acked_is = refl; segments_is = refl };
+      of = record { journal = state; stands = r.stands; wal_is = r.wal_is; base_is = r.base_is; threshold_is = r.threshold; acked_is = refl; segments_is = refl; died_is = died_is };
       others = others_same;
       nothing = none_changed;
       recovers = λ told b opening.

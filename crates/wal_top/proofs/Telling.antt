@@ -87,6 +87,7 @@ module _ (old start v new : DiskView) (before : TellsOf old start) (polls : (sid
       threshold_is = e.of.threshold_is;
       acked_is = e.of.acked_is;
       segments_is = e.of.segments_is;
+      died_is = e.of.died_is;
     };
     others = λ told. others_told wal (e.others told);
     nothing = λ told empty p.

@@ -19,7 +19,8 @@ use Rattle.wal_top.specs.Cutting.{lines_of}
 use Rattle.wal_top.specs.Script.{IsScript, IsFirstBad}
 use Rattle.wal_top.specs.Printing.{commit_line, limit_line, dead_line, get_line, end_line, bad_line_text, limit_wal_text}
 use Rattle.wal_top.specs.Replay.{FIRST, IsReplayText, AllCommitted, LacksBatch}
-use Rattle.wal_top.specs.Log.{LAST_WAL, directories, EndsAs, EndsOf, LogsBatches}
+use Rattle.wal_top.specs.declared.replaying.TheConstants.{LAST_WAL}
+use Rattle.wal_top.specs.Log.{directories, EndsAs, EndsOf, LogsBatches}
 use Rattle.wal_top.specs.Journaling.{Runs, HasEnded}
 use Rattle.wal_top.specs.Outcomes.{Unrecovered}
 

@@ -9,6 +9,7 @@ use Rattle.failover_writer.specs.State.{State}
 use Rattle.failover_writer.specs.Ranges.{StandsFor}
 use Rattle.failover_writer.specs.Answered.{FaultsRose, IsHarmed, IsSmooth}
 use Rattle.failover_writer.specs.Keeping.{IsElsewhere, OthersStay, IsOpening, KeepsBase, RecoversTo}
+use Rattle.wal_top.specs.declared.replay.TheConstants.{THRESHOLD}
 use Rattle.wal_top.specs.declared.replies.JournalEnd.{JournalEnd}
 use Rattle.wal_top.specs.Log.{PollsLeft, EndsAs, EndsOf}
 
@@ -17,7 +18,7 @@ pub record Runs (tells : Bool) (start : DiskView) (wal first : ℕ) (own : List 
   pub stands : StandsFor tells own state v
   pub wal_is : state.wal ≡ wal
   pub base_is : state.base ≡ first
-  pub threshold : state.threshold ≡ 3
+  pub threshold : state.threshold ≡ THRESHOLD
   pub goes : GoesOn start v
   pub harmed : IsHarmed state → FaultsRose start v
   pub smooth : IsSmooth state ⊎ (FaultsRose start v ⊎ PollsLeft start)

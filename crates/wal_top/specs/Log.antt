@@ -1,5 +1,5 @@
 -- The journal of a run, and what it leaves (docs/FORMATS.md, "The journal of a run").
-use Rattle.std.specs.Prelude.{◌≡◌, ◌≢◌, ◌⊎◌, ℕ, ◌<◌, ◌≤◌, Bool, false, List, [], length, Some, IsTrue}
+use Rattle.std.specs.Prelude.{◌≡◌, ◌≢◌, ◌⊎◌, ℕ, ◌<◌, ◌≤◌, Bool, false, List, [], length, Some, is_some, IsTrue}
 use Rattle.batch_repr.specs.declared.batch.Batch.{Batch}
 use Rattle.disk_face.specs.declared.Side.{Side}
 use Rattle.disk_face.specs.declared.SegName.{SegName}
@@ -12,11 +12,9 @@ use Rattle.failover_writer.specs.Answered.{FaultsRose}
 use Rattle.failover_writer.specs.State.{State, acked}
 use Rattle.failover_writer.specs.Ranges.{StandsFor}
 use Rattle.failover_writer.specs.Keeping.{IsElsewhere, RecoversTo, RecoversWith}
+use Rattle.wal_top.specs.declared.replay.TheConstants.{THRESHOLD}
+use Rattle.wal_top.specs.declared.replaying.TheConstants.{LAST_WAL}
 use Rattle.wal_top.specs.declared.replies.JournalEnd.{JournalEnd}
-
--- the greatest number of a WAL
-abbrev pub LAST_WAL : ℕ
-LAST_WAL = 999999999999
 
 -- the directories, as the disk reads them
 abbrev pub directories : DiskView → Dirs
@@ -47,15 +45,16 @@ pub record EndsAs (batches : ℕ) (end : JournalEnd) (old new : DiskView) : Type
   pub failed : IsTrue end.died → FaultsRose old new
   pub ten : IsTrue end.died → end.segments ≡ 10
 
--- These are the numbers of a journal of the batches as it stands on the disk.
+-- These are the numbers and the mark of a journal of the batches, with the threshold of a run, as it stands on the disk.
 pub record EndsOf (tells : Bool) (wal first : ℕ) (batches : List Batch) (end : JournalEnd) (v : DiskView) : Type 0 where
   pub journal : State
   pub stands : StandsFor tells batches journal v
   pub wal_is : journal.wal ≡ wal
   pub base_is : journal.base ≡ first
-  pub threshold_is : journal.threshold ≡ 3
+  pub threshold_is : journal.threshold ≡ THRESHOLD
   pub acked_is : end.acked ≡ acked journal
   pub segments_is : end.segments ≡ length journal.segments
+  pub died_is : end.died ≡ is_some journal.dead
 
 -- The journal of the batches stands in the next WAL of the directories, where the disk tells its files. No other file changed but
 -- by a sync, and no file at all where there is no batch. Where the files were at rest, whatever a crash leaves recovers to the base

@@ -25,7 +25,8 @@ use Rattle.wal_top.specs.Words.{IsCommand, IsReplay, IsRecover, IsDump, Recovers
 use Rattle.wal_top.specs.Printing.{usage_text, read_fault_text, too_long_text, bad_line_text, disk_fault_text, refusal_text, limit_wal_text, segments_text}
 use Rattle.wal_top.specs.Replay.{FIRST, IsReplayText, AllCommitted, LacksBatch}
 use Rattle.wal_recovery.specs.Listing.{IsNextWal}
-use Rattle.wal_top.specs.Log.{LAST_WAL, directories, EndsAs, EndsOf, LogsBatches}
+use Rattle.wal_top.specs.declared.replaying.TheConstants.{LAST_WAL}
+use Rattle.wal_top.specs.Log.{directories, EndsAs, EndsOf, LogsBatches}
 use Rattle.wal_top.specs.Reading.{ReadsScript, ReadsTooMuch, ReadsBadLine}
 
 -- A script of the source was refused with this text: for its length, or for its first bad line.

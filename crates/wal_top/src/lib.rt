@@ -30,6 +30,8 @@ mod writing;
 pub use gate::{Gate, GatePoint, NoGate};
 pub use laws::a_script_asks_for_one_list_of_acts;
 pub use reading::SCRIPT_MAX;
+pub use replay::THRESHOLD;
+pub use replaying::LAST_WAL;
 pub use script::Act;
 pub use status::{Ran, Status};
 pub use top::run;

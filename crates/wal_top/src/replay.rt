@@ -8,6 +8,7 @@ ghost use Rattle.disk_face.specs.View.{DiskView, files, NothingInFlight};
 ghost use Rattle.disk_face.specs.Calls.{GoesOn};
 ghost use Rattle.failover_writer.specs.declared.fault.Step.TheVariants as steps;
 ghost use Rattle.failover_writer.specs.Ranges.{AreUnsent};
+ghost use Rattle.wal_top.specs.declared.replaying.TheConstants.{LAST_WAL};
 ghost use Rattle.wal_top.specs.declared.replies.JournalEnd.{JournalEnd};
 ghost use Rattle.wal_top.specs.Replay.{FIRST};
 ghost use Rattle.wal_top.specs.Journaling.{RunsOn, RunsStill, OthersSame};
@@ -30,8 +31,8 @@ use wal_base::{Buf, NoMemory};
 /// The one session of this stage.
 const SESSION: u32 = 0;
 
-/// From how many pending polls on a segment hangs.
-const THRESHOLD: u32 = 3;
+/// From how many pending polls in a row an operation hangs.
+pub const THRESHOLD: u32 = 3;
 
 /// Whether the next step may do more at once.
 fn moved(stepped: Result<Step, JournalFault>) -> Result<bool, NoMemory>
@@ -97,7 +98,7 @@ impl<D: Disk> Course<D> {
         requires numbered { IsContiguous FIRST base }
         requires next { next ≡ end_after FIRST base }
         requires within { next ≤ NUMBER_MAX }
-        requires wal { wal ≤ 999999999999 }
+        requires wal { wal ≤ LAST_WAL }
         requires idle { NothingInFlight (D.view disk) }
         requires absent { IsTrue D.tells → AreUnsent wal 0 (D.view disk) }
         ensures begins { IfOk result (λ course. IsBegun D.tells base (D.view disk) wal (stage_of D.view course)) }
@@ -255,7 +256,7 @@ pub(crate) fn replay<D: Disk>(
     requires numbered { IsContiguous FIRST base }
     requires next { next ≡ end_after FIRST base }
     requires within { next ≤ NUMBER_MAX }
-    requires wal { wal ≤ 999999999999 }
+    requires wal { wal ≤ LAST_WAL }
     requires idle { NothingInFlight (D.view disk) }
     requires absent { IsTrue D.tells → AreUnsent wal 0 (D.view disk) }
     ensures goes_on { GoesOn (D.view disk) (D.view result.disk) }

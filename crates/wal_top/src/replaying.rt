@@ -21,7 +21,7 @@ use wal_base::NoMemory;
 use wal_recovery::{Mode, recover};
 
 /// The greatest number of a WAL.
-const LAST_WAL: u64 = 999_999_999_999;
+pub const LAST_WAL: u64 = 999_999_999_999;
 
 /// What the acts of a script come to over a disk.
 fn said_of_acts<D: Disk>(alloc: Global, acts: VecDeque<Act>, mut disk: D) -> Answered<D>

@@ -20,7 +20,8 @@ ghost use Rattle.wal_top.specs.Words.{IsCommand, IsReplay, IsRecover, IsDump, Re
 ghost use Rattle.wal_top.specs.Printing.{usage_text, read_fault_text};
 ghost use Rattle.wal_top.specs.Reading.{TookAtMost, TellsScript, TellsNoScript};
 ghost use Rattle.wal_top.specs.Replay.{FIRST, numbers_taken};
-ghost use Rattle.wal_top.specs.Log.{LAST_WAL, directories, OthersStay};
+ghost use Rattle.wal_top.specs.declared.replaying.TheConstants.{LAST_WAL};
+ghost use Rattle.wal_top.specs.Log.{directories, OthersStay};
 ghost use Rattle.wal_top.specs.Outcomes.{RefusesScript, RefusesDirectories, FailsDisk, IsLimited, IsDone, HasToSay, Wrote, WrotePartOf, YieldsTo, Ended, IsBeforeDisk, IsCalm};
 
 use crate::gate::Gate;

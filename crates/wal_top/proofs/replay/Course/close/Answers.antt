@@ -1,13 +1,13 @@
 -- A journal keeps its run while it is closed.
 use Rattle.std.proofs.Common.{◌≡◌, ◌≢◌, Bool, true, false, None, IsTrue, ◌∙◌, subst}
-use Rattle.std.specs.Prelude.{IfOk}
+use Rattle.std.specs.Prelude.{IfOk, is_some}
 use Rattle.disk_face.specs.View.{DiskView, NothingInFlight}
 use Rattle.failover_writer.specs.State.{State, len, acked}
 use Rattle.wal_top.specs.Journaling.{RunsStill}
 use Rattle.wal_top.specs.Doing.{InCourse, Closes, stage_of}
 use Rattle.wal_top.proofs.Saying.{ok_is, err_is}
-use Rattle.wal_top.proofs.Running.{close_setting, closed_lives, runs_closed}
-use Rattle.wal_top.proofs.Closings.{closes_stage, marked_dead}
+use Rattle.wal_top.proofs.Running.{close_setting, closed_lives, closed_leaves, runs_closed}
+use Rattle.wal_top.proofs.Closings.{closes_stage, marked_dead, unmarked_lives}
 use Rattle.wal_top.proofs.replay.Course.close.Goals as goal
 use Rattle.wal_top.proofs.replay.Course.close.Goals.{in-Ok, in-Err-Dead, in-Err-NoMemory}
 
@@ -32,14 +32,14 @@ returns-clause-closes g c =
     let new : State = c.close.new.self.state in
     let before : DiskView = g.D.Disk.view c.self.inside.journal.disk in
     let after : DiskView = g.D.Disk.view c.close.new.self.disk in
-    let here : (died : Bool) → (died ≡ false → old.dead ≡ None) → (IsTrue died → new.dead ≢ None) → (died ≡ false → acked new ≡ len new) → (died ≡ false → NothingInFlight after) → _ =
+    let here : (died : Bool) → (died ≡ false → old.dead ≡ None) → died ≡ is_some new.dead → (died ≡ false → acked new ≡ len new) → (died ≡ false → NothingInFlight after) → _ =
     λ died. closes_stage g.D.Disk.tells died c.self.inside.history c.self.inside.text c.self.inside.limited old new before after (still g c) in
     subst (λ (x : InCourse _). IfOk c.match-close.result (λ died. Closes g.D.Disk.tells died (stage_of g.D.Disk.view x)
     (record { batches = c.self.inside.history; journal = new; view = after; text = c.self.inside.text; limited = c.self.inside.limited }))) c.self.view_is
     (elim c.match-close.branch [
       | in-Ok w ↦ ok_is _ c.match-close.result false w.result-is
-          (here false (λ _. closed_lives old new before after c.close.result _ e.closes w.in-Ok.is) (λ d. absurd cc) (λ _. w.in-Ok.ensures.synced) (λ _. w.in-Ok.ensures.rests))
+          (here false (λ _. closed_lives old new before after c.close.result _ e.closes w.in-Ok.is) (unmarked_lives new (closed_leaves old new before after c.close.result _ e.closes w.in-Ok.is)) (λ _. w.in-Ok.ensures.synced) (λ _. w.in-Ok.ensures.rests))
       | in-Err-Dead w ↦ ok_is _ c.match-close.result true w.result-is
-          (here true (λ d. absurd cc) (λ _. marked_dead new w.in-Err-Dead.field-0 w.in-Err-Dead.field-0-0 w.in-Err-Dead.field-0-1 w.in-Err-Dead.field-0-is w.in-Err-Dead.ensures.dead) (λ d. absurd cc) (λ d. absurd cc))
+          (here true (λ d. absurd cc) (marked_dead new w.in-Err-Dead.field-0 w.in-Err-Dead.field-0-0 w.in-Err-Dead.field-0-1 w.in-Err-Dead.field-0-is w.in-Err-Dead.ensures.dead) (λ d. absurd cc) (λ d. absurd cc))
       | in-Err-NoMemory w ↦ err_is _ c.match-close.result _ w.result-is
     ])
