@@ -12,7 +12,7 @@ use Rattle.wal_top.proofs.Numbering.{end_after-append}
 use Rattle.wal_top.specs.declared.script.Act.{Act}
 use Rattle.wal_top.specs.declared.script.Act.TheVariants.{Commit, Get}
 use Rattle.wal_top.specs.declared.replies.JournalEnd.{JournalEnd}
-use Rattle.wal_top.specs.Replay.{FIRST, committed, numbers_taken, visible_after, Answers, numbered, limited, dead, read, AnswersAll, IsReplayText, AllCommitted, LacksBatch}
+use Rattle.wal_top.specs.Replay.{FIRST, committed, numbers_taken, visible_after, Answers, numbered, limited, dead, read, StaysDead, AnswersAll, IsReplayText, AllCommitted, LacksBatch}
 
 -- ---- all numbers
 
@@ -56,27 +56,37 @@ visible_next from (b ∷ store) zero batch c is =
 visible_next from (b ∷ store) (suc n) batch c is =
     let next : suc n + 1 ≡ suc (n + 1) = omega arith in ap (λ (k : ℕ). end_after from (take k (b ∷ store))) next ∙ visible_next (end_of b) store n batch c.2 is
 
+-- a journal that lives has lived
+lived : (was_dead is_dead : Bool) → StaysDead was_dead is_dead → is_dead ≡ false → was_dead ≡ false
+lived true is_dead stays lives = let clash : true ≡ false = sym (stays refl) ∙ lives in absurd cc
+lived false is_dead stays lives = refl
+
+lived_all : (store : List Batch) (was_dead died : Bool) (n : ℕ) (acts : List Act) (end : ℕ) (lines : List ℕ) → AnswersAll store was_dead died n acts end lines → died ≡ false → was_dead ≡ false
+unfolding AnswersAll
+lived_all store was_dead died n [] end lines h lives = lived was_dead died h.0 lives
+lived_all store was_dead died n (act ∷ acts) end lines h lives = lived was_dead h.0 h.4 (lived_all store h.0 died h.1 acts end h.3 h.6 lives)
+
 -- an act that reaches no limit, where those behind it reach none
 act_unlimited : (store : List Batch) (died : Bool) (n : ℕ) (act : Act) (acts : List Act) (end next : ℕ) (line : List ℕ) → died ≡ false → IsContiguous FIRST store → Answers store died n act next line → visible_after store n + (numbers_taken act + sum_by numbers_taken acts) ≤ NUMBER_MAX
     → ((k : ℕ) → k ≡ next → visible_after store k + sum_by numbers_taken acts ≤ NUMBER_MAX → end ≡ k + length (filter_map committed acts)) → end ≡ n + length (filter_map committed (act ∷ acts))
-act_unlimited store died n _ acts end _ _ lives c (numbered batch at) room rest =
+act_unlimited store died n _ acts end _ _ lives c (numbered batch lives_then at) room rest =
     let up = visible_next FIRST store n batch c at in
     let more = rest (n + 1) refl (omega (arith, up, room)) in
     omega (arith, more)
-act_unlimited store died n _ acts end _ _ lives c (limited entries past) room rest = absurd (omega (arith, past, room))
+act_unlimited store died n _ acts end _ _ lives c (limited entries lives_then past) room rest = absurd (omega (arith, past, room))
 act_unlimited store died n _ acts end _ _ lives c (dead entries has_died) room rest = let clash : true ≡ false = sym has_died ∙ lives in absurd cc
 act_unlimited store died n _ acts end _ _ lives c (read key) room rest = rest n refl (omega (arith, room))
 
-none_limited : (store : List Batch) (died : Bool) (n : ℕ) (acts : List Act) (end : ℕ) (lines : List ℕ) → died ≡ false → IsContiguous FIRST store → AnswersAll store died n acts end lines → visible_after store n + sum_by numbers_taken acts ≤ NUMBER_MAX
+none_limited : (store : List Batch) (was_dead died : Bool) (n : ℕ) (acts : List Act) (end : ℕ) (lines : List ℕ) → died ≡ false → IsContiguous FIRST store → AnswersAll store was_dead died n acts end lines → visible_after store n + sum_by numbers_taken acts ≤ NUMBER_MAX
     → end ≡ n + length (filter_map committed acts)
 unfolding AnswersAll
-none_limited store died n [] end lines lives c h room = omega (arith, h.0)
-none_limited store died n (act ∷ acts) end lines lives c h room =
-    act_unlimited store died n act acts end h.0 h.1 lives c h.3 (omega (arith, room, sum_by-cons numbers_taken act acts))
-    (λ k is fits. none_limited store died k acts end h.2 lives c (subst (λ (m : ℕ). AnswersAll store died m acts end h.2) (sym is) h.4) fits)
+none_limited store was_dead died n [] end lines lives c h room = omega (arith, h.1)
+none_limited store was_dead died n (act ∷ acts) end lines lives c h room =
+    act_unlimited store h.0 n act acts end h.1 h.2 (lived_all store h.0 died h.1 acts end h.3 h.6 lives) c h.5 (omega (arith, room, sum_by-cons numbers_taken act acts))
+    (λ k is fits. none_limited store h.0 died k acts end h.3 lives c (subst (λ (m : ℕ). AnswersAll store h.0 died m acts end h.3) (sym is) h.6) fits)
 
 pub none_lacks : (base : List Batch) (acts : List Act) (batches : List Batch) (end : JournalEnd) (text : List ℕ) → end.died ≡ false → IsReplayText base acts batches end text → end_after FIRST base + sum_by numbers_taken acts ≤ NUMBER_MAX → LacksBatch acts batches → ⊥
 none_lacks base acts batches end text lives is room lacks =
     let front : visible_after (base ++ batches) (length base) ≡ end_after FIRST base = ap (end_after FIRST) (take_at base batches (length base) refl) in
-    let all = none_limited (base ++ batches) end.died (length base) acts (length (base ++ batches)) is.lines lives is.numbered is.answers (omega (arith, front, room)) in
+    let all = none_limited (base ++ batches) false end.died (length base) acts (length (base ++ batches)) is.lines lives is.numbered is.answers (omega (arith, front, room)) in
     omega (arith, all, length-append base batches, lacks)

@@ -24,21 +24,30 @@ its_text = record {
   numbered = (refl, omega arith, tt);
   within = omega arith;
   lines = codes "s0 commit 10 1\ns0 get a = 1 @11\n";
-  answers = (1, codes "s0 commit 10 1\n", codes "s0 get a = 1 @11\n", numbered (record { first = 10; entries = Set (codes "a") (codes "1") ∷ [] }) refl, (1, codes "s0 get a = 1 @11\n", [], read (codes "a"), (refl, refl), refl), refl);
+  answers = (
+    false,
+    1,
+    codes "s0 commit 10 1\n",
+    codes "s0 get a = 1 @11\n",
+    λ d. d,
+    numbered (record { first = 10; entries = Set (codes "a") (codes "1") ∷ [] }) refl refl,
+    (false, 1, codes "s0 get a = 1 @11\n", [], λ d. d, read (codes "a"), (λ d. d, refl, refl), refl),
+    refl,
+  );
   text_is = refl;
 }
 
 nothing_to_do : IsReplayText [] [] [] (record { acked = 0; segments = 0; died = false }) (codes "end visible 10 batches 0 acked 0 segments 0 closed\n")
 unfolding AnswersAll end_line end_after IsContiguous digits
-nothing_to_do = record { numbered = tt; within = omega arith; lines = []; answers = (refl, refl); text_is = refl }
+nothing_to_do = record { numbered = tt; within = omega arith; lines = []; answers = (λ d. d, refl, refl); text_is = refl }
 
 -- the last number is taken: a batch that ends at the greatest number was recovered
 abbrev full : List Batch
 full = record { first = 72057594037927934; entries = Set (codes "a") (codes "1") ∷ [] } ∷ []
 
-no_room : AnswersAll full false 1 (Commit (Set (codes "b") (codes "2") ∷ []) ∷ []) 1 (codes "s0 commit limit\n")
+no_room : AnswersAll full false false 1 (Commit (Set (codes "b") (codes "2") ∷ []) ∷ []) 1 (codes "s0 commit limit\n")
 unfolding AnswersAll limit_line end_after digits
-no_room = (1, codes "s0 commit limit\n", [], limited (Set (codes "b") (codes "2") ∷ []) (omega arith), (refl, refl), refl)
+no_room = (false, 1, codes "s0 commit limit\n", [], λ d. d, limited (Set (codes "b") (codes "2") ∷ []) refl (omega arith), (λ d. d, refl, refl), refl)
 
 -- a journal that died while the one batch was written
 its_death : IsReplayText [] (Commit (Set (codes "a") (codes "1") ∷ []) ∷ set_and_read) its_batches (record { acked = 0; segments = 10; died = true })
@@ -49,11 +58,13 @@ its_death = record {
   within = omega arith;
   lines = codes "s0 commit 10 1\ns0 commit dead\ns0 get a = 1 @11\n";
   answers = (
+    false,
     1,
     codes "s0 commit 10 1\n",
     codes "s0 commit dead\ns0 get a = 1 @11\n",
-    numbered (record { first = 10; entries = Set (codes "a") (codes "1") ∷ [] }) refl,
-    (1, codes "s0 commit dead\n", codes "s0 get a = 1 @11\n", dead (Set (codes "a") (codes "1") ∷ []) refl, (1, codes "s0 get a = 1 @11\n", [], read (codes "a"), (refl, refl), refl), refl),
+    λ d. d,
+    numbered (record { first = 10; entries = Set (codes "a") (codes "1") ∷ [] }) refl refl,
+    (true, 1, codes "s0 commit dead\n", codes "s0 get a = 1 @11\n", λ d. refl, dead (Set (codes "a") (codes "1") ∷ []) refl, (true, 1, codes "s0 get a = 1 @11\n", [], λ d. d, read (codes "a"), (λ d. d, refl, refl), refl), refl),
     refl,
   );
   text_is = refl;

@@ -1,6 +1,6 @@
 -- A replay that goes on act by act: whatever batches follow, the acts so far are answered by the text so far, and the journal has the batches so far.
 use Rattle.std.proofs.Common.{◌≡◌, ◌≢◌, ℕ, suc, ◌+◌, ◌<◌, ◌≤◌, Bool, true, false, List, [], ◌∷◌, ◌++◌, length, take, map, Option, Some, None, IsTrue, refl, sym, ap, ◌∙◌, arith, append_assoc, subst}
-use Rattle.std.specs.Prelude.{slice_get}
+use Rattle.std.specs.Prelude.{slice_get, is_some}
 use Rattle.std.specs.List.{filter_map}
 use Rattle.std.proofs.lemmas.List.{append-nil, length-append, take_at, take_all, map-append}
 use Rattle.wal_base.specs.declared.entry.Entry.{Entry}
@@ -8,24 +8,61 @@ use Rattle.batch_repr.specs.declared.batch.Batch.{Batch}
 use Rattle.batch_repr.specs.declared.limits.TheConstants.{NUMBER_MAX}
 use Rattle.batch_repr.specs.Batches.{count_of, IsContiguous, end_after, answer}
 use Rattle.disk_face.specs.View.{DiskView}
+use Rattle.failover_writer.specs.declared.fault.DeadMark.{DeadMark}
 use Rattle.failover_writer.specs.State.{State, len}
 use Rattle.wal_top.specs.declared.script.Act.{Act}
 use Rattle.wal_top.specs.declared.script.Act.TheVariants.{Commit, Get}
 use Rattle.wal_top.specs.declared.replies.JournalEnd.{JournalEnd}
 use Rattle.wal_top.specs.declared.status.Status.{Status}
 use Rattle.wal_top.specs.Printing.{commit_line, limit_line, dead_line, get_line, end_line}
-use Rattle.wal_top.specs.Replay.{FIRST, committed, visible_after, Answers, numbered, limited, dead, read, AnswersAll, LacksBatch}
+use Rattle.wal_top.specs.Replay.{FIRST, committed, visible_after, Answers, numbered, limited, dead, read, StaysDead, AnswersAll, LacksBatch}
 use Rattle.wal_top.specs.Journaling.{Runs}
 use Rattle.wal_top.specs.Doing.{numbered_behind, Stage, Commits, OnlyReplies, DoesCommit, commits, past, died, DoesGet, DoesAct, IsShort, EndsRun, IsBegun, ReplaysOver, status_after}
 
 -- one act more behind answered ones
-pub answers_push : (store : List Batch) (at_end : Bool) (n : ℕ) (acts : List Act) (act : Act) (mid end : ℕ) (lines line : List ℕ) → AnswersAll store at_end n acts mid lines → Answers store at_end mid act end line
-    → AnswersAll store at_end n (acts ++ act ∷ []) end (lines ++ line)
+pub answers_push : (store : List Batch) (was_dead mid_dead is_dead at_end : Bool) (n : ℕ) (acts : List Act) (act : Act) (mid end : ℕ) (lines line : List ℕ) → AnswersAll store was_dead mid_dead n acts mid lines → StaysDead mid_dead is_dead
+    → Answers store is_dead mid act end line → StaysDead is_dead at_end → AnswersAll store was_dead at_end n (acts ++ act ∷ []) end (lines ++ line)
 unfolding AnswersAll
-answers_push store at_end n [] act mid end lines line h a =
-    (end, line, [], subst (λ (k : ℕ). Answers store at_end k act end line) h.0 a, (refl, refl), ap (λ (l : List ℕ). l ++ line) h.1 ∙ sym (append-nil line))
-answers_push store at_end n (x ∷ acts) act mid end lines line h a =
-    (h.0, h.1, h.2 ++ line, h.3, answers_push store at_end h.0 acts act mid end h.2 line h.4 a, ap (λ (l : List ℕ). l ++ line) h.5 ∙ append_assoc h.1 h.2 line)
+answers_push store was_dead mid_dead is_dead at_end n [] act mid end lines line h before a after = (
+  is_dead,
+  end,
+  line,
+  [],
+  λ was. before (h.0 was),
+  subst (λ (k : ℕ). Answers store is_dead k act end line) h.1 a,
+  (after, refl, refl),
+  ap (λ (l : List ℕ). l ++ line) h.2 ∙ sym (append-nil line),
+)
+answers_push store was_dead mid_dead is_dead at_end n (x ∷ acts) act mid end lines line h before a after = (
+  h.0,
+  h.1,
+  h.2,
+  h.3 ++ line,
+  h.4,
+  h.5,
+  answers_push store h.0 mid_dead is_dead at_end h.1 acts act mid end h.3 line h.6 before a after,
+  ap (λ (l : List ℕ). l ++ line) h.7 ∙ append_assoc h.2 h.3 line,
+)
+
+-- A journal that lives may die behind the last act.
+pub answers_later : (store : List Batch) (was_dead mid_dead at_end : Bool) (n : ℕ) (acts : List Act) (end : ℕ) (lines : List ℕ) → AnswersAll store was_dead mid_dead n acts end lines → StaysDead mid_dead at_end → AnswersAll store was_dead at_end n acts end lines
+unfolding AnswersAll
+answers_later store was_dead mid_dead at_end n [] end lines h later = (λ was. later (h.0 was), h.1, h.2)
+answers_later store was_dead mid_dead at_end n (act ∷ acts) end lines h later = (h.0, h.1, h.2, h.3, h.4, h.5, answers_later store h.0 mid_dead at_end h.1 acts end h.3 h.6 later, h.7)
+
+-- whether a journal is dead
+abbrev pub is_dead : State → Bool
+is_dead state = is_some state.dead
+
+lives_now : (state : State) → state.dead ≡ None → is_dead state ≡ false
+lives_now state lives = ap (λ (o : Option DeadMark). is_some o) lives
+
+died_now : (state : State) → state.dead ≢ None → is_dead state ≡ true
+died_now state has_died = go state.dead has_died
+  where
+    go : (o : Option DeadMark) → o ≢ None → is_some o ≡ true
+    go (Some mark) some = refl
+    go None some = absurd (some refl)
 
 -- ---- what stands behind some batches does not change what they show
 
@@ -50,7 +87,7 @@ pub record GoesOn (tells : Bool) (base : List Batch) (start : DiskView) (wal : �
   pub own : List Batch
   pub store_is : stage.batches ≡ base ++ own
   pub runs : Runs tells start wal (end_after FIRST base) own stage.journal stage.view
-  pub answered : (more : List Batch) (at_end : Bool) → (stage.journal.dead ≢ None → IsTrue at_end) → AnswersAll (stage.batches ++ more) at_end (length base) front (length stage.batches) stage.text
+  pub answered : (more : List Batch) → AnswersAll (stage.batches ++ more) false (is_dead stage.journal) (length base) front (length stage.batches) stage.text
   pub short : stage.journal.dead ≡ None → IsShort stage.limited front own
 
 pub goes_from : (tells : Bool) (base : List Batch) (start : DiskView) (wal : ℕ) (acts : List Act) (stage : Stage) → IsBegun tells base start wal stage → GoesOn tells base start wal acts stage acts
@@ -61,7 +98,7 @@ goes_from tells base start wal acts stage begun = record {
   own = [];
   store_is = begun.batches ∙ sym (append-nil base);
   runs = begun.runs;
-  answered = λ more at_end dies. (ap length begun.batches, begun.text);
+  answered = λ more. (λ d. absurd cc, ap length begun.batches, begun.text);
   short = λ lives. subst (λ (b : Bool). IsShort b [] []) (sym begun.limited) refl;
 }
 
@@ -113,11 +150,13 @@ module _ (tells : Bool) (base : List Batch) (start : DiskView) (wal : ℕ) (acts
         own = g.own ++ batch ∷ [];
         store_is = c.batches ∙ ap (λ (l : List Batch). l ++ batch ∷ []) g.store_is ∙ append_assoc base g.own (batch ∷ []);
         runs = c.runs start wal (end_after FIRST base) g.own g.runs;
-        answered = λ more at_end dies. subst (λ (l : List ℕ). AnswersAll (new.batches ++ more) at_end (length base) (g.front ++ act ∷ []) (length new.batches) l) (sym c.reply)
-            (subst (λ (k : ℕ). AnswersAll (new.batches ++ more) at_end (length base) (g.front ++ act ∷ []) k (old.text ++ commit_line 0 (end_after FIRST old.batches) (count_of entries))) (sym (ap length c.batches ∙ length-append old.batches (batch ∷ [])))
-            (subst (λ (store : List Batch). AnswersAll store at_end (length base) (g.front ++ act ∷ []) (length old.batches + 1) (old.text ++ commit_line 0 (end_after FIRST old.batches) (count_of entries))) (sym (whole more))
-            (answers_push (old.batches ++ batch ∷ more) at_end (length base) g.front act (length old.batches) (length old.batches + 1) old.text (commit_line 0 (end_after FIRST old.batches) (count_of entries)) (g.answered (batch ∷ more) at_end (λ was. absurd (was c.lives)))
-            (subst (λ (a : Act). Answers (old.batches ++ batch ∷ more) at_end (length old.batches) a (length old.batches + 1) (commit_line 0 (end_after FIRST old.batches) (count_of entries))) (sym is) (numbered batch (get_behind old.batches more batch))))));
+        answered = λ more. subst (λ (l : List ℕ). AnswersAll (new.batches ++ more) false (is_dead new.journal) (length base) (g.front ++ act ∷ []) (length new.batches) l) (sym c.reply)
+            (subst (λ (k : ℕ). AnswersAll (new.batches ++ more) false (is_dead new.journal) (length base) (g.front ++ act ∷ []) k (old.text ++ commit_line 0 (end_after FIRST old.batches) (count_of entries))) (sym (ap length c.batches ∙ length-append old.batches (batch ∷ [])))
+            (subst (λ (store : List Batch). AnswersAll store false (is_dead new.journal) (length base) (g.front ++ act ∷ []) (length old.batches + 1) (old.text ++ commit_line 0 (end_after FIRST old.batches) (count_of entries))) (sym (whole more))
+            (answers_push (old.batches ++ batch ∷ more) false (is_dead old.journal) false (is_dead new.journal) (length base) g.front act (length old.batches) (length old.batches + 1) old.text (commit_line 0 (end_after FIRST old.batches) (count_of entries)) (g.answered (batch ∷ more))
+            (λ was. sym (lives_now old.journal c.lives) ∙ was)
+            (subst (λ (a : Act). Answers (old.batches ++ batch ∷ more) false (length old.batches) a (length old.batches + 1) (commit_line 0 (end_after FIRST old.batches) (count_of entries))) (sym is) (numbered batch refl (get_behind old.batches more batch)))
+            (λ d. absurd cc))));
         short = λ lives. subst (λ (b : Bool). IsShort b (g.front ++ act ∷ []) (g.own ++ batch ∷ [])) (sym c.limited)
             (subst (λ (a : Act). IsShort old.limited (g.front ++ a ∷ []) (g.own ++ batch ∷ [])) (sym is) (one_more g.front entries g.own batch refl old.limited (g.short c.lives)));
       }
@@ -126,7 +165,7 @@ module _ (tells : Bool) (base : List Batch) (start : DiskView) (wal : ℕ) (acts
       whole more = ap (λ (l : List Batch). l ++ more) c.batches ∙ append_assoc old.batches (numbered_behind old.batches entries ∷ []) more
 
   -- a reply that adds no batch
-  reply_goes : (line : List ℕ) (now : Bool) → ((more : List Batch) (at_end : Bool) → (old.journal.dead ≢ None → IsTrue at_end) → Answers (old.batches ++ more) at_end (length old.batches) act (length old.batches) line) → OnlyReplies line now old new
+  reply_goes : (line : List ℕ) (now : Bool) → ((more : List Batch) → Answers (old.batches ++ more) (is_dead old.journal) (length old.batches) act (length old.batches) line) → OnlyReplies line now old new
       → (old.journal.dead ≡ None → IsShort now (g.front ++ act ∷ []) g.own) → GoesOn tells base start wal acts new rest
   reply_goes line now one o short = record {
     front = g.front ++ act ∷ [];
@@ -134,32 +173,32 @@ module _ (tells : Bool) (base : List Batch) (start : DiskView) (wal : ℕ) (acts
     own = g.own;
     store_is = o.batches ∙ g.store_is;
     runs = subst (λ (s : State). Runs tells start wal (end_after FIRST base) g.own s new.view) (sym o.journal) (subst (λ (v : DiskView). Runs tells start wal (end_after FIRST base) g.own old.journal v) (sym o.view) g.runs);
-    answered = λ more at_end dies.
-        let was : old.journal.dead ≢ None → IsTrue at_end = λ dead_then. dies (λ lives. dead_then (sym (ap (λ (s : State). s.dead) o.journal) ∙ lives)) in
-        subst (λ (l : List ℕ). AnswersAll (new.batches ++ more) at_end (length base) (g.front ++ act ∷ []) (length new.batches) l) (sym o.reply)
-        (subst (λ (bs : List Batch). AnswersAll (bs ++ more) at_end (length base) (g.front ++ act ∷ []) (length bs) (old.text ++ line)) (sym o.batches)
-        (answers_push (old.batches ++ more) at_end (length base) g.front act (length old.batches) (length old.batches) old.text line (g.answered more at_end was) (one more at_end was)));
+    answered = λ more.
+        subst (λ (l : List ℕ). AnswersAll (new.batches ++ more) false (is_dead new.journal) (length base) (g.front ++ act ∷ []) (length new.batches) l) (sym o.reply)
+        (subst (λ (bs : List Batch). AnswersAll (bs ++ more) false (is_dead new.journal) (length base) (g.front ++ act ∷ []) (length bs) (old.text ++ line)) (sym o.batches)
+        (answers_push (old.batches ++ more) false (is_dead old.journal) (is_dead old.journal) (is_dead new.journal) (length base) g.front act (length old.batches) (length old.batches) old.text line (g.answered more) (λ was. was) (one more)
+        (λ was. ap is_dead o.journal ∙ was)));
     short = λ lives. subst (λ (b : Bool). IsShort b (g.front ++ act ∷ []) g.own) (sym o.limited_is) (short (sym (ap (λ (s : State). s.dead) o.journal) ∙ lives));
   }
 
   limit_goes : (entries : List Entry) → act ≡ Commit entries → old.journal.dead ≡ None → NUMBER_MAX < end_after FIRST old.batches + count_of entries → OnlyReplies (limit_line 0) true old new → GoesOn tells base start wal acts new rest
   limit_goes entries is lives beyond o =
       reply_goes (limit_line 0) true
-      (λ more at_end dies. subst (λ (a : Act). Answers (old.batches ++ more) at_end (length old.batches) a (length old.batches) (limit_line 0)) (sym is) (limited entries (omega (arith, beyond, visible_front old.batches more)))) o
+      (λ more. subst (λ (a : Act). Answers (old.batches ++ more) (is_dead old.journal) (length old.batches) a (length old.batches) (limit_line 0)) (sym is) (limited entries (lives_now old.journal lives) (omega (arith, beyond, visible_front old.batches more)))) o
       (λ still. subst (λ (a : Act). IsShort true (g.front ++ a ∷ []) g.own) (sym is) (one_short g.front entries g.own old.limited (g.short lives)))
 
   dead_goes : (entries : List Entry) → act ≡ Commit entries → old.journal.dead ≢ None → OnlyReplies (dead_line 0) old.limited old new → GoesOn tells base start wal acts new rest
   dead_goes entries is has_died o =
       reply_goes (dead_line 0) old.limited
-      (λ more at_end dies. subst (λ (a : Act). Answers (old.batches ++ more) at_end (length old.batches) a (length old.batches) (dead_line 0)) (sym is) (dead entries (dies has_died))) o
+      (λ more. subst (λ (a : Act). Answers (old.batches ++ more) (is_dead old.journal) (length old.batches) a (length old.batches) (dead_line 0)) (sym is) (dead entries (died_now old.journal has_died))) o
       (λ still. absurd (has_died still))
 
   read_goes : (key : List ℕ) → act ≡ Get key → DoesGet key old new → GoesOn tells base start wal acts new rest
   read_goes key is o =
       reply_goes (get_line 0 key (answer old.batches (length old.batches) key) (end_after FIRST old.batches)) old.limited
-      (λ more at_end dies. subst (λ (a : Act). Answers (old.batches ++ more) at_end (length old.batches) a (length old.batches) (get_line 0 key (answer old.batches (length old.batches) key) (end_after FIRST old.batches))) (sym is)
-      (subst (λ (n : ℕ). Answers (old.batches ++ more) at_end (length old.batches) (Get key) (length old.batches) (get_line 0 key (answer old.batches (length old.batches) key) n)) (visible_front old.batches more)
-      (subst (λ (v : Option (List ℕ)). Answers (old.batches ++ more) at_end (length old.batches) (Get key) (length old.batches) (get_line 0 key v (visible_after (old.batches ++ more) (length old.batches)))) (answer_front old.batches more key) (read key)))) o
+      (λ more. subst (λ (a : Act). Answers (old.batches ++ more) (is_dead old.journal) (length old.batches) a (length old.batches) (get_line 0 key (answer old.batches (length old.batches) key) (end_after FIRST old.batches))) (sym is)
+      (subst (λ (n : ℕ). Answers (old.batches ++ more) (is_dead old.journal) (length old.batches) (Get key) (length old.batches) (get_line 0 key (answer old.batches (length old.batches) key) n)) (visible_front old.batches more)
+      (subst (λ (v : Option (List ℕ)). Answers (old.batches ++ more) (is_dead old.journal) (length old.batches) (Get key) (length old.batches) (get_line 0 key v (visible_after (old.batches ++ more) (length old.batches)))) (answer_front old.batches more key) (read key)))) o
       (λ still. subst (λ (a : Act). IsShort old.limited (g.front ++ a ∷ []) g.own) (sym is) (none_more g.front (Get key) g.own refl old.limited (g.short still)))
 
   -- by what the act did
@@ -191,15 +230,16 @@ has_gone tells base start wal acts stage new rest end status g none e status_is 
         numbered = subst (IsContiguous FIRST) is e.numbered;
         within = subst (λ (bs : List Batch). end_after FIRST bs ≤ NUMBER_MAX) is e.within;
         lines = stage.text;
-        answers = subst (λ (bs : List Batch). AnswersAll bs end.died (length base) acts (length bs) stage.text) is
-            (subst (λ (l : List Act). AnswersAll stage.batches end.died (length base) l (length stage.batches) stage.text) (sym all)
-            (subst (λ (bs : List Batch). AnswersAll bs end.died (length base) g.front (length stage.batches) stage.text) (append-nil stage.batches) (g.answered [] end.died (by_end end.died refl))));
+        answers = subst (λ (bs : List Batch). AnswersAll bs false end.died (length base) acts (length bs) stage.text) is
+            (subst (λ (l : List Act). AnswersAll stage.batches false end.died (length base) l (length stage.batches) stage.text) (sym all)
+            (answers_later stage.batches false (is_dead stage.journal) end.died (length base) g.front (length stage.batches) stage.text
+            (subst (λ (bs : List Batch). AnswersAll bs false (is_dead stage.journal) (length base) g.front (length stage.batches) stage.text) (append-nil stage.batches) (g.answered [])) (by_end end.died refl)));
         text_is = e.reply ∙ ap (λ (bs : List Batch). stage.text ++ end_line (end_after FIRST bs) (len new.journal) end) is ∙ ap (λ (n : ℕ). stage.text ++ end_line (end_after FIRST (base ++ g.own)) n end) ended.0;
       };
       short = λ lives. subst (λ (l : List Act). IsShort stage.limited l g.own) (sym all) (g.short (e.lives lives));
       ended = ended.1;
     }
   where
-    by_end : (d : Bool) → end.died ≡ d → stage.journal.dead ≢ None → IsTrue end.died
-    by_end true is has_died = is
-    by_end false is has_died = absurd (has_died (e.lives is))
+    by_end : (d : Bool) → end.died ≡ d → StaysDead (is_dead stage.journal) end.died
+    by_end true is was = is
+    by_end false is was = let clash : false ≡ true = sym (lives_now stage.journal (e.lives is)) ∙ was in absurd cc

@@ -1,5 +1,5 @@
 -- What a replay makes and answers (docs/FORMATS.md, "The text of a replay").
-use Rattle.std.specs.Prelude.{◌≡◌, ℕ, ◌+◌, ◌<◌, ◌≤◌, Bool, List, [], ◌∷◌, ◌++◌, length, map, take, Option, Some, None, slice_get, IsTrue}
+use Rattle.std.specs.Prelude.{◌≡◌, ℕ, ◌+◌, ◌<◌, ◌≤◌, Bool, true, false, List, [], ◌∷◌, ◌++◌, length, map, take, Option, Some, None, slice_get, IsTrue}
 use Rattle.std.specs.List.{filter_map}
 use Rattle.wal_base.specs.declared.entry.Entry.{Entry}
 use Rattle.batch_repr.specs.declared.batch.Batch.{Batch}
@@ -28,19 +28,24 @@ numbers_taken (Get key) = 0
 abbrev pub visible_after : List Batch → ℕ → ℕ
 visible_after store n = end_after FIRST (take n store)
 
--- How an act is answered behind the first n batches of the store, and how many batches then stand: a commit is the next batch, or
--- would end past the numbers, or finds a journal that has died; a read answers after those n.
-pub data Answers (store : List Batch) (died : Bool) (n : ℕ) : Act → ℕ → List ℕ → Type 0 where
-  numbered : (batch : Batch) → slice_get store n ≡ Some batch → Answers store died n (Commit batch.entries) (n + 1) (commit_line 0 batch.first (count_of batch.entries))
-  limited : (entries : List Entry) → NUMBER_MAX < visible_after store n + count_of entries → Answers store died n (Commit entries) n (limit_line 0)
-  dead : (entries : List Entry) → IsTrue died → Answers store died n (Commit entries) n (dead_line 0)
-  read : (key : List ℕ) → Answers store died n (Get key) n (get_line 0 key (answer store n key) (visible_after store n))
+-- How an act is answered behind the first n batches of the store, and how many batches then stand. Where the journal is dead, a
+-- commit is told so; else it is the next batch, or would end past the numbers. A read answers after those n.
+pub data Answers (store : List Batch) (is_dead : Bool) (n : ℕ) : Act → ℕ → List ℕ → Type 0 where
+  numbered : (batch : Batch) → is_dead ≡ false → slice_get store n ≡ Some batch → Answers store is_dead n (Commit batch.entries) (n + 1) (commit_line 0 batch.first (count_of batch.entries))
+  limited : (entries : List Entry) → is_dead ≡ false → NUMBER_MAX < visible_after store n + count_of entries → Answers store is_dead n (Commit entries) n (limit_line 0)
+  dead : (entries : List Entry) → is_dead ≡ true → Answers store is_dead n (Commit entries) n (dead_line 0)
+  read : (key : List ℕ) → Answers store is_dead n (Get key) n (get_line 0 key (answer store n key) (visible_after store n))
 
--- The acts are answered by these lines one after another, the first behind n batches. So many batches stand behind the last.
-unfoldable pub AnswersAll : List Batch → Bool → ℕ → List Act → ℕ → List ℕ → Type 0
-AnswersAll store died n [] end lines = (end ≡ n) × (lines ≡ [])
-AnswersAll store died n (act ∷ acts) end lines =
-    (next : ℕ) × (line : List ℕ) × (rest : List ℕ) × Answers store died n act next line × AnswersAll store died next acts end rest × (lines ≡ line ++ rest)
+-- a journal that was dead is dead
+abbrev pub StaysDead : Bool → Bool → Type 0
+StaysDead was_dead is_dead = IsTrue was_dead → IsTrue is_dead
+
+-- The acts are answered by these lines one after another, the first behind n batches, from where the journal was dead to where it is
+-- dead. Once it is dead it stays so. So many batches stand behind the last act.
+unfoldable pub AnswersAll : List Batch → Bool → Bool → ℕ → List Act → ℕ → List ℕ → Type 0
+AnswersAll store was_dead died n [] end lines = StaysDead was_dead died × (end ≡ n) × (lines ≡ [])
+AnswersAll store was_dead died n (act ∷ acts) end lines =
+    (is_dead : Bool) × (next : ℕ) × (line : List ℕ) × (rest : List ℕ) × StaysDead was_dead is_dead × Answers store is_dead n act next line × AnswersAll store is_dead died next acts end rest × (lines ≡ line ++ rest)
 
 -- The text answers the acts over a store that begins with the base, adds these batches to it, and then says how the run and its
 -- journal ended.
@@ -48,7 +53,7 @@ pub record IsReplayText (base : List Batch) (acts : List Act) (batches : List Ba
   pub numbered : IsContiguous FIRST (base ++ batches)
   pub within : end_after FIRST (base ++ batches) ≤ NUMBER_MAX
   pub lines : List ℕ
-  pub answers : AnswersAll (base ++ batches) end.died (length base) acts (length (base ++ batches)) lines
+  pub answers : AnswersAll (base ++ batches) false end.died (length base) acts (length (base ++ batches)) lines
   pub text_is : text ≡ lines ++ end_line (end_after FIRST (base ++ batches)) (length batches) end
 
 -- Each commit has its batch.
