@@ -1,0 +1,302 @@
+use super::{
+    FIRST_LOG, Rig, check, check_command, check_log, log_at, ran_over, segment_at, words_of,
+};
+use crate::{NoGate, Ran, Status, run};
+use disk_face::{Disk, DiskErr, DiskOp, Names, OpId, Progress, SegName, Side};
+use std::alloc::{AllocError, Global};
+use std::test::Fail;
+use wal_base::{Blob, MemSink, MemSource, NoMemory};
+
+#[test]
+fn a_script_gives_its_text(rt: HostRuntime) -> Result<(), Fail> {
+    for (script, status, text) in [
+        (
+            "commit 0 nosync set a 1\nget 0 a\n",
+            Status::Done,
+            "s0 commit 10 1\ns0 get a = 1 @11\nend visible 11 batches 1 acked 1 segments 1 closed\n",
+        ),
+        (
+            "",
+            Status::Done,
+            "end visible 10 batches 0 acked 0 segments 0 closed\n",
+        ),
+        (
+            "get 0 a\ncommit 0 nosync set a 1\n# over it\n\ncommit\t0 nosync set a \\\nget 0 a\nget 0 b",
+            Status::Done,
+            "s0 get a none @10\ns0 commit 10 1\ns0 commit 11 1\ns0 get a = \\x5c @12\ns0 get b none @12\nend visible 12 batches 2 acked 2 segments 1 closed\n",
+        ),
+        ("commit 64 sync set a 1", Status::Script, "script line 1\n"),
+        ("commit 0 sync note x", Status::Script, "script line 1\n"),
+        ("get 0  a", Status::Script, "script line 1\n"),
+        (
+            "get 0 a\n\nget 0 a;\nget 0",
+            Status::Script,
+            "script line 3\n",
+        ),
+    ] {
+        check(&rt, rt.alloc(), script.as_bytes(), status, text.as_bytes())?;
+    }
+    Ok(())
+}
+
+#[test]
+fn a_run_leaves_its_log(rt: HostRuntime) -> Result<(), Fail> {
+    let (alloc, rig) = (rt.alloc(), Rig::new(rt.alloc())?);
+    let script = b"commit 0 nosync set a 1\nget 0 a\n";
+    let text =
+        "s0 commit 10 1\ns0 get a = 1 @11\nend visible 11 batches 1 acked 1 segments 1 closed\n";
+    let log = Some(FIRST_LOG);
+    check_log(&rt, alloc, rig, script, Status::Done, text, log)?;
+    let rig = Rig::new(alloc)?;
+    let end = "end visible 10 batches 0 acked 0 segments 0 closed\n";
+    check_log(&rt, alloc, rig, b"", Status::Done, end, None)
+}
+
+#[test]
+fn a_failing_segment_is_followed_by_the_next(rt: HostRuntime) -> Result<(), Fail> {
+    let script = b"commit 0 nosync set a 1\n";
+    let text = "s0 commit 10 1\nend visible 11 batches 1 acked 1 segments 2 closed\n";
+    let alloc = rt.alloc();
+    // Which operation fails: the creation, the write or the sync.
+    for (number, first) in [(0, None), (1, Some(b"".as_slice())), (2, Some(FIRST_LOG))] {
+        let mut rig = Rig::new(alloc)?;
+        rig.fail_op(&rt, number);
+        let disk = check_command(&rt, alloc, rig, &["replay"], script, Status::Done, text)?;
+        assert!(rt; segment_at(&disk, 0) == first);
+        assert!(rt; segment_at(&disk, 1) == Some(FIRST_LOG));
+        let rig = Rig::after_crash(&rt, alloc, disk);
+        let store = "a = 1\nend batches 1 next 11\n";
+        check_command(&rt, alloc, rig, &["recover"], b"", Status::Done, store)?;
+    }
+    Ok(())
+}
+
+#[test]
+fn ten_failing_segments_end_the_journal(rt: HostRuntime) -> Result<(), Fail> {
+    let script = b"commit 0 nosync set a 1\ncommit 0 nosync set a 2\nget 0 a\n";
+    let alloc = rt.alloc();
+    // The second write fails, and then the sync of each segment, so the journal dies as it is closed.
+    let mut rig = Rig::new(alloc)?;
+    for index in 0..10 {
+        rig.fail_op(&rt, 2 + 3 * index);
+    }
+    let text =
+        "s0 commit 10 1\ns0 commit 11 1\ns0 get a = 2 @12\nend visible 12 batches 2 acked 0 segments 10 dead\n";
+    let disk = check_command(&rt, alloc, rig, &["replay"], script, Status::Disk, text)?;
+    let rig = Rig::after_crash(&rt, alloc, disk);
+    let store = "end batches 0 next 10\n";
+    check_command(&rt, alloc, rig, &["recover"], b"", Status::Done, store)?;
+    // Each creation fails, so the journal dies within the first commit.
+    let mut rig = Rig::new(alloc)?;
+    for number in 0..10 {
+        rig.fail_op(&rt, number);
+    }
+    let text =
+        "s0 commit 10 1\ns0 commit dead\ns0 get a = 1 @11\nend visible 11 batches 1 acked 0 segments 10 dead\n";
+    let disk = check_command(&rt, alloc, rig, &["replay"], script, Status::Disk, text)?;
+    assert!(rt; segment_at(&disk, 0).is_none());
+    Ok(())
+}
+
+#[test]
+fn an_operation_hangs_from_the_third_pending_poll_on(rt: HostRuntime) -> Result<(), Fail> {
+    let script = b"commit 0 nosync set a 1\n";
+    let alloc = rt.alloc();
+    // The creation of segment 0 is pending so often.
+    let one = "s0 commit 10 1\nend visible 11 batches 1 acked 1 segments 1 closed\n";
+    let two = "s0 commit 10 1\nend visible 11 batches 1 acked 1 segments 2 closed\n";
+    for (polls, text, first, second) in [
+        (2, one, FIRST_LOG, None),
+        (3, two, b"".as_slice(), Some(FIRST_LOG)),
+    ] {
+        let mut rig = Rig::new(alloc)?;
+        rig.stall(Side::Primary, polls);
+        let disk = check_command(&rt, alloc, rig, &["replay"], script, Status::Done, text)?;
+        assert!(rt; segment_at(&disk, 0) == Some(first));
+        assert!(rt; segment_at(&disk, 1) == second);
+    }
+    Ok(())
+}
+
+#[test]
+fn a_living_run_has_three_segments(rt: HostRuntime) -> Result<(), Fail> {
+    let script = b"commit 0 nosync set a 1\n";
+    let text = "s0 commit 10 1\nend visible 11 batches 1 acked 1 segments 3 closed\n";
+    let alloc = rt.alloc();
+    // The creation of segment 0 hangs, and that of segment 1 fails, or hangs too and ends once segment 2 is begun.
+    for (fails, hangs, second) in [(1, 0, None), (1_000, 3, Some(b"".as_slice()))] {
+        let mut rig = Rig::new(alloc)?;
+        rig.stall(Side::Primary, 3);
+        rig.stall(Side::Secondary, hangs);
+        rig.fail_op(&rt, fails);
+        let disk = check_command(&rt, alloc, rig, &["replay"], script, Status::Done, text)?;
+        assert!(rt; segment_at(&disk, 0) == Some(b"".as_slice()));
+        assert!(rt; segment_at(&disk, 1) == second);
+        assert!(rt; segment_at(&disk, 2) == Some(FIRST_LOG));
+        let rig = Rig::after_crash(&rt, alloc, disk);
+        let store = "a = 1\nend batches 1 next 11\n";
+        check_command(&rt, alloc, rig, &["recover"], b"", Status::Done, store)?;
+    }
+    Ok(())
+}
+
+/// A disk that answers so many polls of one operation on the primary side pending.
+#[derive(Drop)]
+struct Late<D: Disk> {
+    inner: D,
+    op: u64,
+    polls: u64,
+}
+
+impl<D: Disk> Disk for Late<D> {
+    ghost use Rattle.disk_face.specs.Script.{stalled};
+
+    ghost tells = { D.tells };
+
+    ghost view = { λ d. stalled (D.view d.inner) d.polls 0 };
+
+    fn list(&mut self, side: Side) -> Result<Names, DiskErr> {
+        self.inner.list(side)
+    }
+
+    fn read(
+        &mut self,
+        side: Side,
+        name: SegName,
+        at: u64,
+        buf: &mut [u8],
+    ) -> Result<usize, DiskErr> {
+        self.inner.read(side, name, at, buf)
+    }
+
+    fn start(&mut self, op: DiskOp<'_>) -> Result<OpId, NoMemory> {
+        self.inner.start(op)
+    }
+
+    fn poll(&mut self, id: OpId) -> Progress {
+        let held = self.polls > 0 && id.number == self.op;
+        match id.side {
+            Side::Primary if held => {
+                self.polls -= 1;
+                Progress::Pending
+            }
+            Side::Primary | Side::Secondary => self.inner.poll(id),
+        }
+    }
+
+    ghost finite = { λ d k told le. D.finite d.inner k told le };
+
+    ghost sound = { λ d p f told is. D.sound d.inner p f told is };
+}
+
+#[test]
+fn a_late_sync_is_told_by_a_dead_run(rt: HostRuntime) -> Result<(), Fail> {
+    let alloc = rt.alloc();
+    let mut rig = Rig::new(alloc)?;
+    // The sync of segment 0 hangs. The nine creations behind it fail, and in the step that finds the last of them failed
+    // the sync is done at its twelfth poll.
+    for number in 3..12 {
+        rig.fail_op(&rt, number);
+    }
+    let late = Late {
+        inner: rig.disk,
+        op: 2,
+        polls: 11,
+    };
+    let words = words_of(alloc, &["replay"])?;
+    let mut source = MemSource::new(Blob::copy_of(alloc, b"commit 0 nosync set a 1\n")?);
+    let mut sink = MemSink::new(alloc)?;
+    let Ran { status, disk } = run(&rt, alloc, &words, &mut source, &mut sink, late, &NoGate);
+    let text = "s0 commit 10 1\nend visible 11 batches 1 acked 1 segments 10 dead\n";
+    assert!(rt; sink.written() == text.as_bytes());
+    assert_eq!(rt; status, Status::Disk);
+    let rig = Rig::after_crash(&rt, alloc, disk.inner);
+    let store = "a = 1\nend batches 1 next 11\n";
+    check_command(&rt, alloc, rig, &["recover"], b"", Status::Done, store)?;
+    Ok(())
+}
+
+#[test]
+fn a_replay_goes_on_where_one_stopped(rt: HostRuntime) -> Result<(), Fail> {
+    let alloc = rt.alloc();
+    let mut rig = Rig::new(alloc)?;
+    for (script, text) in [
+        (
+            b"commit 0 nosync set a 1\n".as_slice(),
+            "s0 commit 10 1\nend visible 11 batches 1 acked 1 segments 1 closed\n",
+        ),
+        (
+            b"get 0 a\ncommit 0 nosync set b 2\nget 0 b\n".as_slice(),
+            "s0 get a = 1 @11\ns0 commit 11 1\ns0 get b = 2 @12\nend visible 12 batches 1 acked 1 segments 1 closed\n",
+        ),
+        (
+            b"get 0 b\n".as_slice(),
+            "s0 get b = 2 @12\nend visible 12 batches 0 acked 0 segments 0 closed\n",
+        ),
+    ] {
+        let disk = check_command(&rt, alloc, rig, &["replay"], script, Status::Done, text)?;
+        rig = Rig::after_crash(&rt, alloc, disk);
+    }
+    assert!(rt; log_at(&rig.disk, 1) == Some(FIRST_LOG));
+    assert_eq!(rt; log_at(&rig.disk, 2).map(|log| log.len()), Some(28));
+    assert!(rt; log_at(&rig.disk, 3).is_none());
+    let store = "a = 1\nb = 2\nend batches 2 next 12\n";
+    check_command(&rt, alloc, rig, &["recover"], b"", Status::Done, store)?;
+    Ok(())
+}
+
+/// A script of batches whose values have so many bytes.
+fn script_of(alloc: Global, lens: &[usize]) -> Result<Vec<u8>, AllocError> {
+    let mut script = Vec::new(alloc);
+    for len in lens {
+        script.extend_from_slice(b"commit 0 nosync set k ")?;
+        for _ in 0..*len {
+            script.push(b'v')?;
+        }
+        script.push(b'\n')?;
+    }
+    Ok(script)
+}
+
+/// The bytes at these places, where there are any.
+fn bytes_at(log: &[u8], places: &[usize; 3]) -> [Option<u8>; 3] {
+    places.map(|place| log.get(place).copied())
+}
+
+#[test]
+fn a_log_goes_on_in_the_next_block(rt: HostRuntime) -> Result<(), Fail> {
+    // Before its value a record has 18 bytes, or 16 where the value is short. So the first script has one record of
+    // 70,000 bytes, and the others one of 32,746 or 32,757 bytes and one of 17. A chunk's type is its byte 6.
+    let rows: [(&[usize], [usize; 3], [Option<u8>; 3], usize); 3] = [
+        (
+            &[69_982],
+            [6, 32_774, 65_542],
+            [Some(6), Some(7), Some(8)],
+            70_033,
+        ),
+        (
+            &[32_728, 1],
+            [6, 32_763, 32_774],
+            [Some(5), Some(6), Some(8)],
+            32_796,
+        ),
+        (
+            &[32_739, 1],
+            [6, 32_774, 32_796],
+            [Some(5), Some(5), None],
+            32_796,
+        ),
+    ];
+    for (lens, places, types, len) in rows {
+        let script = script_of(rt.alloc(), lens)?;
+        let mut source = MemSource::new(Blob::copy_of(rt.alloc(), &script)?);
+        let mut sink = MemSink::new(rt.alloc())?;
+        let rig = Rig::new(rt.alloc())?;
+        let (status, disk) = ran_over(&rt, rt.alloc(), &["replay"], &mut source, &mut sink, rig)?;
+        assert_eq!(rt; status, Status::Done);
+        let log = log_at(&disk, 1).unwrap_or(&[]);
+        assert_eq!(rt; log.len(), len);
+        assert!(rt; bytes_at(log, &places) == types);
+    }
+    Ok(())
+}
