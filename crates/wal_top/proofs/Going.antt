@@ -1,5 +1,5 @@
 -- A replay that goes on act by act: whatever batches follow, the acts so far are answered by the text so far, and the journal has the batches so far.
-use Rattle.std.proofs.Common.{◌≡◌, ◌≢◌, ℕ, suc, ◌+◌, ◌<◌, ◌≤◌, Bool, true, false, List, [], ◌∷◌, ◌++◌, length, take, map, Option, Some, None, IsTrue, refl, sym, ap, ◌∙◌, arith, append_assoc, subst}
+use Rattle.std.proofs.Common.{◌≡◌, ◌≢◌, ℕ, suc, ◌+◌, ◌<◌, ◌≤◌, Bool, true, false, List, [], ◌∷◌, ◌++◌, length, take, map, Option, Some, None, refl, sym, ap, ◌∙◌, arith, append_assoc, subst}
 use Rattle.std.specs.Prelude.{slice_get, is_some}
 use Rattle.std.specs.List.{filter_map}
 use Rattle.std.proofs.lemmas.List.{append-nil, length-append, take_at, take_all, map-append}
@@ -17,7 +17,8 @@ use Rattle.wal_top.specs.declared.status.Status.{Status}
 use Rattle.wal_top.specs.Printing.{commit_line, limit_line, dead_line, get_line, end_line}
 use Rattle.wal_top.specs.Replay.{FIRST, committed, visible_after, Answers, numbered, limited, dead, read, StaysDead, AnswersAll, LacksBatch}
 use Rattle.wal_top.specs.Journaling.{Runs}
-use Rattle.wal_top.specs.Doing.{numbered_behind, Stage, Commits, OnlyReplies, DoesCommit, commits, past, died, DoesGet, DoesAct, IsShort, EndsRun, IsBegun, ReplaysOver, status_after}
+use Rattle.wal_top.specs.Doing.{numbered_behind, Stage, Commits, OnlyReplies, DoesCommit, commits, past, died, DoesGet, DoesAct, DoesAll, DoesRun, IsShort, EndsRun, IsBegun, ReplaysOver, status_after}
+use Rattle.wal_top.specs.Doing as doing
 
 -- one act more behind answered ones
 pub answers_push : (store : List Batch) (was_dead mid_dead is_dead at_end : Bool) (n : ℕ) (acts : List Act) (act : Act) (mid end : ℕ) (lines line : List ℕ) → AnswersAll store was_dead mid_dead n acts mid lines → StaysDead mid_dead is_dead
@@ -213,6 +214,37 @@ module _ (tells : Bool) (base : List Batch) (start : DiskView) (wal : ℕ) (acts
       by_act : (a : Act) → act ≡ a → DoesAct tells a old new → GoesOn tells base start wal acts new rest
       by_act (Commit entries) is c = by_commit entries is c
       by_act (Get key) is o = read_goes key is o
+
+-- ---- what was done so far
+
+-- the acts so far were done, and none of them asked for a sync
+pub record Done (tells : Bool) (acts : List Act) (first stage : Stage) (rest : List Act) : Type 0 where
+  pub front : List Act
+  pub acts_are : acts ≡ front ++ rest
+  pub acts_done : DoesAll tells first front stage
+  pub unasked : stage.journal.want ≡ first.journal.want
+
+pub done_from : (tells : Bool) (acts : List Act) (first : Stage) → Done tells acts first first acts
+done_from tells acts first = record { front = []; acts_are = refl; acts_done = doing.none; unasked = refl }
+
+act_unasked : (tells : Bool) (act : Act) (old new : Stage) → DoesAct tells act old new → new.journal.want ≡ old.journal.want
+act_unasked tells (Commit entries) old new (commits c) = c.logs.unasked
+act_unasked tells (Commit entries) old new (past lives beyond o) = ap (λ (s : State). s.want) o.journal
+act_unasked tells (Commit entries) old new (died has_died o) = ap (λ (s : State). s.want) o.journal
+act_unasked tells (Get key) old new o = ap (λ (s : State). s.want) o.journal
+
+pub done_on : (tells : Bool) (acts : List Act) (first old new : Stage) (act : Act) (before rest : List Act) → Done tells acts first old before → before ≡ act ∷ rest → DoesAct tells act old new → Done tells acts first new rest
+done_on tells acts first old new act before rest d e does = record {
+  front = d.front ++ act ∷ [];
+  acts_are = d.acts_are ∙ ap (λ (l : List Act). d.front ++ l) e ∙ sym (append_assoc d.front (act ∷ []) rest);
+  acts_done = doing.one_more d.front act old new d.acts_done does;
+  unasked = act_unasked tells act old new does ∙ d.unasked;
+}
+
+pub has_done : (tells : Bool) (acts : List Act) (first stage new : Stage) (rest : List Act) (end : JournalEnd) → Done tells acts first stage rest → rest ≡ [] → EndsRun tells end stage new → DoesRun tells acts end first new
+has_done tells acts first stage new rest end d none e =
+    let all : acts ≡ d.front = d.acts_are ∙ ap (λ (l : List Act). d.front ++ l) none ∙ append-nil d.front in
+    record { closing = stage; acts_done = subst (λ (l : List Act). DoesAll tells first l stage) (sym all) d.acts_done; unasked = d.unasked; ends = e }
 
 -- the end: all acts are answered, and the last line ends the text
 pub has_gone : (tells : Bool) (base : List Batch) (start : DiskView) (wal : ℕ) (acts : List Act) (stage new : Stage) (rest : List Act) (end : JournalEnd) (status : Status) → GoesOn tells base start wal acts stage rest → rest ≡ [] → EndsRun tells end stage new

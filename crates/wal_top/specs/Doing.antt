@@ -1,5 +1,5 @@
 -- How a replay goes on, act by act, and what it comes to. Nothing of it is seen from outside.
-use Rattle.std.specs.Prelude.{◌≡◌, ◌≢◌, ℕ, ◌+◌, ◌<◌, ◌≤◌, Bool, true, false, IsTrue, MatchBool, List, [], ◌∷◌, ◌++◌, length, None}
+use Rattle.std.specs.Prelude.{◌≡◌, ◌≢◌, ℕ, ◌+◌, ◌<◌, ◌≤◌, Bool, true, false, IsTrue, MatchBool, List, [], ◌∷◌, ◌++◌, length, None, Result, Err}
 use Rattle.wal_base.specs.declared.entry.Entry.{Entry}
 use Rattle.batch_repr.specs.declared.batch.Batch.{Batch}
 use Rattle.batch_repr.specs.declared.limits.TheConstants.{NUMBER_MAX}
@@ -9,7 +9,13 @@ use Rattle.wal_recovery.specs.declared.reports.Mode.TheVariants.{Strict}
 use Rattle.wal_recovery.specs.Listing.{IsNextWal}
 use Rattle.wal_recovery.specs.Recovering.{Recovers}
 use Rattle.wal_recovery.specs.Resting.{OnlySynced}
+use Rattle.failover_writer.specs.declared.fault.JournalFault.{JournalFault}
+use Rattle.failover_writer.specs.declared.fault.JournalFault.TheVariants.{NoMemory}
+use Rattle.failover_writer.specs.declared.fault.Step.{Step}
 use Rattle.failover_writer.specs.State.{State, Held, len, acked}
+use Rattle.failover_writer.specs.Answered.{Settles}
+use Rattle.failover_writer.specs.Moves.{Pushes}
+use Rattle.failover_writer.specs.Sound.{IsSound}
 use Rattle.wal_top.specs.declared.script.Act.{Act}
 use Rattle.wal_top.specs.declared.script.Act.TheVariants.{Commit, Get}
 use Rattle.wal_top.specs.declared.replies.JournalEnd.{JournalEnd}
@@ -46,6 +52,15 @@ pub record Stage : Type 0 where
 abbrev pub stage_of : {Disk : Type 0} → (Disk → DiskView) → InCourse Disk → Stage
 stage_of view course = record { batches = course.batches; journal = course.journal.state; view = view course.journal.disk; text = course.text; limited = course.limited }
 
+-- The batch was pushed, no sync was asked for, and the journal stepped as long as a step moved.
+pub record Logs (batch : Batch) (old : State) (before : DiskView) (new : State) (after : DiskView) : Type 0 where
+  pub pushed : State
+  pub pushes : Pushes batch false old pushed
+  pub answer : Result Step JournalFault
+  pub settles : Settles pushed new before after answer
+  pub lasted : answer ≢ Err NoMemory
+  pub unasked : new.want ≡ old.want
+
 -- A commit adds its batch behind the old ones and to the journal, and its reply behind the old text.
 pub record Commits (tells : Bool) (entries : List Entry) (old new : Stage) : Type 0 where
   pub lives : old.journal.dead ≡ None
@@ -53,6 +68,7 @@ pub record Commits (tells : Bool) (entries : List Entry) (old new : Stage) : Typ
   pub batches : new.batches ≡ old.batches ++ numbered_behind old.batches entries ∷ []
   pub reply : new.text ≡ old.text ++ commit_line 0 (end_after FIRST old.batches) (count_of entries)
   pub limited : new.limited ≡ old.limited
+  pub logs : Logs (numbered_behind old.batches entries) old.journal old.view new.journal new.view
   pub runs : (start : DiskView) (wal first : ℕ) (own : List Batch) → Runs tells start wal first own old.journal old.view
       → Runs tells start wal first (own ++ numbered_behind old.batches entries ∷ []) new.journal new.view
 
@@ -88,7 +104,7 @@ pub record Closes (tells died : Bool) (old new : Stage) : Type 0 where
   pub text : new.text ≡ old.text
   pub limited : new.limited ≡ old.limited
   pub lives : died ≡ false → old.journal.dead ≡ None
-  pub ended : (start : DiskView) (wal first : ℕ) (own : List Batch) → Runs tells start wal first own old.journal old.view
+  pub ended : IsSound new.journal → (start : DiskView) (wal first : ℕ) (own : List Batch) → Runs tells start wal first own old.journal old.view
       → (len new.journal ≡ length own) × HasEnded tells start wal first own (record { acked = acked new.journal; segments = length new.journal.segments; died = died }) new.view
 
 -- The journal was closed, or died, and the last line says so.
@@ -101,6 +117,18 @@ pub record EndsRun (tells : Bool) (end : JournalEnd) (old new : Stage) : Type 0 
   pub reply : new.text ≡ old.text ++ end_line (end_after FIRST old.batches) (len new.journal) end
   pub ended : (start : DiskView) (wal first : ℕ) (own : List Batch) → Runs tells start wal first own old.journal old.view → (len new.journal ≡ length own) × HasEnded tells start wal first own end new.view
 
+-- The acts were done one after another.
+pub data DoesAll (tells : Bool) (first : Stage) : List Act → Stage → Type 0 where
+  none : DoesAll tells first [] first
+  one_more : (acts : List Act) (act : Act) (mid new : Stage) → DoesAll tells first acts mid → DoesAct tells act mid new → DoesAll tells first (acts ++ act ∷ []) new
+
+-- The acts were done, none of which asked for a sync, and then the journal was closed, or died.
+pub record DoesRun (tells : Bool) (acts : List Act) (end : JournalEnd) (old new : Stage) : Type 0 where
+  pub closing : Stage
+  pub acts_done : DoesAll tells old acts closing
+  pub unasked : closing.journal.want ≡ old.journal.want
+  pub ends : EndsRun tells end closing new
+
 -- how a run ends after its acts: by a journal that died, by a limit, or by neither
 abbrev pub status_after : Bool → Bool → Status
 status_after true limited = Disk
@@ -112,6 +140,7 @@ pub record IsBegun (tells : Bool) (base : List Batch) (start : DiskView) (wal : 
   pub batches : stage.batches ≡ base
   pub text : stage.text ≡ []
   pub limited : stage.limited ≡ false
+  pub unasked : stage.journal.want ≡ 0
   pub runs : Runs tells start wal (end_after FIRST base) [] stage.journal stage.view
 
 -- What a replay of the acts over the base comes to on a disk: its text, how its journal ended, and what that leaves.

@@ -1,5 +1,5 @@
 -- How the journal of a run stands between its calls. Nothing of it is seen from outside.
-use Rattle.std.specs.Prelude.{◌≡◌, ◌≢◌, ◌⊎◌, ℕ, Bool, List, [], ◌++◌, length, None, IsTrue}
+use Rattle.std.specs.Prelude.{◌≡◌, ◌⊎◌, ℕ, Bool, List, [], ◌++◌, length, IsTrue}
 use Rattle.batch_repr.specs.declared.batch.Batch.{Batch}
 use Rattle.disk_face.specs.View.{Place, Files, DiskView, files}
 use Rattle.disk_face.specs.Image.{IsImage, IsChanceFree, IsRested, dirs_as_read}
@@ -22,8 +22,6 @@ pub record Runs (tells : Bool) (start : DiskView) (wal first : ℕ) (own : List 
   pub goes : GoesOn start v
   pub harmed : IsHarmed state → FaultsRose start v
   pub smooth : IsSmooth state ⊎ (FaultsRose start v ⊎ PollsLeft start)
-  pub ten : state.dead ≢ None → length state.segments ≡ 10
-  pub none : own ≡ [] → state.segments ≡ []
   pub kept : IsTrue tells → (base : List Batch) → IsOpening wal first base (files start) → KeepsBase tells base state v
   pub others : IsTrue tells → OthersStay (files start) state (files v)
 

@@ -1,19 +1,19 @@
 //! The acts of a script, done one after another over a journal.
 
-ghost use Rattle.std.specs.Prelude.{◌≡◌, ◌↔◌, ◌+◌, ◌≤◌, ℕ, Ok, None, List, IfOk, IfErr, IsTrue, OnOk};
+ghost use Rattle.std.specs.Prelude.{◌≡◌, ◌≢◌, ◌+◌, ◌≤◌, ℕ, Ok, Err, None, List, IfOk, IfErr, IsTrue, OnOk};
 ghost use Rattle.batch_repr.specs.declared.batch.Batch.{Batch};
 ghost use Rattle.batch_repr.specs.declared.limits.TheConstants.{NUMBER_MAX};
 ghost use Rattle.batch_repr.specs.Batches.{count_of, end_after, IsContiguous};
 ghost use Rattle.disk_face.specs.View.{DiskView, files, NothingInFlight};
 ghost use Rattle.disk_face.specs.Calls.{GoesOn};
-ghost use Rattle.failover_writer.specs.declared.fault.Step.TheVariants as steps;
+ghost use Rattle.failover_writer.specs.declared.fault.JournalFault.TheVariants as faults;
 ghost use Rattle.failover_writer.specs.Ranges.{AreUnsent};
 ghost use Rattle.wal_top.specs.declared.replaying.TheConstants.{LAST_WAL};
 ghost use Rattle.wal_top.specs.declared.replies.JournalEnd.{JournalEnd};
 ghost use Rattle.wal_top.specs.Replay.{FIRST};
 ghost use Rattle.wal_top.specs.Journaling.{RunsOn, RunsStill, OthersSame};
 ghost use Rattle.wal_top.specs.Doing as doing;
-ghost use Rattle.wal_top.specs.Doing.{IsBegun, stage_of, Commits, DoesCommit, DoesGet, DoesAct, Closes, EndsRun, ReplaysOver};
+ghost use Rattle.wal_top.specs.Doing.{IsBegun, stage_of, Commits, DoesCommit, DoesGet, DoesAct, Closes, EndsRun, DoesRun, ReplaysOver};
 
 use crate::history::History;
 use crate::replies::{JournalEnd, put_commit, put_dead, put_end, put_get, put_limit};
@@ -34,37 +34,14 @@ const SESSION: u32 = 0;
 /// From how many pending polls in a row an operation hangs.
 pub const THRESHOLD: u32 = 3;
 
-/// Whether the next step may do more at once.
-fn moved(stepped: Result<Step, JournalFault>) -> Result<bool, NoMemory>
-    ensures { IfOk result (λ more. IsTrue more ↔ (stepped ≡ Ok steps.Moved)) }
+/// A journal that died in its steps has the batch all the same.
+fn settled(stepped: Result<Step, JournalFault>) -> Result<(), NoMemory>
+    ensures { OnOk result (stepped ≢ Err faults.NoMemory) }
 {
     match stepped {
-        Ok(Step::Moved) => Ok(true),
-        Ok(Step::Idle | Step::Waited) | Err(JournalFault::Dead { .. }) => Ok(false),
+        Ok(_) | Err(JournalFault::Dead { .. }) => Ok(()),
         Err(JournalFault::NoMemory) => Err(NoMemory),
     }
-}
-
-/// Does a step, and answers whether the next one may do more at once.
-fn step_on<D: Disk>(journal: &mut Journal<D>) -> Result<bool, NoMemory>
-    ensures next { journal.new.state.next ≡ journal.old.state.next }
-    ensures still { RunsStill D.tells journal.old.state (D.view journal.old.disk) journal.new.state (D.view journal.new.disk) }
-{
-    let stepped = journal.step();
-    moved(stepped)
-}
-
-/// Steps until a step only waits, does nothing, or answers that the journal is dead.
-fn settle<D: Disk>(journal: &mut Journal<D>) -> Result<(), NoMemory>
-    ensures next { journal.new.state.next ≡ journal.old.state.next }
-    ensures still { RunsStill D.tells journal.old.state (D.view journal.old.disk) journal.new.state (D.view journal.new.disk) }
-{
-    for _ in 0..u64::MAX {
-        if !step_on(journal)? {
-            return Ok(());
-        }
-    }
-    Ok(())
 }
 
 /// A replay in its course: the batches of the store, the journal of those that the run commits, the text of the answers
@@ -146,7 +123,7 @@ impl<D: Disk> Course<D> {
         let numbered = self.history.commit(batch)?;
         let (first, count) = (numbered.first(), numbered.count());
         self.journal.push(numbered, false);
-        settle(&mut self.journal)?;
+        settled(self.journal.settle())?;
         put_commit(self.alloc, &mut self.text, SESSION, first, count)
     }
 
@@ -202,6 +179,7 @@ impl<D: Disk> Course<D> {
     /// Does all acts in their order, and ends the run.
     fn go(&mut self, mut acts: VecDeque<Act>) -> Result<Status, NoMemory>
         ensures runs { RunsOn D.tells self.old.journal.state (D.view self.old.journal.disk) self.new.journal.state (D.view self.new.journal.disk) }
+        ensures does { IfOk result (λ status. (end : JournalEnd) × DoesRun D.tells acts.items end (stage_of D.view self.old) (stage_of D.view self.new) × (status ≡ doing.status_after end.died self.new.limited)) }
         ensures replays { IfOk result (λ status. (base : List Batch) (start : DiskView) (wal : ℕ) → IsBegun D.tells base start wal (stage_of D.view self.old) → ReplaysOver base acts.items wal D.tells start (D.view self.new.journal.disk) status self.new.text) }
     {
         while let Some(act) = acts.pop_front() {

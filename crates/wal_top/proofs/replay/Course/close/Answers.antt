@@ -1,25 +1,25 @@
 -- A journal keeps its run while it is closed.
-use Rattle.std.proofs.Common.{◌≡◌, ◌≢◌, Bool, true, false, None, IsTrue, ◌∙◌, subst}
+use Rattle.std.proofs.Common.{◌≡◌, Bool, true, false, None, ◌∙◌, subst}
 use Rattle.std.specs.Prelude.{IfOk, is_some}
 use Rattle.disk_face.specs.View.{DiskView, NothingInFlight}
 use Rattle.failover_writer.specs.State.{State, len, acked}
 use Rattle.wal_top.specs.Journaling.{RunsStill}
 use Rattle.wal_top.specs.Doing.{InCourse, Closes, stage_of}
 use Rattle.wal_top.proofs.Saying.{ok_is, err_is}
-use Rattle.wal_top.proofs.Running.{close_setting, closed_lives, closed_leaves, runs_closed}
+use Rattle.wal_top.proofs.Running.{closed_lives, closed_leaves, runs_further}
 use Rattle.wal_top.proofs.Closings.{closes_stage, marked_dead, unmarked_lives}
 use Rattle.wal_top.proofs.replay.Course.close.Goals as goal
 use Rattle.wal_top.proofs.replay.Course.close.Goals.{in-Ok, in-Err-Dead, in-Err-NoMemory}
 
 pub invariant_of-self : goal.invariant_of-self
-invariant_of-self g c = (close_setting c.self.inside.journal.state c.close.new.self.state (g.D.Disk.view c.self.inside.journal.disk) (g.D.Disk.view c.close.new.self.disk) c.close.result c.close.ensures.closes).next ∙ c.self.invariant
+invariant_of-self g c = c.close.ensures.setting.next ∙ c.self.invariant
 
 -- the journal within keeps its run
 still : (g : _) (c : goal.Joined-close g) → RunsStill g.D.Disk.tells c.self.inside.journal.state (g.D.Disk.view c.self.inside.journal.disk) c.close.new.self.state (g.D.Disk.view c.close.new.self.disk)
 still g c start wal first own r =
     let e = c.close.ensures in
-    runs_closed g.D.Disk.tells start wal first own c.self.inside.journal.state c.close.new.self.state (g.D.Disk.view c.self.inside.journal.disk) (g.D.Disk.view c.close.new.self.disk) c.close.result
-    e.closes e.keeps e.keeps_base e.harmed e.smooth e.passes e.goes_on r
+    runs_further g.D.Disk.tells start wal first own c.self.inside.journal.state c.close.new.self.state (g.D.Disk.view c.self.inside.journal.disk) (g.D.Disk.view c.close.new.self.disk)
+    e.setting.threshold e.keeps e.keeps_base e.harmed e.smooth e.passes e.goes_on r
 
 pub returns-clause-runs : goal.returns-clause-runs
 returns-clause-runs g c =

@@ -19,7 +19,7 @@ returns-clause-ends g c =
       record { acked = c.acked.result; segments = c.segments.result; died = c.in_ok-died.died },
       ends_run g.D.Disk.tells c.in_ok-died.died (stage_of g.D.Disk.view c.args.self.now)
           (record { batches = c.self.inside.history; journal = c.self.inside.journal.state; view = g.D.Disk.view c.self.inside.journal.disk; text = c.self.inside.text; limited = c.self.inside.limited })
-          c.acked.result c.segments.result c.visible-visible.result c.len-batches.result c.put_end.new.out closed c.acked.ensures c.segments.ensures c.visible-visible.ensures.visible c.visible-visible.ensures.numbered c.visible-visible.ensures.within
-          c.len-batches.ensures c.in_ok-put_end.ensures,
+          c.acked.result c.segments.result c.visible-visible.result c.len-batches.result c.put_end.new.out closed c.len-batches.ensures.sound c.acked.ensures c.segments.ensures c.visible-visible.ensures.visible c.visible-visible.ensures.numbered c.visible-visible.ensures.within
+          c.len-batches.ensures.len c.in_ok-put_end.ensures,
       c.status_after.ensures,
     )
