@@ -25,3 +25,4 @@ pub mod OneWal
 pub mod AtWal
 pub mod ByWal
 pub mod Limits
+pub mod Asking

@@ -14,6 +14,10 @@ pub on_ok_map : {A E : Type 0} (P Q : Type 0) (r : Result A E) → (P → Q) →
 on_ok_map P Q (Ok x) h p = h p
 on_ok_map P Q (Err e) h p = tt
 
+pub always_ok : {A E : Type 0} (P : Type 0) (r : Result A E) → P → OnOk r P
+always_ok P (Ok x) p = p
+always_ok P (Err e) p = tt
+
 -- a premise that is known
 pub ok_given : {A E : Type 0} (R T : Type 0) (P : A → Type 0) (r : Result A E) → (T → R) → IfOk r (λ x. T → R → P x) → IfOk r (λ x. T → P x)
 ok_given R T P (Ok x) known p = λ t. p t (known t)

@@ -8,3 +8,4 @@ pub mod Rows
 pub mod Decoded
 pub mod Gathered
 pub mod OneWal
+pub mod Asking

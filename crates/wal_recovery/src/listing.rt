@@ -1,13 +1,14 @@
 //! The segments of both sides in one row, by their names.
 
-ghost use Rattle.std.specs.Prelude.{◌≡◌, [], All, MatchBool, IfOk, IfErr, IsTrue};
-ghost use Rattle.disk_face.specs.View.{files};
+ghost use Rattle.std.specs.Prelude.{◌≡◌, [], ◌∷◌, All, MatchBool, IfOk, IfErr, IsTrue};
+ghost use Rattle.disk_face.specs.View.{files, was_listed, Makes};
 ghost use Rattle.disk_face.specs.Image.{dirs_as_read};
 ghost use Rattle.disk_face.specs.Listing.{IsBefore, IsAscending, AreSegmentNames, IsListing, IsSegmentName};
 ghost use Rattle.disk_face.specs.Calls.{GoesOn, SameDisk};
 ghost use Rattle.wal_recovery.specs.declared.listing.Found.{Found};
 ghost use Rattle.wal_recovery.specs.Answers.{FaultRose, DiskMemoryOr};
 ghost use Rattle.wal_recovery.specs.Rows.{Ascends, IsRowOf, IsNext, Weaves, RefusesTwice, MeetsOrMemory, IsDiskOrMemory};
+ghost use Rattle.wal_recovery.specs.Asking.{AsksOnce, ListsRow, names_given};
 
 use crate::fault::RecoverFault;
 use disk_face::{Disk, DiskErr, Listed, Names, SegName, Side};
@@ -107,6 +108,7 @@ fn in_order(alloc: Global, primary: &[Listed], secondary: &[Listed]) -> Result<R
 fn names_on<D: Disk>(disk: &mut D, side: Side) -> Result<Names, RecoverFault>
     ensures goes_on { GoesOn (D.view disk.old) (D.view disk.new) }
     ensures same { SameDisk (D.view disk.old) (D.view disk.new) }
+    ensures asks { Makes (was_listed side (names_given result) ∷ []) (D.view disk.old) (D.view disk.new) }
     ensures fault { IfErr result IsDiskOrMemory }
     ensures rose { IfErr result (FaultRose (D.view disk.old) (D.view disk.new)) }
     ensures ascending { IfOk result IsAscending }
@@ -124,6 +126,8 @@ fn names_on<D: Disk>(disk: &mut D, side: Side) -> Result<Names, RecoverFault>
 pub(crate) fn list_all<D: Disk>(alloc: Global, disk: &mut D) -> Result<Row, RecoverFault>
     ensures goes_on { GoesOn (D.view disk.old) (D.view disk.new) }
     ensures same { SameDisk (D.view disk.old) (D.view disk.new) }
+    ensures asks { AsksOnce (D.view disk.old) (D.view disk.new) }
+    ensures lists { IfOk result (λ row. ListsRow row (D.view disk.old) (D.view disk.new)) }
     ensures rose { IfErr result (FaultRose (D.view disk.old) (D.view disk.new)) }
     ensures ascends { IfOk result Ascends }
     ensures numbers { IfOk result (All (λ (f : Found). IsSegmentName f.name)) }

@@ -1,6 +1,6 @@
 //! The segments of WALs as rows of batches, and the rows as one list.
 
-ghost use Rattle.std.specs.Prelude.{◌≡◌, ◌≤◌, ◌++◌, [], List, All, IfOk, IfErr, OnOk, IsTrue, map};
+ghost use Rattle.std.specs.Prelude.{◌≡◌, ◌≤◌, ◌∷◌, ◌++◌, [], List, All, IfOk, IfErr, OnOk, IsTrue, map};
 ghost use Rattle.batch_repr.specs.declared.batch.Batch.{Batch};
 ghost use Rattle.batch_repr.specs.declared.limits.TheConstants.{NUMBER_MAX};
 ghost use Rattle.batch_repr.specs.Batches.{end_after, IsContiguous};
@@ -18,6 +18,7 @@ ghost use Rattle.wal_recovery.specs.Answers.{FaultRose, DiskMemoryOr};
 ghost use Rattle.wal_recovery.specs.Rows.{place_of, bytes_at, stored_in, wal_in, wals_in};
 ghost use Rattle.wal_recovery.specs.Gathered.{IsAsListed, AreAsListed, IsReportOf, IsBadIn, AddsSegment, GathersWal, AreReportsMerged, IsFirstBadOf, IsOwnWal, AreListedWals, named_in_wal, IsNoDisk};
 ghost use Rattle.wal_recovery.specs.OneWal.{AddsReports, IsRefusedWal, IsLenientlyRefusedWal};
+ghost use Rattle.wal_recovery.specs.Asking.{ReadsOnly, found_in};
 
 use crate::decoding::{DecodeFault, batches_of, count, counted_of};
 use crate::fault::RecoverFault;
@@ -72,6 +73,7 @@ fn read_segment<D: Disk>(
     row: &mut Segments,
 ) -> Result<(), RecoverFault>
     ensures goes_on { GoesOn (D.view disk.old) (D.view disk.new) }
+    ensures asks { ReadsOnly (segment ∷ []) (D.view disk.old) (D.view disk.new) }
     ensures same { SameDisk (D.view disk.old) (D.view disk.new) }
     ensures rose { IfErr result (FaultRose (D.view disk.old) (D.view disk.new)) }
     ensures added { OnOk result (AddsSegment D.tells (files (D.view disk.old)) segment index reports.old reports.new row.old row.new) }
@@ -98,6 +100,7 @@ fn read_wal<D: Disk>(
 ) -> Result<Segments, RecoverFault>
     requires { AreByIndex 0 (map (stored_in (files (D.view disk.old))) wal.now.segments.items) }
     ensures goes_on { GoesOn (D.view disk.old) (D.view disk.new) }
+    ensures asks { ReadsOnly wal.now.segments.items (D.view disk.old) (D.view disk.new) }
     ensures same { SameDisk (D.view disk.old) (D.view disk.new) }
     ensures rose { IfErr result (FaultRose (D.view disk.old) (D.view disk.new)) }
     ensures row { IfOk result IsRow }
@@ -142,6 +145,7 @@ fn merge_wal<D: Disk>(
     requires order { AreByIndex 0 (map (stored_in (files (D.view disk.old))) wal.now.segments.items) }
     requires own { IsOwnWal wal.now }
     ensures goes_on { GoesOn (D.view disk.old) (D.view disk.new) }
+    ensures asks { ReadsOnly wal.now.segments.items (D.view disk.old) (D.view disk.new) }
     ensures same { SameDisk (D.view disk.old) (D.view disk.new) }
     ensures rose { IfErr result (FaultRose (D.view disk.old) (D.view disk.new)) }
     ensures numbered { IfOk result (All IsNumbered) }
@@ -199,6 +203,7 @@ pub(crate) fn merge_strict<D: Disk>(
     requires own { All IsOwnWal wals.now }
     requires none { reports.old ≡ [] }
     ensures goes_on { GoesOn (D.view disk.old) (D.view disk.new) }
+    ensures asks { ReadsOnly (found_in wals.now) (D.view disk.old) (D.view disk.new) }
     ensures same { SameDisk (D.view disk.old) (D.view disk.new) }
     ensures rose { IfErr result (FaultRose (D.view disk.old) (D.view disk.new)) }
     ensures contiguous { IfOk result (λ merged. IsContiguous FIRST_NUMBER merged.batches) }
@@ -230,6 +235,7 @@ fn add_wal<D: Disk>(
     requires own { IsOwnWal wal.now }
     requires so_far { AreReportsMerged reports.old so_far }
     ensures goes_on { GoesOn (D.view disk.old) (D.view disk.new) }
+    ensures asks { ReadsOnly wal.now.segments.items (D.view disk.old) (D.view disk.new) }
     ensures same { SameDisk (D.view disk.old) (D.view disk.new) }
     ensures rose { IfErr result (FaultRose (D.view disk.old) (D.view disk.new)) }
     ensures merged { IfOk result (AreReportsMerged reports.new) }
@@ -254,6 +260,7 @@ pub(crate) fn merge_all<D: Disk>(
     requires own { All IsOwnWal wals.now }
     requires none { reports.old ≡ [] }
     ensures goes_on { GoesOn (D.view disk.old) (D.view disk.new) }
+    ensures asks { ReadsOnly (found_in wals.now) (D.view disk.old) (D.view disk.new) }
     ensures same { SameDisk (D.view disk.old) (D.view disk.new) }
     ensures rose { IfErr result (FaultRose (D.view disk.old) (D.view disk.new)) }
     ensures next { IfOk result (λ merged. merged.next ≡ end_after FIRST_NUMBER merged.batches) }

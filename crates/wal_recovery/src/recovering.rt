@@ -17,6 +17,7 @@ ghost use Rattle.wal_recovery.specs.Reports.{AreReports};
 ghost use Rattle.wal_recovery.specs.Resting.{AreSegmentsStable, OnlySynced, AddsNoImage};
 ghost use Rattle.wal_recovery.specs.Answers.{RecoversBy, IsRefusedBy, IsRefusal, FaultRose, DiskMemoryOr, OkOrFailed, ErrOrFailed};
 ghost use Rattle.wal_recovery.specs.Rows.{Ascends, IsRowOf, IsNextBehind};
+ghost use Rattle.wal_recovery.specs.Asking.{AsksOnce, ListsBoth, ReadsOnly};
 
 use crate::fault::RecoverFault;
 use crate::listing::{Found, list_all};
@@ -50,6 +51,7 @@ fn recover_strict<D: Disk>(
     requires listed { IsTrue D.tells → IsRowOf (files (D.view disk.old)) segments.now }
     ensures goes_on { GoesOn (D.view disk.old) (D.view disk.new) }
     ensures idle { NothingInFlight (D.view disk.new) }
+    ensures asks { ReadsOnly segments.now (D.view disk.old) (D.view disk.new) }
     ensures disk { IfErr result (FaultRose (D.view disk.old) (D.view disk.new)) }
     ensures recovered { IfOk result (λ found. IsTrue D.tells → RecoversBy Strict (dirs_as_read (files (D.view disk.old))) found.batches) }
     ensures refused { IfErr result (λ fault. IsTrue D.tells → DiskMemoryOr (IsRefusedBy Strict (dirs_as_read (files (D.view disk.old)))) fault) }
@@ -86,6 +88,7 @@ fn recover_lenient<D: Disk>(
     requires listed { IsTrue D.tells → IsRowOf (files (D.view disk.old)) segments.now }
     ensures goes_on { GoesOn (D.view disk.old) (D.view disk.new) }
     ensures idle { NothingInFlight (D.view disk.new) }
+    ensures asks { ReadsOnly segments.now (D.view disk.old) (D.view disk.new) }
     ensures disk { IfErr result (FaultRose (D.view disk.old) (D.view disk.new)) }
     ensures recovered { IfOk result (λ found. IsTrue D.tells → RecoversBy Lenient (dirs_as_read (files (D.view disk.old))) found.batches) }
     ensures refused { IfErr result (λ fault. IsTrue D.tells → DiskMemoryOr (IsRefusedBy Lenient (dirs_as_read (files (D.view disk.old)))) fault) }
@@ -132,6 +135,10 @@ pub fn recover<D: Disk>(alloc: Global, disk: &mut D, mode: Mode) -> Result<Recov
     // The numbers, also where the disk does not tell its files.
     ensures contiguous { mode ≡ Strict → IfOk result (λ found. IsContiguous FIRST_NUMBER found.batches) }
     ensures within { IfOk result (λ found. found.next ≤ NUMBER_MAX) }
+
+    // The calls, of any disk: of each segment no more bytes are asked for than it was listed with.
+    ensures asks { AsksOnce (D.view disk.old) (D.view disk.new) }
+    ensures lists { OnOk result (ListsBoth (D.view disk.old) (D.view disk.new)) }
 
     // The files: nothing happens to any but a sync, so a crash may leave nothing new; refused directories are not touched, and what was read is stable where no gap is accepted.
     ensures each_moment { IsTrue D.tells → AtEachMoment ((D.view disk.old).clock) (D.view disk.new) (AddsNoImage (files (D.view disk.old))) }

@@ -1,12 +1,13 @@
 //! Syncs of what was read.
 
-ghost use Rattle.std.specs.Prelude.{All, IfErr, IsSome, IsTrue, OnOk};
+ghost use Rattle.std.specs.Prelude.{[], All, IfErr, IsSome, IsTrue, OnOk};
 ghost use Rattle.disk_face.specs.View.{files, syncing, NothingInFlight, AtEachMoment};
 ghost use Rattle.disk_face.specs.Calls.{GoesOn, MayStart};
 ghost use Rattle.wal_recovery.specs.declared.listing.Found.{Found};
 ghost use Rattle.wal_recovery.specs.Answers.{FaultRose};
 ghost use Rattle.wal_recovery.specs.Rows.{place_of, IsDiskOrMemory};
 ghost use Rattle.wal_recovery.specs.Resting.{IsSynced, OnlySynced, EndsBy};
+ghost use Rattle.wal_recovery.specs.Asking.{ReadsOnly};
 
 use crate::fault::RecoverFault;
 use crate::listing::Found;
@@ -16,6 +17,7 @@ use wal_base::NoMemory;
 /// Polls an operation until it has ended, and says whether it was done.
 fn wait<D: Disk>(disk: &mut D, id: OpId) -> bool
     requires { IsSome ((D.view disk.old).in_flight id) }
+    ensures asks { ReadsOnly [] (D.view disk.old) (D.view disk.new) }
     ensures goes_on { GoesOn (D.view disk.old) (D.view disk.new) }
     ensures ended { EndsBy D.tells id (D.view disk.old) (D.view disk.new) result }
 {
@@ -32,6 +34,7 @@ fn wait<D: Disk>(disk: &mut D, id: OpId) -> bool
 fn sync<D: Disk>(disk: &mut D, segment: Found) -> Result<(), RecoverFault>
     requires idle { NothingInFlight (D.view disk.old) }
     requires there { IsTrue D.tells → MayStart syncing (files (D.view disk.old) (place_of segment)) }
+    ensures asks { ReadsOnly [] (D.view disk.old) (D.view disk.new) }
     ensures goes_on { GoesOn (D.view disk.old) (D.view disk.new) }
     ensures idle { NothingInFlight (D.view disk.new) }
     ensures fault { IfErr result IsDiskOrMemory }
@@ -55,6 +58,7 @@ fn sync<D: Disk>(disk: &mut D, segment: Found) -> Result<(), RecoverFault>
 pub(crate) fn sync_all<D: Disk>(disk: &mut D, segments: &[Found]) -> Result<(), RecoverFault>
     requires idle { NothingInFlight (D.view disk.old) }
     requires there { IsTrue D.tells → All (λ (f : Found). MayStart syncing (files (D.view disk.old) (place_of f))) segments.now }
+    ensures asks { ReadsOnly [] (D.view disk.old) (D.view disk.new) }
     ensures goes_on { GoesOn (D.view disk.old) (D.view disk.new) }
     ensures idle { NothingInFlight (D.view disk.new) }
     ensures fault { IfErr result IsDiskOrMemory }

@@ -1,4 +1,4 @@
-use Rattle.std.proofs.Common.{◌≡◌, [], All, IsTrue, List, sym, subst}
+use Rattle.std.proofs.Common.{◌≡◌, [], ◌∷◌, All, IsTrue, List, sym, subst}
 use Rattle.disk_face.specs.declared.Side.TheVariants.{Primary, Secondary}
 use Rattle.disk_face.specs.declared.Listed.{Listed}
 use Rattle.disk_face.specs.View.{Files, files}
@@ -11,6 +11,9 @@ use Rattle.wal_recovery.specs.Rows.{Ascends, IsRowOf, Weaves, RefusesTwice, Meet
 use Rattle.wal_recovery.proofs.Tools.{ok_map, err_map}
 use Rattle.wal_recovery.proofs.Weaving.{row_ascends}
 use Rattle.wal_recovery.proofs.Listed.{both_listed, row_of, met_refused, row_named}
+use Rattle.disk_face.specs.View.{was_listed, Makes}
+use Rattle.wal_recovery.specs.Asking.{ListsRow, names_given}
+use Rattle.wal_recovery.proofs.Asking.{lists_row, lists_two, lists_one}
 use Rattle.wal_recovery.proofs.listing.list_all.Goals as goal
 
 pub returns-clause-ascends : goal.returns-clause-ascends
@@ -58,3 +61,25 @@ returns-clause-refused g c =
     (subst (λ (fs : Files). IsListing fs Secondary others) same (subst (λ (names : List Listed). IsListing (files (g.D.Disk.view c.names_on.new.disk)) Secondary names) (sym c.as_slice-2.ensures) (c.in_ok-secondary.ensures.names told))))
     fault met)
     c.in_order.ensures.refused
+
+pub returns-in_err-primary-clause-asks : goal.returns-in_err-primary-clause-asks
+returns-in_err-primary-clause-asks g c = lists_one (names_given c.names_on.result) (g.D.Disk.view c.args.disk.now) (g.D.Disk.view c.names_on.new.disk) c.names_on.ensures.asks
+
+pub returns-in_err-secondary-clause-asks : goal.returns-in_err-secondary-clause-asks
+returns-in_err-secondary-clause-asks g c =
+    lists_two (names_given c.names_on.result) (names_given c.names_on-2.result) (g.D.Disk.view c.args.disk.now) (g.D.Disk.view c.names_on.new.disk) (g.D.Disk.view c.names_on-2.new.disk) c.names_on.ensures.asks c.names_on-2.ensures.asks
+
+pub returns-clause-asks : goal.returns-clause-asks
+returns-clause-asks g c =
+    lists_two (names_given c.names_on.result) (names_given c.names_on-2.result) (g.D.Disk.view c.args.disk.now) (g.D.Disk.view c.names_on.new.disk) (g.D.Disk.view c.names_on-2.new.disk) c.names_on.ensures.asks c.names_on-2.ensures.asks
+
+pub returns-clause-lists : goal.returns-clause-lists
+returns-clause-lists g c =
+    let old = g.D.Disk.view c.args.disk.now in
+    let mid = g.D.Disk.view c.names_on.new.disk in
+    let new = g.D.Disk.view c.names_on-2.new.disk in
+    let ones = c.as_slice.result.now in
+    let others = c.as_slice-2.result.now in
+    let first : Makes (was_listed Primary ones ∷ []) old mid = subst (λ (names : List Listed). Makes (was_listed Primary names ∷ []) old mid) (sym c.as_slice.ensures) c.in_ok-primary.ensures.asks in
+    let then : Makes (was_listed Secondary others ∷ []) mid new = subst (λ (names : List Listed). Makes (was_listed Secondary names ∷ []) mid new) (sym c.as_slice-2.ensures) c.in_ok-secondary.ensures.asks in
+    ok_map (λ (row : List Found). Weaves row ones others [] []) (λ (row : List Found). ListsRow row old new) c.in_order.result (λ row w. lists_row row ones others old mid new first then w) c.in_order.ensures.woven

@@ -23,6 +23,8 @@ use Rattle.wal_recovery.proofs.Strictly.{end_within}
 use Rattle.wal_recovery.proofs.AtWal.{StandsAt, stands_at, reports_none, order_at, reports_at}
 use Rattle.wal_recovery.proofs.Leniently as leniently
 use Rattle.wal_recovery.proofs.Leniently.{reports_hold, reports_numbered, refused_behind}
+use Rattle.wal_recovery.specs.Asking.{ReadsOnly, found_in}
+use Rattle.wal_recovery.proofs.Asking.{reads_none, reads_wal, reads_wal_within}
 use Rattle.wal_recovery.proofs.merging.merge_all.Goals as goal
 
 pub loop-wal-init : goal.loop-wal-init
@@ -31,6 +33,7 @@ loop-wal-init g c =
     record {
       goes = goes_on_from v;
       same = same_from v;
+      asks = reads_none [] v;
       merged = leniently.reports_none c.args.reports.now c.new-so_far.result c.requires.none c.new-so_far.ensures;
       reports = λ told listed. subst (ReportOnAll []) (sym c.requires.none) (reports_none (files v) c.args.wals.now);
     }
@@ -53,6 +56,7 @@ loop-wal-preserved g c =
     record {
       goes = goes_on_further first mid new c.loop-wal.invariant.goes c.in_ok-so_far.ensures.goes_on;
       same = same_further first mid new c.loop-wal.invariant.same c.in_ok-so_far.ensures.same;
+      asks = reads_wal c.args.wals.now c.loop-wal.wal-index c.wal-item.result first mid new at c.loop-wal.invariant.asks c.in_ok-so_far.ensures.asks;
       merged = c.in_ok-so_far.ensures.merged;
       reports = λ told listed. reports_at (files first) c.args.wals.now c.loop-wal.wal-index c.wal-item.result at c.loop-wal.reports c.add_wal.new.reports
           (c.loop-wal.invariant.reports told listed)
@@ -93,3 +97,15 @@ returns-clause-merged g c =
       hold = reports_hold (wals_in at c.args.wals.now) c.loop-wal.reports reported;
       merges = subst (MergedLenient (counted_in c.loop-wal.reports)) (sym c.into_batches-batches.ensures) c.loop-wal.invariant.merged.merges;
     }
+
+pub returns-in_err-so_far-clause-asks : goal.returns-in_err-so_far-clause-asks
+returns-in_err-so_far-clause-asks g c =
+    let first = g.D.Disk.view c.args.disk.now in
+    let mid = g.D.Disk.view c.loop-wal.disk in
+    let at : StandsAt c.args.wals.now c.loop-wal.wal-index c.wal-item.result = stands_at c.as_slice-wal-items.ensures c.loop-wal-test.true c.wal-item.is in
+    reads_wal_within c.args.wals.now c.loop-wal.wal-index c.wal-item.result first mid (g.D.Disk.view c.add_wal.new.disk) at c.loop-wal.invariant.asks c.in_err-so_far.ensures.asks
+
+pub returns-clause-asks : goal.returns-clause-asks
+returns-clause-asks g c =
+    subst (λ (l : List FoundWal). ReadsOnly (found_in l) (g.D.Disk.view c.args.disk.now) (g.D.Disk.view c.loop-wal.disk))
+    (take_all c.loop-wal.wal-index c.args.wals.now (omega (arith, c.loop-wal-test.false, ap (λ (l : List FoundWal). length l) c.as_slice-wal-items.ensures))) c.loop-wal.invariant.asks

@@ -1,5 +1,5 @@
 -- Each WAL is merged from the end of those before it, so those up to it merge, and what refuses it refuses the directories.
-use Rattle.std.proofs.Common.{◌≡◌, ℕ, map, ◌++◌, [], Err, IsTrue, All, sym, subst, ap, ◌∙◌, rules, arith}
+use Rattle.std.proofs.Common.{◌≡◌, ℕ, map, List, length, take_all, ◌++◌, [], Err, IsTrue, All, sym, subst, ap, ◌∙◌, rules, arith}
 use Rattle.std.specs.Prelude.{IfErr, Result}
 use Rattle.batch_repr.specs.Batches.{end_after, IsContiguous}
 use Rattle.segment_merge.specs.Rows.{IsNumbered}
@@ -9,6 +9,7 @@ use Rattle.disk_face.specs.Image.{dirs_as_read}
 use Rattle.disk_face.proofs.Moments.{goes_on_from, goes_on_further, same_from, same_further, same_files}
 use Rattle.wal_recovery.specs.declared.fault.RecoverFault.{RecoverFault}
 use Rattle.wal_recovery.specs.declared.merging.Merged.{Merged}
+use Rattle.wal_recovery.specs.declared.wals.FoundWal.{FoundWal}
 use Rattle.wal_recovery.specs.Listing.{AreByIndex}
 use Rattle.wal_recovery.specs.Recovering.{FIRST_NUMBER, WalMerges, WalsMerge}
 use Rattle.wal_recovery.specs.Refused.{IsRefused}
@@ -19,6 +20,8 @@ use Rattle.wal_recovery.specs.Gathered.{AreAsListed, AreListedWals, IsOwnWal}
 use Rattle.wal_recovery.specs.OneWal.{AddsReports, IsRefusedWal}
 use Rattle.wal_recovery.proofs.Strictly.{end_within}
 use Rattle.wal_recovery.proofs.AtWal.{StandsAt, stands_at, at_place, merged_none, reports_none, order_at, merged_at, reports_at, refused_at}
+use Rattle.wal_recovery.specs.Asking.{ReadsOnly, found_in}
+use Rattle.wal_recovery.proofs.Asking.{reads_none, reads_wal, reads_wal_within}
 use Rattle.wal_recovery.proofs.merging.merge_strict.Goals as goal
 
 pub loop-wal-init : goal.loop-wal-init
@@ -28,6 +31,7 @@ loop-wal-init g c =
     record {
       goes = goes_on_from v;
       same = same_from v;
+      asks = reads_none [] v;
       next = sym (ap (end_after FIRST_NUMBER) c.new-batches.ensures);
       contiguous = subst (IsContiguous FIRST_NUMBER) (sym c.new-batches.ensures) tt;
       within = omega arith;
@@ -63,6 +67,7 @@ loop-wal-preserved g c =
     record {
       goes = goes_on_further first mid new c.loop-wal.invariant.goes c.in_ok-own.ensures.goes_on;
       same = same_further first mid new c.loop-wal.invariant.same c.in_ok-own.ensures.same;
+      asks = reads_wal c.args.wals.now c.loop-wal.wal-index c.wal-item.result first mid new at c.loop-wal.invariant.asks c.in_ok-own.ensures.asks;
       next = ends ∙ ap (λ (n : ℕ). end_after n own) c.loop-wal.invariant.next ∙ sym (end_append FIRST_NUMBER c.loop-wal.batches own) ∙ ap (end_after FIRST_NUMBER) (sym longer);
       contiguous = subst (IsContiguous FIRST_NUMBER) (sym longer)
           (contiguous_append FIRST_NUMBER c.loop-wal.batches own c.loop-wal.invariant.contiguous (subst (λ (n : ℕ). IsContiguous n own) c.loop-wal.invariant.next c.in_ok-own.ensures.contiguous));
@@ -86,3 +91,22 @@ returns-in_err-own-clause-refused g c =
     subst (λ (r : Result Merged RecoverFault). IfErr r (λ fault. IsTrue g.D.Disk.tells → AreListedWals (files first) c.args.wals.now → DiskMemoryOr (IsRefused (dirs_as_read (files first))) fault)) (sym is)
     (λ told listed. refused_at (files first) c.args.wals.now c.loop-wal.wal-index c.wal-item.result at c.loop-wal.next c.loop-wal.batches fault c.loop-wal.invariant.next (c.loop-wal.invariant.merged told listed)
     (subst (λ (fs : Files). AreAsListed fs c.wal-item.result.segments.items → DiskMemoryOr (IsRefusedWal c.loop-wal.next (wal_in fs c.wal-item.result)) fault) now (c.in_err-own.ensures.refused told)) listed)
+
+pub returns-in_err-own-clause-asks : goal.returns-in_err-own-clause-asks
+returns-in_err-own-clause-asks g c =
+    let first = g.D.Disk.view c.args.disk.now in
+    let mid = g.D.Disk.view c.loop-wal.disk in
+    let at : StandsAt c.args.wals.now c.loop-wal.wal-index c.wal-item.result = stands_at c.as_slice-wal-items.ensures c.loop-wal-test.true c.wal-item.is in
+    reads_wal_within c.args.wals.now c.loop-wal.wal-index c.wal-item.result first mid (g.D.Disk.view c.merge_wal.new.disk) at c.loop-wal.invariant.asks c.in_err-own.ensures.asks
+
+pub returns-in_err-append-clause-asks : goal.returns-in_err-append-clause-asks
+returns-in_err-append-clause-asks g c =
+    let first = g.D.Disk.view c.args.disk.now in
+    let mid = g.D.Disk.view c.loop-wal.disk in
+    let at : StandsAt c.args.wals.now c.loop-wal.wal-index c.wal-item.result = stands_at c.as_slice-wal-items.ensures c.loop-wal-test.true c.wal-item.is in
+    reads_wal_within c.args.wals.now c.loop-wal.wal-index c.wal-item.result first mid (g.D.Disk.view c.merge_wal.new.disk) at c.loop-wal.invariant.asks c.in_ok-own.ensures.asks
+
+pub returns-clause-asks : goal.returns-clause-asks
+returns-clause-asks g c =
+    subst (λ (l : List FoundWal). ReadsOnly (found_in l) (g.D.Disk.view c.args.disk.now) (g.D.Disk.view c.loop-wal.disk))
+    (take_all c.loop-wal.wal-index c.args.wals.now (omega (arith, c.loop-wal-test.false, ap (λ (l : List FoundWal). length l) c.as_slice-wal-items.ensures))) c.loop-wal.invariant.asks

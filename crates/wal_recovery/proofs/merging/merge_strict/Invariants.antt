@@ -8,11 +8,13 @@ use Rattle.wal_recovery.specs.Recovering.{FIRST_NUMBER, WalsMerge}
 use Rattle.wal_recovery.specs.Reports.{ReportOnAll}
 use Rattle.wal_recovery.specs.Rows.{wals_in}
 use Rattle.wal_recovery.specs.Gathered.{AreListedWals}
+use Rattle.wal_recovery.specs.Asking.{ReadsOnly, found_in}
 use Rattle.wal_recovery.proofs.merging.merge_strict.Given as goal
 
 abbrev pub invariant-loop-wal : goal.invariant-loop-wal
 invariant-loop-wal g l = record {
   goes : GoesOn (g.D.Disk.view l.initial.disk) (g.D.Disk.view l.disk);
+  asks : ReadsOnly (found_in (take l.wal-index l.fn.wals)) (g.D.Disk.view l.initial.disk) (g.D.Disk.view l.disk);
   same : SameDisk (g.D.Disk.view l.initial.disk) (g.D.Disk.view l.disk);
   next : l.next ≡ end_after FIRST_NUMBER l.batches;
   contiguous : IsContiguous FIRST_NUMBER l.batches;

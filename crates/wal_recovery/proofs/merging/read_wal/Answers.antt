@@ -8,6 +8,8 @@ use Rattle.wal_recovery.specs.declared.listing.Found.{Found}
 use Rattle.wal_recovery.specs.Answers.{DiskMemoryOr}
 use Rattle.wal_recovery.specs.Gathered.{AreAsListed, GathersWal, IsFirstBadOf}
 use Rattle.wal_recovery.proofs.Adding.{wal_none, wal_step, wal_row, first_bad}
+use Rattle.wal_recovery.specs.Asking.{ReadsOnly}
+use Rattle.wal_recovery.proofs.Asking.{reads_none, reads_taken, reads_within}
 use Rattle.wal_recovery.proofs.merging.read_wal.Goals as goal
 
 pub loop-segment-init : goal.loop-segment-init
@@ -16,6 +18,7 @@ loop-segment-init g c =
     record {
       goes = goes_on_from v;
       same = same_from v;
+      asks = reads_none [] v;
       gathered = subst (λ (r : List SegmentRead). GathersWal g.D.Disk.tells (files v) [] c.args.reports.now c.args.reports.now r) (sym c.new-row.ensures) (wal_none g.D.Disk.tells (files v) c.args.reports.now);
     }
 
@@ -28,6 +31,7 @@ loop-segment-preserved g c =
     record {
       goes = goes_on_further first mid new c.loop-segment.invariant.goes c.in_ok-read_segment.ensures.goes_on;
       same = same_further first mid new c.loop-segment.invariant.same c.in_ok-read_segment.ensures.same;
+      asks = reads_taken c.deref-segment-items.result.now c.loop-segment.segment-index _ first mid new c.loop-segment-test.true c.loop-segment.invariant.asks c.in_ok-read_segment.ensures.asks;
       gathered = wal_step g.D.Disk.tells (files first) (files mid) now c.deref-segment-items.result.now c.loop-segment.segment-index _ c.args.reports.now c.loop-segment.reports c.read_segment.new.reports c.loop-segment.row c.read_segment.new.row
           c.loop-segment-test.true c.loop-segment.invariant.gathered c.in_ok-read_segment.ensures.added;
     }
@@ -53,3 +57,18 @@ returns-clause-gathered g c =
 pub returns-clause-row : goal.returns-clause-row
 returns-clause-row g c =
     wal_row g.D.Disk.tells (files (g.D.Disk.view c.args.disk.now)) c.args.wal.now.segments.items c.args.reports.now c.loop-segment.reports c.loop-segment.row c.requires (returns-clause-gathered g c)
+
+pub returns-in_err-read_segment-clause-asks : goal.returns-in_err-read_segment-clause-asks
+returns-in_err-read_segment-clause-asks g c =
+    let first = g.D.Disk.view c.args.disk.now in
+    let mid = g.D.Disk.view c.loop-segment.disk in
+    let new = g.D.Disk.view c.read_segment.new.disk in
+    subst (λ (l : List Found). ReadsOnly l first new) c.deref-segment-items.ensures.value
+    (reads_within c.deref-segment-items.result.now c.loop-segment.segment-index _ first mid new c.loop-segment-test.true c.loop-segment.invariant.asks c.in_err-read_segment.ensures.asks)
+
+pub returns-clause-asks : goal.returns-clause-asks
+returns-clause-asks g c =
+    let first = g.D.Disk.view c.args.disk.now in
+    let mid = g.D.Disk.view c.loop-segment.disk in
+    subst (λ (l : List Found). ReadsOnly l first mid) c.deref-segment-items.ensures.value
+    (subst (λ (l : List Found). ReadsOnly l first mid) (take_all c.loop-segment.segment-index c.deref-segment-items.result.now c.loop-segment-test.false) c.loop-segment.invariant.asks)

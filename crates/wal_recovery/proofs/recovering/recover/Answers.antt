@@ -10,10 +10,12 @@ use Rattle.wal_recovery.specs.declared.reports.Recovered.{Recovered}
 use Rattle.wal_recovery.specs.Resting.{AreSegmentsStable, OnlySynced}
 use Rattle.wal_recovery.specs.Answers.{OkOrFailed, ErrOrFailed}
 use Rattle.wal_recovery.specs.Rows.{Ascends, IsRowOf}
-use Rattle.wal_recovery.proofs.Tools.{on_ok_map}
+use Rattle.wal_recovery.proofs.Tools.{on_ok_map, always_ok}
 use Rattle.wal_recovery.proofs.Rested.{same_then, synced_moments}
 use Rattle.wal_recovery.proofs.NextWals.{next_wal_answered}
 use Rattle.wal_recovery.proofs.Answered.{twice_refused, only_recovered, only_refused, row_behind, recovered_before, refused_before, reported_before}
+use Rattle.wal_recovery.specs.Asking.{ListsBoth, ListsRow, ReadsOnly}
+use Rattle.wal_recovery.proofs.Asking.{asks_once, lists_both}
 use Rattle.wal_recovery.proofs.recovering.recover.Goals as goal
 
 -- ---- a name that stands twice
@@ -120,3 +122,31 @@ returns-clause-next_wal g c =
     next_wal_answered (files (g.D.Disk.view c.args.disk.now)) row g.D.Disk.tells c.recover_lenient.result (subst Ascends (sym is) c.in_ok-segments.ensures.ascends)
     (λ told. subst (λ (l : List Found). IsRowOf (files (g.D.Disk.view c.args.disk.now)) l) (sym is) (c.in_ok-segments.ensures.listed told))
     c.recover_lenient.ensures.next_wal
+
+pub returns-in-Strict-clause-asks : goal.returns-in-Strict-clause-asks
+returns-in-Strict-clause-asks g c =
+    let mid = g.D.Disk.view c.list_all.new.disk in
+    let new = g.D.Disk.view c.recover_strict.new.disk in
+    asks_once c.in_ok-segments.segments (g.D.Disk.view c.args.disk.now) mid new c.in_ok-segments.ensures.lists (subst (λ (r : List Found). ReadsOnly r mid new) c.as_slice.ensures c.recover_strict.ensures.asks)
+
+pub returns-in-Strict-clause-lists : goal.returns-in-Strict-clause-lists
+returns-in-Strict-clause-lists g c =
+    let old = g.D.Disk.view c.args.disk.now in
+    let mid = g.D.Disk.view c.list_all.new.disk in
+    let new = g.D.Disk.view c.recover_strict.new.disk in
+    let both : ListsBoth old new = lists_both c.in_ok-segments.segments old mid new c.in_ok-segments.ensures.lists (subst (λ (r : List Found). ReadsOnly r mid new) c.as_slice.ensures c.recover_strict.ensures.asks) in
+    always_ok (ListsBoth old new) c.recover_strict.result both
+
+pub returns-clause-asks : goal.returns-clause-asks
+returns-clause-asks g c =
+    let mid = g.D.Disk.view c.list_all.new.disk in
+    let new = g.D.Disk.view c.recover_lenient.new.disk in
+    asks_once c.in_ok-segments.segments (g.D.Disk.view c.args.disk.now) mid new c.in_ok-segments.ensures.lists (subst (λ (r : List Found). ReadsOnly r mid new) c.as_slice-in-Lenient.ensures c.recover_lenient.ensures.asks)
+
+pub returns-clause-lists : goal.returns-clause-lists
+returns-clause-lists g c =
+    let old = g.D.Disk.view c.args.disk.now in
+    let mid = g.D.Disk.view c.list_all.new.disk in
+    let new = g.D.Disk.view c.recover_lenient.new.disk in
+    let both : ListsBoth old new = lists_both c.in_ok-segments.segments old mid new c.in_ok-segments.ensures.lists (subst (λ (r : List Found). ReadsOnly r mid new) c.as_slice-in-Lenient.ensures c.recover_lenient.ensures.asks) in
+    always_ok (ListsBoth old new) c.recover_lenient.result both

@@ -1,5 +1,5 @@
 -- The WALs are those of the row, so what was merged of them as one row is what the directories recover to.
-use Rattle.std.proofs.Common.{◌≡◌, Result, Err, IsTrue, sym, subst, rules}
+use Rattle.std.proofs.Common.{◌≡◌, List, Result, Err, IsTrue, sym, subst, rules}
 use Rattle.std.specs.Prelude.{IfErr}
 use Rattle.disk_face.specs.View.{Files, files}
 use Rattle.disk_face.specs.Image.{dirs_as_read}
@@ -11,6 +11,9 @@ use Rattle.wal_recovery.specs.Rows.{wals_in}
 use Rattle.wal_recovery.specs.Gathered.{AreListedWals}
 use Rattle.wal_recovery.proofs.ByWal.{wals_by_number}
 use Rattle.wal_recovery.proofs.WalsListed.{wals_own, wals_listed}
+use Rattle.wal_recovery.specs.declared.listing.Found.{Found}
+use Rattle.wal_recovery.specs.Asking.{ReadsOnly}
+use Rattle.wal_recovery.proofs.Asking.{found_of}
 use Rattle.wal_recovery.proofs.recovering.recover_lenient.Goals as goal
 
 pub merge_all-requires-clause-order : goal.merge_all-requires-clause-order
@@ -38,3 +41,11 @@ returns-clause-reports g c = λ told.
     let now : Files = files (g.D.Disk.view c.args.disk.now) in
     let listed : AreListedWals now c.in_ok-wals.wals = wals_listed now c.in_ok-wals.wals c.args.segments.now c.in_ok-wals.ensures c.requires.ascends (c.requires.listed told) in
     record { wals = wals_in now c.in_ok-wals.wals; listed = listed.listed; reported = c.in_ok-merged.ensures.reports told listed }
+
+pub returns-in_err-merged-clause-asks : goal.returns-in_err-merged-clause-asks
+returns-in_err-merged-clause-asks g c =
+    subst (λ (r : List Found). ReadsOnly r (g.D.Disk.view c.args.disk.now) (g.D.Disk.view c.merge_all.new.disk)) (found_of c.in_ok-wals.wals c.args.segments.now c.in_ok-wals.ensures) c.in_err-merged.ensures.asks
+
+pub returns-clause-asks : goal.returns-clause-asks
+returns-clause-asks g c =
+    subst (λ (r : List Found). ReadsOnly r (g.D.Disk.view c.args.disk.now) (g.D.Disk.view c.merge_all.new.disk)) (found_of c.in_ok-wals.wals c.args.segments.now c.in_ok-wals.ensures) c.in_ok-merged.ensures.asks

@@ -1,5 +1,5 @@
 -- The WALs are those of the row, so what was merged of them is what the directories recover to. The syncs behind it add no image.
-use Rattle.std.proofs.Common.{◌≡◌, All, Result, Err, IsTrue, sym, subst, arith, rules}
+use Rattle.std.proofs.Common.{◌≡◌, List, All, Result, Err, IsTrue, sym, subst, arith, rules}
 use Rattle.std.specs.Prelude.{IfErr}
 use Rattle.disk_face.specs.View.{Files, files, syncing, AtEachMoment}
 use Rattle.disk_face.specs.Image.{dirs_as_read}
@@ -16,6 +16,8 @@ use Rattle.wal_recovery.specs.Gathered.{AreListedWals}
 use Rattle.wal_recovery.proofs.ByWal.{wals_by_number}
 use Rattle.wal_recovery.proofs.WalsListed.{wals_own, wals_listed}
 use Rattle.wal_recovery.proofs.Rested.{may_sync, all_stable, same_then}
+use Rattle.wal_recovery.specs.Asking.{ReadsOnly}
+use Rattle.wal_recovery.proofs.Asking.{found_of, reads_then_nothing}
 use Rattle.wal_recovery.proofs.recovering.recover_strict.Goals as goal
 
 pub merge_strict-requires-clause-order : goal.merge_strict-requires-clause-order
@@ -67,3 +69,17 @@ returns-clause-stable g c = λ told rested.
     let each : AtEachMoment now.clock new (OnlySynced (files now)) = same_then now mid new OnlySynced c.in_ok-merged.ensures.same (c.in_ok-sync_all.ensures.each_moment told) in
     all_stable (files now) (files new) c.args.segments.now (c.requires.listed told) rested
     (each new.clock (omega (arith, c.in_ok-merged.ensures.goes_on.clock, c.in_ok-sync_all.ensures.goes_on.clock)) (omega arith)) (c.in_ok-sync_all.ensures.synced told)
+
+pub returns-in_err-merged-clause-asks : goal.returns-in_err-merged-clause-asks
+returns-in_err-merged-clause-asks g c =
+    subst (λ (r : List Found). ReadsOnly r (g.D.Disk.view c.args.disk.now) (g.D.Disk.view c.merge_strict.new.disk)) (found_of c.in_ok-wals.wals c.args.segments.now c.in_ok-wals.ensures) c.in_err-merged.ensures.asks
+
+pub returns-in_err-sync_all-clause-asks : goal.returns-in_err-sync_all-clause-asks
+returns-in_err-sync_all-clause-asks g c =
+    reads_then_nothing c.args.segments.now (g.D.Disk.view c.args.disk.now) (g.D.Disk.view c.merge_strict.new.disk) (g.D.Disk.view c.sync_all.new.disk)
+    (subst (λ (r : List Found). ReadsOnly r (g.D.Disk.view c.args.disk.now) (g.D.Disk.view c.merge_strict.new.disk)) (found_of c.in_ok-wals.wals c.args.segments.now c.in_ok-wals.ensures) c.in_ok-merged.ensures.asks) c.in_err-sync_all.ensures.asks
+
+pub returns-clause-asks : goal.returns-clause-asks
+returns-clause-asks g c =
+    reads_then_nothing c.args.segments.now (g.D.Disk.view c.args.disk.now) (g.D.Disk.view c.merge_strict.new.disk) (g.D.Disk.view c.sync_all.new.disk)
+    (subst (λ (r : List Found). ReadsOnly r (g.D.Disk.view c.args.disk.now) (g.D.Disk.view c.merge_strict.new.disk)) (found_of c.in_ok-wals.wals c.args.segments.now c.in_ok-wals.ensures) c.in_ok-merged.ensures.asks) c.in_ok-sync_all.ensures.asks

@@ -5,6 +5,7 @@ use Rattle.wal_recovery.specs.declared.listing.Found.{Found}
 use Rattle.wal_recovery.specs.Rows.{place_of}
 use Rattle.wal_recovery.specs.Resting.{IsSynced}
 use Rattle.wal_recovery.proofs.Syncs.{moments_of_both, synced_more}
+use Rattle.wal_recovery.proofs.Asking.{reads_nothing}
 use Rattle.wal_recovery.proofs.syncing.sync_all.Goals as goal
 
 pub loop-segment-preserved : goal.loop-segment-preserved
@@ -14,6 +15,7 @@ loop-segment-preserved g c =
     let new = g.D.Disk.view c.sync.new.disk in
     record {
       goes = goes_on_further first mid new c.loop-segment.invariant.goes c.in_ok-sync.ensures.goes_on;
+      asks = reads_nothing first mid new c.loop-segment.invariant.asks c.in_ok-sync.ensures.asks;
       idle = c.in_ok-sync.ensures.idle;
       moments = λ told. moments_of_both first mid new c.loop-segment.invariant.goes c.in_ok-sync.ensures.goes_on (c.loop-segment.invariant.moments told) (c.in_ok-sync.ensures.each_moment told);
       synced = λ told.
@@ -25,3 +27,7 @@ pub returns-clause-synced : goal.returns-clause-synced
 returns-clause-synced g c = λ told.
     subst (λ (l : List Found). All (λ (f : Found). IsSynced (files (g.D.Disk.view c.loop-segment.disk) (place_of f))) l)
     (take_all c.loop-segment.segment-index c.args.segments.now c.loop-segment-test.false) (c.loop-segment.invariant.synced told)
+
+pub returns-in_err-sync-clause-asks : goal.returns-in_err-sync-clause-asks
+returns-in_err-sync-clause-asks g c =
+    reads_nothing (g.D.Disk.view c.args.disk.now) (g.D.Disk.view c.loop-segment.disk) (g.D.Disk.view c.sync.new.disk) c.loop-segment.invariant.asks c.in_err-sync.ensures.asks

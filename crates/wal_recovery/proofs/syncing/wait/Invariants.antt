@@ -1,9 +1,12 @@
+use Rattle.std.proofs.Common.{[]}
 use Rattle.disk_face.specs.Calls.{GoesOn, SameDisk}
+use Rattle.wal_recovery.specs.Asking.{ReadsOnly}
 use Rattle.wal_recovery.proofs.syncing.wait.Given as goal
 
 abbrev pub invariant-loop : goal.invariant-loop
 invariant-loop g l = record {
   goes : GoesOn (g.D.Disk.view l.initial.disk) (g.D.Disk.view l.disk);
+  asks : ReadsOnly [] (g.D.Disk.view l.initial.disk) (g.D.Disk.view l.disk);
   same : SameDisk (g.D.Disk.view l.initial.disk) (g.D.Disk.view l.disk);
 }
 

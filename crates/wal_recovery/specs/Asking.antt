@@ -1,0 +1,55 @@
+-- What recovery asks of the disk, in listings and in bytes (docs/FORMATS.md, "Recovery").
+use Rattle.std.specs.Prelude.{◌≡◌, ℕ, ◌≤◌, ◌&&◌, if◌then◌else◌, List, [], sum_by, Result, Ok, Err}
+use Rattle.std.specs.List.{flat_map}
+use Rattle.disk_face.specs.declared.Side.{Side}
+use Rattle.disk_face.specs.declared.SegName.{SegName}
+use Rattle.disk_face.specs.declared.Listed.{Listed}
+use Rattle.disk_face.specs.View.{Call, DiskView, Makes, side_eq}
+use Rattle.disk_face.specs.Asked.{name_eq, listings, bytes_asked, length_listed, ListsOnce, ReadsAtMostListed}
+use Rattle.wal_recovery.specs.declared.fault.RecoverFault.{RecoverFault}
+use Rattle.wal_recovery.specs.declared.listing.Found.{Found}
+use Rattle.wal_recovery.specs.declared.wals.FoundWal.{FoundWal}
+
+-- In the calls made since, each side is listed at most once, and of each segment no more bytes are asked for than it was listed with.
+pub record AsksOnce (old new : DiskView) : Type 0 where
+  pub made : List Call
+  pub makes : Makes made old new
+  pub lists : ListsOnce made
+  pub reads : ReadsAtMostListed made
+
+-- In the calls made since, each side is listed once.
+pub record ListsBoth (old new : DiskView) : Type 0 where
+  pub made : List Call
+  pub makes : Makes made old new
+  pub lists : (side : Side) → listings side made ≡ 1
+
+-- ---- on the way
+
+-- how many bytes the row was listed with of this segment
+abbrev pub bytes_of : Side → SegName → List Found → ℕ
+bytes_of side name row = sum_by (λ (f : Found). if side_eq side f.side && name_eq name f.name then f.len else 0) row
+
+-- The calls made since list no side, and ask for no more bytes of each segment than the row was listed with.
+pub record ReadsOnly (row : List Found) (old new : DiskView) : Type 0 where
+  pub made : List Call
+  pub makes : Makes made old new
+  pub lists : (side : Side) → listings side made ≡ 0
+  pub listed : (side : Side) (name : SegName) → length_listed side name made ≡ 0
+  pub asked : (side : Side) (name : SegName) → bytes_asked side name made ≤ bytes_of side name row
+
+-- The calls made since list each side once and read nothing, and the row has of each segment as many bytes as it was listed with.
+pub record ListsRow (row : List Found) (old new : DiskView) : Type 0 where
+  pub made : List Call
+  pub makes : Makes made old new
+  pub lists : (side : Side) → listings side made ≡ 1
+  pub asked : (side : Side) (name : SegName) → bytes_asked side name made ≡ 0
+  pub listed : (side : Side) (name : SegName) → length_listed side name made ≡ bytes_of side name row
+
+-- what a listing gave: nothing where it failed
+abbrev pub names_given : Result (List Listed) RecoverFault → List Listed
+names_given (Ok names) = names
+names_given (Err fault) = []
+
+-- the segments of WALs, one WAL after another
+abbrev pub found_in : List FoundWal → List Found
+found_in wals = flat_map (λ (wal : FoundWal). wal.segments.items) wals
