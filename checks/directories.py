@@ -6,7 +6,7 @@ The texts were worked out by hand from docs/FORMATS.md, and the segments are tho
 import os
 from dataclasses import dataclass, field
 
-from segments import BLOCK, FIRST, FULL, HEADER, LAST, MIDDLE
+from segments import BLOCK, FIRST, FIRST_NUMBER, FULL, HEADER, LAST, MIDDLE
 from segments import batch, chunk, delete_of, log_of, note_of, segment, set_of, sets
 
 # What each replay here is given: what is stored is shown, and a log is left where nothing is refused.
@@ -261,12 +261,78 @@ def bad_batch_cases():
         {ONE: segment(of_a(11, 1)), SECOND: segment([bad])},
         refused("batch 000001-001.log 0 unknown-kind 12 255"),
     )
+    yield of_all(
+        "a conflict, and a batch cut short in the next WAL",
+        {ONE: segment(of_a(10, 1)), SECOND: segment(of_a(10, 9)), "wal/000002.log": segment([whole[:16]], 2)},
+        refused("conflict 000001-001.log 10"),
+    )
     yield strictly(
         "a gap, and a bad batch in the next WAL",
         {ONE: segment(of_a(11, 1)), **later},
         refused("gap 000001.log expected 10 found 11"),
         refused("batch 000002.log 0 unknown-kind 12 255"),
     )
+
+
+# The segments of WAL 1, 2 and 3, a letter each and in the order of their indexes, and the first reason against them:
+# in a strict recovery, and in a lenient one where that is another. No number comes twice but where a letter says so.
+#   .  a batch of the next number
+#   b  the same, and behind it a record that is no batch
+#   g  a batch that leaves out a number
+#   c  another batch of the number before
+#   d  as the dot, on both sides
+NO_BATCH = "28 unknown-kind 12 255"
+FIRST_REASONS = (
+    (".b .g .c", f"batch 000001-001.log {NO_BATCH}", None),
+    (".b .c .g", f"batch 000001-001.log {NO_BATCH}", None),
+    (".g .b .c", "gap 000001-001.log expected 11 found 12", f"batch 000002-001.log {NO_BATCH}"),
+    (".g .c .b", "gap 000001-001.log expected 11 found 12", "conflict 000002-001.log 13"),
+    (".c .b .g", "conflict 000001-001.log 10", None),
+    (".c .g .b", "conflict 000001-001.log 10", None),
+    # Of one WAL every segment is read before any is merged.
+    (".bg .c", f"batch 000001-001.log {NO_BATCH}", None),
+    (".gb .c", f"batch 000001-002.log {NO_BATCH}", None),
+    (".bc .g", f"batch 000001-001.log {NO_BATCH}", None),
+    (".cb .g", f"batch 000001-002.log {NO_BATCH}", None),
+    (".gc .b", "gap 000001-001.log expected 11 found 12", "conflict 000001-002.log 12"),
+    (".cg .b", "conflict 000001-001.log 10", None),
+    (".g .bc", "gap 000001-001.log expected 11 found 12", f"batch 000002-001.log {NO_BATCH}"),
+    (".g .cb", "gap 000001-001.log expected 11 found 12", f"batch 000002-002.log {NO_BATCH}"),
+    (".c .bg", "conflict 000001-001.log 10", None),
+    (".c .gb", "conflict 000001-001.log 10", None),
+    # A duplicate comes before all that is read, and of two of them the least.
+    ("d.c .g .b", "duplicate 000001.log", None),
+    (".b .dg .c", "duplicate 000002-001.log", None),
+    (".g .c .bd", "duplicate 000003-002.log", None),
+    (".c .gd .bd", "duplicate 000002-002.log", None),
+)
+
+
+def by_letter(letter, number):
+    """The records of a segment, and the number that comes next."""
+    if letter == "c":
+        return of_a(number - 1, 2), number
+    if letter == "g":
+        return of_a(number + 1, 1), number + 2
+    no_batch = batch(number)[:12] + b"\xff"
+    return of_a(number, 1) + [no_batch] * (letter == "b"), number + 1
+
+
+def by_letters(wals):
+    """The files of segments that are told by letters."""
+    files, number = {}, FIRST_NUMBER
+    for wal, letters in enumerate(wals.split(), 1):
+        for index, letter in enumerate(letters):
+            records, number = by_letter(letter, number)
+            sides = ["wal", "wal_secondary"] if letter == "d" else ["wal_secondary" if index % 2 else "wal"]
+            name = f"{wal:06}{f'-{index:03}' if index else ''}.log"
+            files |= {f"{side}/{name}": segment(records, wal) for side in sides}
+    return files
+
+
+def first_reason_cases():
+    for wals, strict, lenient in FIRST_REASONS:
+        yield strictly(f"the first reason: {wals}", by_letters(wals), refused(strict), refused(lenient or strict))
 
 
 def name_cases():
@@ -457,6 +523,7 @@ CASES = [
     *gap_cases(),
     *refusal_cases(),
     *bad_batch_cases(),
+    *first_reason_cases(),
     *name_cases(),
     *chunk_cases(),
     *block_cases(),
