@@ -5,6 +5,7 @@
 #include <stdlib.h>
 #include <string.h>
 #include <sys/resource.h>
+#include <sys/time.h>
 #include <sys/wait.h>
 #include <time.h>
 #include <unistd.h>
@@ -140,8 +141,13 @@ static void check(const char *file)
     printf("%zu\n", found);
 }
 
-/* Runs a command, and prints its seconds and the KiB that it held at its peak. This process is small, so that its own
-   memory, which the system counts to the command's, does not show. */
+static double seconds(struct timeval t)
+{
+    return (double)t.tv_sec + (double)t.tv_usec * 1e-6;
+}
+
+/* Runs a command, and prints its seconds, those of them that it had a processor, and the KiB that it held at its peak.
+   This process is small, so that its own memory, which the system counts to the command's, does not show. */
 static void time_command(char **command)
 {
     struct timespec begun, ended;
@@ -166,8 +172,8 @@ static void time_command(char **command)
         fprintf(stderr, "%s: status %d\n", command[0], status);
         exit(1);
     }
-    printf("%.6f %ld\n", (double)(ended.tv_sec - begun.tv_sec) + (double)(ended.tv_nsec - begun.tv_nsec) * 1e-9,
-           usage.ru_maxrss);
+    printf("%.6f %.6f %ld\n", (double)(ended.tv_sec - begun.tv_sec) + (double)(ended.tv_nsec - begun.tv_nsec) * 1e-9,
+           seconds(usage.ru_utime) + seconds(usage.ru_stime), usage.ru_maxrss);
 }
 
 int main(int argc, char **argv)
