@@ -2,7 +2,7 @@ use super::{
     FIRST_LOG, Rig, check, check_command, check_log, log_at, ran_over, segment_at, words_of,
 };
 use crate::{NoGate, Ran, Status, run};
-use disk_face::{Disk, DiskErr, DiskOp, Names, OpId, Progress, SegName, Side};
+use disk_face::{CallLog, Disk, DiskErr, DiskOp, Names, OpId, Progress, SegName, Side};
 use std::alloc::{AllocError, Global};
 use std::test::Fail;
 use wal_base::{Blob, MemSink, MemSource, NoMemory};
@@ -146,6 +146,7 @@ struct Late<D: Disk> {
     inner: D,
     op: u64,
     polls: u64,
+    log: CallLog,
 }
 
 impl<D: Disk> Disk for Late<D> {
@@ -153,10 +154,12 @@ impl<D: Disk> Disk for Late<D> {
 
     ghost tells = { D.tells };
 
-    ghost view = { λ d. stalled (D.view d.inner) d.polls 0 };
+    ghost view = { λ d. stalled (D.view d.inner) d.polls 0 d.log.calls };
 
     fn list(&mut self, side: Side) -> Result<Names, DiskErr> {
-        self.inner.list(side)
+        let answer = self.inner.list(side);
+        self.log.note_listing(side, &answer);
+        answer
     }
 
     fn read(
@@ -166,14 +169,18 @@ impl<D: Disk> Disk for Late<D> {
         at: u64,
         buf: &mut [u8],
     ) -> Result<usize, DiskErr> {
+        self.log.note_read(side, name, buf.len());
         self.inner.read(side, name, at, buf)
     }
 
     fn start(&mut self, op: DiskOp<'_>) -> Result<OpId, NoMemory> {
-        self.inner.start(op)
+        let id = self.inner.start(op)?;
+        self.log.note_start(id);
+        Ok(id)
     }
 
     fn poll(&mut self, id: OpId) -> Progress {
+        self.log.note_poll(id);
         let held = self.polls > 0 && id.number == self.op;
         match id.side {
             Side::Primary if held => {
@@ -202,6 +209,7 @@ fn a_late_sync_is_told_by_a_dead_run(rt: HostRuntime) -> Result<(), Fail> {
         inner: rig.disk,
         op: 2,
         polls: 11,
+        log: CallLog::new(),
     };
     let words = words_of(alloc, &["replay"])?;
     let mut source = MemSource::new(Blob::copy_of(alloc, b"commit 0 nosync set a 1\n")?);

@@ -14,7 +14,7 @@ use Rattle.wal_top.proofs.replay.replay.Goals as goal
 
 -- a disk that a script stalls, as it is seen
 abbrev seen : {D : Type 0} → (D → DiskView) → ScriptDisk D → DiskView
-seen view d = stalled (view d.inner) d.primary_polls d.secondary_polls
+seen view d = stalled (view d.inner) d.primary_polls d.secondary_polls d.log.calls
 
 after : (g : _) (c : goal.After-into_inner g) → TellsOf (g.D.Disk.view c.into_inner.result) (seen g.D.Disk.view c.go-ended.new.self.journal.disk)
 after g c = subst (λ (d : ScriptDisk _). TellsOf (g.D.Disk.view c.into_inner.result) (seen g.D.Disk.view d)) c.answered-said.ensures.disk c.into_inner.ensures.tells
