@@ -1,42 +1,42 @@
 -- What the two directories of a disk over files mean (docs/FORMATS.md, "The disk").
-use Rattle.std.specs.Prelude.{ℕ, [], Option, Some, None}
+use Rattle.std.specs.Prelude.{ℕ, List, Option, Some, None}
 use Rattle.std.specs.Ordering.{nat_cmp}
 use Rattle.std.specs.BTreeMap.{get}
 use Rattle.disk_face.specs.declared.Side.{Side}
 use Rattle.disk_face.specs.declared.Side.TheVariants.{Primary, Secondary}
-use Rattle.disk_face.specs.View.{segment, Act, creating, writing, syncing, Flight, DiskView, by_side}
+use Rattle.disk_face.specs.View.{segment, Act, creating, writing, syncing, Flight, Call, DiskView, by_side}
 use Rattle.file_disk.specs.declared.directory.Task.{Task}
 use Rattle.file_disk.specs.declared.directory.Task.TheVariants.{Create, Append, Sync}
 use Rattle.file_disk.specs.declared.directory.Started.{Started}
 use Rattle.file_disk.specs.declared.directory.Directory.{Directory}
 
 -- what a task does to its file
-abbrev pub act_of : Task → Act
-act_of Create = creating
-act_of (Append bytes) = writing
-act_of Sync = syncing
+abbrev pub act_of : {F : Type 0} → Task F → Act
+act_of (Create path) = creating
+act_of (Append target bytes) = writing
+act_of (Sync target) = syncing
 
 -- an operation of that side in flight
-abbrev pub flight_at : Side → Option Started → Option Flight
+abbrev pub flight_at : {F : Type 0} → Side → Option (Started F) → Option Flight
 flight_at side None = None
 flight_at side (Some op) = Some (record { place = segment side op.name; act = act_of op.task })
 
 -- the operation of that number in flight in a directory
-abbrev pub flight_in : Side → Directory → ℕ → Option Flight
+abbrev pub flight_in : {F : Type 0} → Side → Directory F → ℕ → Option Flight
 flight_in side directory number = flight_at side (get nat_cmp directory.flights number)
 
 -- the directory of that side
-abbrev pub directory_of : Directory → Directory → Side → Directory
+abbrev pub directory_of : {F : Type 0} → Directory F → Directory F → Side → Directory F
 directory_of primary secondary Primary = primary
 directory_of primary secondary Secondary = secondary
 
--- what the two mean together, with no call noted yet: they tell no file, and never stall
-abbrev pub file_view : Directory → Directory → DiskView
-file_view primary secondary = record {
+-- what the two mean together: after these calls: they tell no file, and never stall
+abbrev pub file_view : {F : Type 0} → Directory F → Directory F → List Call → DiskView
+file_view primary secondary calls = record {
   faults = by_side primary.faults secondary.faults;
   polls_left = λ side. 0;
   in_flight = λ id. flight_in id.side (directory_of primary secondary id.side) id.number;
   clock = 0;
   history = λ k p. None;
-  calls = [];
+  calls = calls;
 }

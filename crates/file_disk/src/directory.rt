@@ -1,69 +1,107 @@
-//! One of the two directories: its faults, and its operations in flight.
+//! One of the two directories: its faults, its operations in flight, and the file that it holds open.
 
-ghost use Rattle.std.specs.Prelude.{◌≡◌, ◌≢◌, ◌≤◌, ◌^◌, ℕ, None, Some, IfOk, OnErr};
-ghost use Rattle.wal_base.specs.Faults.{Rose};
+ghost use Rattle.std.specs.Prelude.{◌≡◌, ◌≢◌, ◌↔◌, ◌≤◌, ◌^◌, ℕ, None, Some, IfOk, IfSome, IfNone, IsSome, OnOk, OnErr};
+ghost use Rattle.wal_base.specs.Faults.{Rose, counted};
 ghost use Rattle.disk_face.specs.declared.Side.{Side};
 ghost use Rattle.disk_face.specs.Calls.{flight_of, side_of};
 ghost use Rattle.file_disk.specs.Flights.{flight_in, flight_at};
-ghost use Rattle.file_disk.specs.Paths.{path_text};
+ghost use Rattle.file_disk.specs.Held.{IsHeld, HoldsOpen, HoldsTheSame, HoldsAfter, IsOpen, LeadsTo, FindsItsFile};
 
-use crate::paths::path_of;
+use crate::paths::{PARENT, directory_of, path_of};
+use crate::system;
 use disk_face::{DiskOp, SegName, Side};
 use std::alloc::Global;
 use std::collections::BTreeMap;
+use std::fs::OpenFile;
+use std::io;
+use std::io::Write;
+use std::rt::Files;
 use wal_base::{Blob, Buf, NoMemory};
+
+/// How an operation comes to a file that is there.
+#[derive(Drop)]
+pub enum Target<F> {
+    /// It was held open.
+    Open(F),
+    /// It has to be opened, at this path.
+    Path(Buf),
+}
+
+impl<F: Write + OpenFile + Drop> Target<F> {
+    /// Puts bytes at the end of the file, and answers the file.
+    fn append<R: Files<File = F>>(self, rt: &R, bytes: &[u8]) -> io::Result<F> {
+        let mut file = match self {
+            Target::Open(file) => file,
+            Target::Path(path) => system::open(rt, &path)?,
+        };
+        file.write_all(bytes)?;
+        Ok(file)
+    }
+
+    /// Syncs the file, and answers it where it was held open.
+    fn sync<R: Files<File = F>>(self, rt: &R) -> io::Result<Option<F>>
+        ensures held { IfOk result (λ file. IsOpen self ↔ IsSome file) }
+    {
+        match self {
+            Target::Open(file) => {
+                file.sync_all()?;
+                Ok(Some(file))
+            }
+            Target::Path(path) => {
+                system::sync(rt, &path)?;
+                Ok(None)
+            }
+        }
+    }
+}
 
 /// What an operation does to its file.
 #[derive(Drop)]
-pub enum Task {
-    /// Makes it.
-    Create,
+pub enum Task<F> {
+    /// Makes it, at this path.
+    Create(Buf),
     /// Puts these bytes at its end.
-    Append(Blob),
+    Append(Target<F>, Blob),
     /// Makes it last.
-    Sync,
+    Sync(Target<F>),
 }
 
 /// An operation in flight.
 #[derive(Drop)]
-pub struct Started {
+pub struct Started<F> {
     /// The segment that it works on.
     pub name: SegName,
-    /// The path of its file.
-    pub path: Buf,
     /// What it does.
-    pub task: Task,
+    pub task: Task<F>,
 }
 
-impl Started {
-    /// Builds the path, and copies the bytes of a write.
-    pub fn of(alloc: Global, op: DiskOp<'_>) -> Result<Started, NoMemory>
-        ensures flight { IfOk result (λ started. flight_at (side_of op.entry) (Some started) ≡ Some (flight_of op.entry)) }
-        ensures path { IfOk result (λ started. started.path ≡ path_text (side_of op.entry) started.name) }
-    {
-        let (side, name, task) = match op {
-            DiskOp::Create { side, name } => (side, name, Task::Create),
-            DiskOp::Write { side, name, bytes } => {
-                (side, name, Task::Append(Blob::copy_of(alloc, bytes)?))
-            }
-            DiskOp::Sync { side, name } => (side, name, Task::Sync),
-        };
-        let path = path_of(alloc, side, name)?;
-        Ok(Started { name, path, task })
-    }
+/// A segment's file, open for appending.
+#[derive(Drop)]
+pub struct Handle<F> {
+    /// Which segment.
+    pub name: SegName,
+    /// Its file.
+    pub file: F,
 }
 
 /// A directory of segments.
+///
+/// It holds one file open: that of the segment that was created or written last. An operation on that segment takes
+/// the file along, and puts it back once it is done. An operation on an older segment, in flight meanwhile, puts back
+/// its own file in place of that: the next operation on the newer segment then opens anew, and that is all.
 #[derive(Drop)]
-pub struct Directory {
+pub struct Directory<F> {
     faults: u64,
     next: u64,
-    flights: BTreeMap<u64, Started>,
+    flights: BTreeMap<u64, Started<F>>,
+    held: Option<Handle<F>>,
+    /// Whether its own name was made to last, in this run.
+    is_named: bool,
 }
 
-impl Directory {
-    /// It has counted no fault, and nothing is in flight in it.
-    pub fn new(alloc: Global) -> Directory
+impl<F: Write + OpenFile + Drop> Directory<F> {
+    /// It has counted no fault, holds no file open, and nothing is in flight in it.
+    pub fn new(alloc: Global) -> Directory<F>
         ensures faults { result.faults ≡ 0 }
         ensures idle { (side : Side) (number : ℕ) → flight_in side result number ≡ None }
     {
@@ -71,11 +109,14 @@ impl Directory {
             faults: 0,
             next: 0,
             flights: BTreeMap::new(alloc),
+            held: None,
+            is_named: false,
         }
     }
 
     /// Counts a fault. The count stops at 2^64 - 1.
     pub fn raise(&mut self)
+        ensures once { self.new.faults ≡ counted self.old.faults }
         ensures rose { Rose self.old.faults self.new.faults }
         ensures later { self.old.faults ≤ self.new.faults }
         ensures flights { (side : Side) (q : ℕ) → flight_in side self.new q ≡ flight_in side self.old q }
@@ -83,11 +124,57 @@ impl Directory {
         self.faults = self.faults.saturating_add(1);
     }
 
+    /// Takes the file of that segment, where it is the one held open.
+    fn take(&mut self, name: SegName) -> Option<F>
+        ensures its { IfSome result (λ file. IsHeld self.old name file) }
+        ensures none { IfNone result (HoldsOpen self.old name → ⊥) }
+        ensures faults { self.new.faults ≡ self.old.faults }
+        ensures flights { (side : Side) (q : ℕ) → flight_in side self.new q ≡ flight_in side self.old q }
+    {
+        match self.held.take() {
+            Some(held) if held.name == name => Some(held.file),
+            other => {
+                self.held = other;
+                None
+            }
+        }
+    }
+
+    /// How an operation comes to the file of that segment. The path is built where the file is not held open.
+    fn target(&mut self, alloc: Global, side: Side, name: SegName) -> Result<Target<F>, NoMemory>
+        ensures leads { IfOk result (λ target. LeadsTo self.old side name target) }
+        ensures faults { self.new.faults ≡ self.old.faults }
+        ensures flights { (side : Side) (q : ℕ) → flight_in side self.new q ≡ flight_in side self.old q }
+    {
+        match self.take(name) {
+            Some(file) => Ok(Target::Open(file)),
+            None => Ok(Target::Path(path_of(alloc, side, name)?)),
+        }
+    }
+
+    /// What an operation is to do, with a copy of the bytes of a write.
+    fn task(&mut self, alloc: Global, op: DiskOp<'_>) -> Result<Started<F>, NoMemory>
+        ensures flight { IfOk result (λ started. flight_at (side_of op.entry) (Some started) ≡ Some (flight_of op.entry)) }
+        ensures leads { IfOk result (λ started. FindsItsFile self.old (side_of op.entry) started) }
+        ensures faults { self.new.faults ≡ self.old.faults }
+        ensures flights { (side : Side) (q : ℕ) → flight_in side self.new q ≡ flight_in side self.old q }
+    {
+        let (name, task) = match op {
+            DiskOp::Create { side, name } => (name, Task::Create(path_of(alloc, side, name)?)),
+            DiskOp::Write { side, name, bytes } => {
+                let bytes = Blob::copy_of(alloc, bytes)?;
+                (name, Task::Append(self.target(alloc, side, name)?, bytes))
+            }
+            DiskOp::Sync { side, name } => (name, Task::Sync(self.target(alloc, side, name)?)),
+        };
+        Ok(Started { name, task })
+    }
+
     /// Puts an operation in flight, and answers its number. After 2^64 operations numbers come again, and one
-    /// that is still in flight is refused. After an error nothing was started.
-    pub fn begin(&mut self, started: Started) -> Result<u64, NoMemory>
+    /// that is still in flight is refused. After an error nothing was started, and maybe no file is held open.
+    pub fn begin(&mut self, alloc: Global, op: DiskOp<'_>) -> Result<u64, NoMemory>
         ensures fresh { IfOk result (λ number. (side : Side) → flight_in side self.old number ≡ None) }
-        ensures here { IfOk result (λ number. (side : Side) → flight_in side self.new number ≡ flight_at side (Some started)) }
+        ensures here { IfOk result (λ number. flight_in (side_of op.entry) self.new number ≡ Some (flight_of op.entry)) }
         ensures others { IfOk result (λ number. (side : Side) (q : ℕ) → q ≢ number → flight_in side self.new q ≡ flight_in side self.old q) }
         ensures faults { self.new.faults ≡ self.old.faults }
         ensures err { OnErr result ((side : Side) (q : ℕ) → flight_in side self.new q ≡ flight_in side self.old q) }
@@ -96,18 +183,68 @@ impl Directory {
         if self.flights.contains_key(&number) {
             return Err(NoMemory);
         }
+        let started = self.task(alloc, op)?;
         self.flights.insert(number, started)?;
         self.next = number.wrapping_add(1);
         Ok(number)
     }
 
     /// Takes an operation out of flight. `None` exactly where none of that number was in flight.
-    pub fn end(&mut self, number: u64) -> Option<Started>
+    pub fn end(&mut self, number: u64) -> Option<Started<F>>
         ensures was { (side : Side) → flight_at side result ≡ flight_in side self.old number }
         ensures gone { (side : Side) → flight_in side self.new number ≡ None }
         ensures others { (side : Side) (q : ℕ) → q ≢ number → flight_in side self.new q ≡ flight_in side self.old q }
         ensures faults { self.new.faults ≡ self.old.faults }
     {
         self.flights.remove(&number)
+    }
+
+    /// Runs an operation. Once it is done its file is held open; one that was refused has let go of its file.
+    pub fn run<R: Files<File = F>>(&mut self, rt: &R, side: Side, op: Started<F>) -> io::Result<()>
+        ensures holds { OnOk result (HoldsAfter self.old self.new op.name op.task) }
+        ensures err { OnErr result (HoldsTheSame self.old self.new) }
+        ensures faults { self.new.faults ≡ self.old.faults }
+        ensures flights { (side : Side) (q : ℕ) → flight_in side self.new q ≡ flight_in side self.old q }
+    {
+        let Started { name, task } = op;
+        let file = match task {
+            Task::Create(path) => Some(self.create(rt, side, &path)?),
+            Task::Append(target, bytes) => Some(target.append(rt, bytes.as_slice())?),
+            Task::Sync(target) => target.sync(rt)?,
+        };
+        if let Some(file) = file {
+            self.held = Some(Handle { name, file });
+        }
+        Ok(())
+    }
+
+    /// Makes a segment that is not there, and answers its file. Each new name is synced, so that it lasts.
+    fn create<R: Files<File = F>>(&mut self, rt: &R, side: Side, path: &Buf) -> io::Result<F>
+        ensures held { HoldsTheSame self.old self.new }
+        ensures faults { self.new.faults ≡ self.old.faults }
+        ensures flights { (side : Side) (q : ℕ) → flight_in side self.new q ≡ flight_in side self.old q }
+    {
+        let directory = directory_of(side);
+        self.make(rt, directory)?;
+        let file = system::create(rt, path)?;
+        system::sync_directory(rt, directory)?;
+        Ok(file)
+    }
+
+    /// Makes the directory where it is absent. Its parent is synced until that was done once: the sync of an
+    /// earlier creation, or of an earlier run, may have failed.
+    fn make<R: Files<File = F>>(&mut self, rt: &R, directory: &str) -> io::Result<()>
+        ensures held { HoldsTheSame self.old self.new }
+        ensures faults { self.new.faults ≡ self.old.faults }
+        ensures flights { (side : Side) (q : ℕ) → flight_in side self.new q ≡ flight_in side self.old q }
+    {
+        if system::make_directory(rt, directory)? {
+            self.is_named = false;
+        }
+        if !self.is_named {
+            system::sync_directory(rt, PARENT)?;
+            self.is_named = true;
+        }
+        Ok(())
     }
 }

@@ -1,11 +1,11 @@
 //! The disk over files.
 
-ghost use Rattle.std.specs.Prelude.{◌≡◌, ◌≢◌, false, IfOk, IsOk, IsErr};
+ghost use Rattle.std.specs.Prelude.{◌≡◌, ◌≢◌, ◌∷◌, false, IfOk, IsOk, IsErr};
 ghost use Rattle.disk_face.specs.declared.Side.{Side};
-ghost use Rattle.disk_face.specs.View.{NothingInFlight};
+ghost use Rattle.disk_face.specs.View.{NothingInFlight, was_polled};
 ghost use Rattle.disk_face.specs.Calls as spec;
 ghost use Rattle.disk_face.specs.Calls.{GoesOn, SameDisk, Ends};
-ghost use Rattle.wal_base.specs.Faults.{Rose};
+ghost use Rattle.wal_base.specs.Faults.{Rose, counted};
 ghost use Rattle.file_disk.specs.Flights.{file_view};
 
 use crate::directory::{Directory, Started};
@@ -17,12 +17,13 @@ use std::rt::Files;
 use wal_base::NoMemory;
 
 /// The directories `./wal` and `./wal_secondary` of the folder in which the program runs. It tells nothing and
-/// never stalls. An operation is run at its first poll, and each refusal of the system is counted.
+/// never stalls. An operation is run at its first poll, and a failure that is answered was counted once. Each side
+/// holds one file open, so that a write to the segment that was created or written last is one call of the system.
 #[derive(Drop)]
 pub struct FileDisk<R: Files + AllocGlobal + Clone + Drop> {
     runtime: R,
-    primary: Directory,
-    secondary: Directory,
+    primary: Directory<R::File>,
+    secondary: Directory<R::File>,
     log: CallLog,
 }
 
@@ -44,11 +45,12 @@ impl<R: Files + AllocGlobal + Clone + Drop> FileDisk<R> {
 
     /// Counts a fault of that side.
     fn raise(&mut self, side: Side)
-        ensures log { self.new.log.calls ≡ self.old.log.calls }
-        ensures goes_on { GoesOn (file_view self.old.primary self.old.secondary) (file_view self.new.primary self.new.secondary) }
-        ensures same { SameDisk (file_view self.old.primary self.old.secondary) (file_view self.new.primary self.new.secondary) }
-        ensures rose { Rose ((file_view self.old.primary self.old.secondary).faults side) ((file_view self.new.primary self.new.secondary).faults side) }
-        ensures others { (s : Side) → s ≢ side → (file_view self.new.primary self.new.secondary).faults s ≡ (file_view self.old.primary self.old.secondary).faults s }
+        ensures calls { self.new.log.calls ≡ self.old.log.calls }
+        ensures goes_on { GoesOn (file_view self.old.primary self.old.secondary self.old.log.calls) (file_view self.new.primary self.new.secondary self.new.log.calls) }
+        ensures same { SameDisk (file_view self.old.primary self.old.secondary self.old.log.calls) (file_view self.new.primary self.new.secondary self.new.log.calls) }
+        ensures once { (file_view self.new.primary self.new.secondary self.new.log.calls).faults side ≡ counted ((file_view self.old.primary self.old.secondary self.old.log.calls).faults side) }
+        ensures rose { Rose ((file_view self.old.primary self.old.secondary self.old.log.calls).faults side) ((file_view self.new.primary self.new.secondary self.new.log.calls).faults side) }
+        ensures others { (s : Side) → s ≢ side → (file_view self.new.primary self.new.secondary self.new.log.calls).faults s ≡ (file_view self.old.primary self.old.secondary self.old.log.calls).faults s }
     {
         match side {
             Side::Primary => self.primary.raise(),
@@ -58,12 +60,13 @@ impl<R: Files + AllocGlobal + Clone + Drop> FileDisk<R> {
 
     /// How an operation ended, by what the system answered. A refusal is counted.
     fn settle(&mut self, side: Side, answer: io::Result<()>) -> Progress
-        ensures log { self.new.log.calls ≡ self.old.log.calls }
-        ensures goes_on { GoesOn (file_view self.old.primary self.old.secondary) (file_view self.new.primary self.new.secondary) }
-        ensures same { SameDisk (file_view self.old.primary self.old.secondary) (file_view self.new.primary self.new.secondary) }
+        ensures calls { self.new.log.calls ≡ self.old.log.calls }
+        ensures goes_on { GoesOn (file_view self.old.primary self.old.secondary self.old.log.calls) (file_view self.new.primary self.new.secondary self.new.log.calls) }
+        ensures same { SameDisk (file_view self.old.primary self.old.secondary self.old.log.calls) (file_view self.new.primary self.new.secondary self.new.log.calls) }
         ensures done { IsOk answer → result ≡ Progress.Done }
-        ensures steady { (s : Side) → (IsErr answer × (s ≡ side) → ⊥) → (file_view self.new.primary self.new.secondary).faults s ≡ (file_view self.old.primary self.old.secondary).faults s }
-        ensures failed { IsErr answer → (result ≡ Progress.Failed) × Rose ((file_view self.old.primary self.old.secondary).faults side) ((file_view self.new.primary self.new.secondary).faults side) }
+        ensures steady { (s : Side) → (IsErr answer × (s ≡ side) → ⊥) → (file_view self.new.primary self.new.secondary self.new.log.calls).faults s ≡ (file_view self.old.primary self.old.secondary self.old.log.calls).faults s }
+        ensures once { IsErr answer → (file_view self.new.primary self.new.secondary self.new.log.calls).faults side ≡ counted ((file_view self.old.primary self.old.secondary self.old.log.calls).faults side) }
+        ensures failed { IsErr answer → (result ≡ Progress.Failed) × Rose ((file_view self.old.primary self.old.secondary self.old.log.calls).faults side) ((file_view self.new.primary self.new.secondary self.new.log.calls).faults side) }
     {
         match answer {
             Ok(()) => Progress::Done,
@@ -74,16 +77,40 @@ impl<R: Files + AllocGlobal + Clone + Drop> FileDisk<R> {
         }
     }
 
-    /// Takes an operation out of flight.
-    fn end(&mut self, id: OpId) -> Option<Started>
-        ensures log { self.new.log.calls ≡ self.old.log.calls }
-        ensures goes_on { GoesOn (file_view self.old.primary self.old.secondary) (file_view self.new.primary self.new.secondary) }
-        ensures ends { Ends id (file_view self.old.primary self.old.secondary) (file_view self.new.primary self.new.secondary) }
-        ensures steady { (s : Side) → (file_view self.new.primary self.new.secondary).faults s ≡ (file_view self.old.primary self.old.secondary).faults s }
+    /// Takes an operation out of flight, for a poll.
+    fn end(&mut self, id: OpId) -> Option<Started<R::File>>
+        ensures noted { self.new.log.calls ≡ was_polled id ∷ self.old.log.calls }
+        ensures goes_on { GoesOn (file_view self.old.primary self.old.secondary self.old.log.calls) (file_view self.new.primary self.new.secondary self.new.log.calls) }
+        ensures ends { Ends id (file_view self.old.primary self.old.secondary self.old.log.calls) (file_view self.new.primary self.new.secondary self.new.log.calls) }
+        ensures steady { (s : Side) → (file_view self.new.primary self.new.secondary self.new.log.calls).faults s ≡ (file_view self.old.primary self.old.secondary self.old.log.calls).faults s }
     {
+        self.log.note_poll(id);
         match id.side {
             Side::Primary => self.primary.end(id.number),
             Side::Secondary => self.secondary.end(id.number),
+        }
+    }
+
+    /// Runs an operation that is no longer in flight.
+    fn run(&mut self, side: Side, op: Started<R::File>) -> io::Result<()>
+        ensures { file_view self.new.primary self.new.secondary self.new.log.calls ≡ file_view self.old.primary self.old.secondary self.old.log.calls }
+    {
+        match side {
+            Side::Primary => self.primary.run(&self.runtime, side, op),
+            Side::Secondary => self.secondary.run(&self.runtime, side, op),
+        }
+    }
+
+    /// Takes an operation out of flight, runs it, and answers what the system did.
+    fn finish(&mut self, id: OpId) -> io::Result<()>
+        ensures noted { self.new.log.calls ≡ was_polled id ∷ self.old.log.calls }
+        ensures goes_on { GoesOn (file_view self.old.primary self.old.secondary self.old.log.calls) (file_view self.new.primary self.new.secondary self.new.log.calls) }
+        ensures ends { Ends id (file_view self.old.primary self.old.secondary self.old.log.calls) (file_view self.new.primary self.new.secondary self.new.log.calls) }
+        ensures steady { (s : Side) → (file_view self.new.primary self.new.secondary self.new.log.calls).faults s ≡ (file_view self.old.primary self.old.secondary self.old.log.calls).faults s }
+    {
+        match self.end(id) {
+            Some(started) => self.run(id.side, started),
+            None => Err(ErrorKind::NotFound.into()),
         }
     }
 }
@@ -103,14 +130,14 @@ impl<R: Files + AllocGlobal + Clone + Drop> Disk for FileDisk<R> {
 
     ghost tells = { false };
 
-    ghost view = { λ d. record (file_view d.primary d.secondary) { calls = d.log.calls } };
+    ghost view = { λ d. file_view d.primary d.secondary d.log.calls };
 
     fn list(&mut self, side: Side) -> Result<Names, DiskErr> {
         let listed = system::list(&self.runtime, side);
-        self.log.note_listing(side, &listed);
         if let Err(DiskErr::Failed) = listed {
             self.raise(side);
         }
+        self.log.note_listing(side, &listed);
         listed
     }
 
@@ -121,20 +148,20 @@ impl<R: Files + AllocGlobal + Clone + Drop> Disk for FileDisk<R> {
         at: u64,
         buf: &mut [u8],
     ) -> Result<usize, DiskErr> {
-        self.log.note_read(side, name, buf.len());
         let read = system::read(&self.runtime, side, name, at, buf);
         if let Err(DiskErr::Failed) = read {
             self.raise(side);
         }
+        self.log.note_read(side, name, buf.len());
         read
     }
 
     fn start(&mut self, op: DiskOp<'_>) -> Result<OpId, NoMemory> {
-        let started = Started::of(self.runtime.alloc(), op)?;
+        let alloc = self.runtime.alloc();
         let side = side_of(op);
         let number = match side {
-            Side::Primary => self.primary.begin(started)?,
-            Side::Secondary => self.secondary.begin(started)?,
+            Side::Primary => self.primary.begin(alloc, op)?,
+            Side::Secondary => self.secondary.begin(alloc, op)?,
         };
         let id = OpId { side, number };
         self.log.note_start(id);
@@ -142,11 +169,7 @@ impl<R: Files + AllocGlobal + Clone + Drop> Disk for FileDisk<R> {
     }
 
     fn poll(&mut self, id: OpId) -> Progress {
-        self.log.note_poll(id);
-        let answer = match self.end(id) {
-            Some(started) => system::run(&self.runtime, id.side, &started),
-            None => Err(ErrorKind::NotFound.into()),
-        };
+        let answer = self.finish(id);
         self.settle(id.side, answer)
     }
 

@@ -7,6 +7,9 @@ use disk_face::{SegName, Side};
 use std::alloc::Global;
 use wal_base::{Buf, NoMemory};
 
+/// The directory in which both stand.
+pub const PARENT: &str = ".";
+
 /// The directory of a side.
 pub fn directory_of(side: Side) -> &'static str
     ensures { result.now ≡ directory_text side }

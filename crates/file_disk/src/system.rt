@@ -3,13 +3,12 @@
 ghost use Rattle.std.specs.Prelude.{◌≡◌, ◌≤◌, length, drop, IfOk};
 ghost use Rattle.disk_face.specs.Listing.{IsAscending, AreSegmentNames};
 
-use crate::directory::{Started, Task};
 use crate::order::{insert_listed, names_of};
 use crate::paths::{directory_of, path_of};
 use disk_face::{DiskErr, Listed, Names, SegName, Side};
 use std::alloc::Global;
 use std::fs::{DirEntry, File, OpenFile, OpenOptions};
-use std::io::{ErrorKind, Read, Seek, SeekFrom, Write};
+use std::io::{ErrorKind, Read, Seek, SeekFrom};
 use std::rt::Files;
 use std::{fs, io};
 use wal_base::Buf;
@@ -17,34 +16,49 @@ use wal_base::Buf;
 /// The last place that a file of the system can have.
 const LAST_PLACE: u64 = (1 << 63) - 1;
 
-/// Runs an operation.
-pub fn run<R: Files>(rt: &R, side: Side, op: &Started) -> io::Result<()> {
-    let path = text_of(&op.path)?;
-    match &op.task {
-        Task::Create => create(rt, directory_of(side), path),
-        Task::Append(bytes) => append(rt, path, bytes.as_slice()),
-        Task::Sync => File::open(rt, path)?.sync_all(),
-    }
-}
-
 /// A path as the system takes it. It is ASCII, so there is no error.
 fn text_of(path: &Buf) -> io::Result<&str> {
     std::str::from_utf8(path.as_slice()).map_err(|_| ErrorKind::InvalidFilename.into())
 }
 
-/// Makes a file that is not there, and its directory. Each is synced, so that the new names last.
-fn create<R: Files>(rt: &R, directory: &str, path: &str) -> io::Result<()> {
-    if !fs::exists(rt, directory)? {
-        fs::create_dir_all(rt, directory)?;
-        File::open(rt, ".")?.sync_all()?;
+/// Makes a directory where it is absent, and answers whether it was.
+pub fn make_directory<R: Files>(rt: &R, path: &str) -> io::Result<bool> {
+    if fs::exists(rt, path)? {
+        return Ok(false);
     }
-    File::create_new(rt, path)?;
-    File::open(rt, directory)?.sync_all()
+    fs::create_dir_all(rt, path)?;
+    Ok(true)
 }
 
-fn append<R: Files>(rt: &R, path: &str, bytes: &[u8]) -> io::Result<()> {
-    let mut file = OpenOptions::new().append(true).open(rt, path)?;
-    file.write_all(bytes)
+/// Syncs a directory, so that new names in it last. A file system that knows no such sync is left to itself.
+pub fn sync_directory<R: Files>(rt: &R, path: &str) -> io::Result<()> {
+    match File::open(rt, path)?.sync_all() {
+        Err(error) if is_unknown(error.kind()) => Ok(()),
+        answer => answer,
+    }
+}
+
+/// Whether the system does not know what it was asked for.
+fn is_unknown(kind: ErrorKind) -> bool {
+    matches!(kind, ErrorKind::InvalidInput | ErrorKind::Unsupported)
+}
+
+/// Makes a segment that is not there, open for appending.
+pub fn create<R: Files>(rt: &R, path: &Buf) -> io::Result<R::File> {
+    OpenOptions::new()
+        .append(true)
+        .create_new(true)
+        .open(rt, text_of(path)?)
+}
+
+/// Opens a segment that is there for appending.
+pub fn open<R: Files>(rt: &R, path: &Buf) -> io::Result<R::File> {
+    OpenOptions::new().append(true).open(rt, text_of(path)?)
+}
+
+/// Syncs a segment that is not held open. It is opened for reading: a sync is to need no right to write.
+pub fn sync<R: Files>(rt: &R, path: &Buf) -> io::Result<()> {
+    File::open(rt, text_of(path)?)?.sync_all()
 }
 
 /// What a refusal of the system is to the caller of `list` or `read`.
@@ -55,14 +69,21 @@ fn refusal(error: io::Error) -> DiskErr {
     }
 }
 
+/// Whether nothing stands at a path, by what the system answered there. A link that leads nowhere is something.
+fn is_absent<R: Files>(rt: &R, path: &str, answer: ErrorKind) -> bool {
+    answer == ErrorKind::NotFound
+        && fs::symlink_metadata(rt, path).is_err_and(|error| error.kind() == ErrorKind::NotFound)
+}
+
 /// The segments of a side. A directory that is not there has none.
 pub fn list<R: Files + AllocGlobal + Clone + Drop>(rt: &R, side: Side) -> Result<Names, DiskErr>
     ensures ascending { IfOk result IsAscending }
     ensures numbers { IfOk result AreSegmentNames }
 {
-    let entries = match fs::read_dir(rt, directory_of(side)) {
+    let directory = directory_of(side);
+    let entries = match fs::read_dir(rt, directory) {
         Ok(entries) => entries,
-        Err(error) if error.kind() == ErrorKind::NotFound => return Ok(Names::new(rt.alloc())),
+        Err(error) if is_absent(rt, directory, error.kind()) => return Ok(Names::new(rt.alloc())),
         Err(error) => return Err(refusal(error)),
     };
     let mut found = Vec::new(rt.alloc());
@@ -114,9 +135,10 @@ pub fn read<R: Files + AllocGlobal>(
     if at > LAST_PLACE {
         return Ok(0);
     }
-    let mut file = match File::open(rt, text_of(&path).map_err(refusal)?) {
+    let path = text_of(&path).map_err(refusal)?;
+    let mut file = match File::open(rt, path) {
         Ok(file) => file,
-        Err(error) if error.kind() == ErrorKind::NotFound => return Ok(0),
+        Err(error) if is_absent(rt, path, error.kind()) => return Ok(0),
         Err(error) => return Err(refusal(error)),
     };
     let mut bytes = Vec::new(rt.alloc());
