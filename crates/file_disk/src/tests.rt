@@ -1,13 +1,31 @@
 use crate::FileDisk;
+use crate::directory::Directory;
 use disk_face::{Disk, DiskErr, DiskOp, Names, Progress, SegName, Side};
-use std::fs;
+use std::io::ErrorKind;
+use std::os::unix::fs::symlink;
+use std::rt::Files;
+use std::test::Fail;
+use std::{fs, io};
 use wal_base::NoMemory;
+use watched::{Call, Watch, Watched};
+
+mod watched;
 
 /// Starts an operation on a disk of its own, and asks once how it stands.
 fn run(rt: &HostRuntime, op: DiskOp<'_>) -> Result<Progress, NoMemory> {
     let mut disk = FileDisk::new(rt)?;
     let id = disk.start(op)?;
     Ok(disk.poll(id))
+}
+
+/// Takes away what an earlier test left in this folder.
+fn clear(rt: &HostRuntime) -> io::Result<()> {
+    for directory in ["./wal", "./wal_secondary"] {
+        if fs::exists(rt, directory)? {
+            fs::remove_dir_all(rt, directory)?;
+        }
+    }
+    Ok(())
 }
 
 fn seg(wal: u64, index: u32) -> SegName {
@@ -24,7 +42,8 @@ fn are_listed(names: &Names, wanted: &[(u64, u32, u64)]) -> bool {
 }
 
 #[test]
-fn segments_are_kept_in_files(rt: HostRuntime) -> Result<(), DiskErr> {
+fn segments_are_kept_in_files(rt: HostRuntime) -> Result<(), Fail> {
+    clear(&rt)?;
     let (side, name) = (Side::Primary, seg(1, 0));
     let mut disk = FileDisk::new(&rt)?;
     let mut buf = *b"........";
@@ -85,8 +104,8 @@ fn segments_are_kept_in_files(rt: HostRuntime) -> Result<(), DiskErr> {
         assert_eq!(rt; run(&rt, op)?, progress, "at {op:?}");
     }
 
-    fs::write(&rt, "./wal/notes.txt", "a note").map_err(|_| DiskErr::Failed)?;
-    fs::create_dir(&rt, "./wal/000003.log").map_err(|_| DiskErr::Failed)?;
+    fs::write(&rt, "./wal/notes.txt", "a note")?;
+    fs::create_dir(&rt, "./wal/000003.log")?;
     let listed = disk.list(side)?;
     assert!(rt; are_listed(&listed, &[(1, 0, 5), (2, 0, 0), (2, 1, 0), (10, 0, 0)]));
     assert!(rt; disk.list(Side::Secondary)?.is_empty());
@@ -103,5 +122,188 @@ fn segments_are_kept_in_files(rt: HostRuntime) -> Result<(), DiskErr> {
     let mut two = *b"..";
     assert_eq!(rt; disk.read(side, name, 1, &mut two)?, 2);
     assert_eq!(rt; two, *b"bc");
+    Ok(())
+}
+
+/// Does an operation in a directory, and answers whether the system did it.
+fn operate<R: Files + AllocGlobal>(
+    rt: &R,
+    directory: &mut Directory<R::File>,
+    op: DiskOp<'_>,
+) -> Result<bool, NoMemory> {
+    let number = directory.begin(rt.alloc(), op)?;
+    match directory.end(number) {
+        Some(started) => Ok(directory.run(rt, Side::Primary, started).is_ok()),
+        None => Ok(false),
+    }
+}
+
+const fn create(index: u32) -> DiskOp<'static> {
+    DiskOp::Create {
+        side: Side::Primary,
+        name: SegName { wal: 1, index },
+    }
+}
+
+const fn write(index: u32) -> DiskOp<'static> {
+    DiskOp::Write {
+        side: Side::Primary,
+        name: SegName { wal: 1, index },
+        bytes: b"abc",
+    }
+}
+
+const fn sync(index: u32) -> DiskOp<'static> {
+    DiskOp::Sync {
+        side: Side::Primary,
+        name: SegName { wal: 1, index },
+    }
+}
+
+#[test]
+fn a_segment_stays_open(rt: HostRuntime) -> Result<(), Fail> {
+    clear(&rt)?;
+    let watch = Watch::new();
+    let system = Watched {
+        system: &rt,
+        watch: &watch,
+    };
+    let mut directory = Directory::new(rt.alloc());
+    let full = Some((Call::Write, ErrorKind::StorageFull));
+    let broken = Some((Call::SyncSegment, ErrorKind::Other));
+    let pieces = [
+        // The parent, the segment, and its directory.
+        (create(0), None, 3),
+        (write(0), None, 0),
+        (sync(0), None, 0),
+        // What was refused is let go.
+        (write(0), full, 0),
+        (write(0), None, 1),
+        (sync(0), broken, 0),
+        // What is only synced is not held.
+        (sync(0), None, 1),
+        (write(0), None, 1),
+        (create(2), None, 2),
+        (write(2), None, 0),
+        (sync(0), None, 1),
+        (write(2), None, 0),
+        // What is written is held in place of another segment.
+        (write(0), None, 1),
+        (write(2), None, 1),
+    ];
+    for (op, refused, opened) in pieces {
+        watch.refused.set(refused);
+        watch.opened.set(0);
+        let is_done = operate(&system, &mut directory, op)?;
+        assert_eq!(rt; is_done, refused.is_none(), "at {op:?}");
+        assert_eq!(rt; watch.opened.get(), opened, "at {op:?}");
+    }
+    Ok(())
+}
+
+#[test]
+fn new_names_are_synced(rt: HostRuntime) -> Result<(), Fail> {
+    clear(&rt)?;
+    let watch = Watch::new();
+    let system = Watched {
+        system: &rt,
+        watch: &watch,
+    };
+    let mut directory = Directory::new(rt.alloc());
+    let parent = Call::SyncParent;
+    let own = Call::SyncDirectory;
+    let pieces = [
+        // The directory is there from the first creation on, and its name is owed until its parent is synced.
+        (0, Some((parent, ErrorKind::Other)), false, 0),
+        (0, Some((parent, ErrorKind::PermissionDenied)), false, 0),
+        (0, None, true, 1),
+        (1, None, true, 1),
+        (2, Some((own, ErrorKind::Other)), false, 1),
+        (3, Some((own, ErrorKind::InvalidInput)), true, 1),
+        (4, Some((own, ErrorKind::Unsupported)), true, 1),
+    ];
+    for (index, refused, is_done, parent_syncs) in pieces {
+        watch.refused.set(refused);
+        let made = operate(&system, &mut directory, create(index))?;
+        assert_eq!(rt; made, is_done, "at {index}");
+        assert_eq!(rt; watch.parent_syncs.get(), parent_syncs, "at {index}");
+    }
+    Ok(())
+}
+
+#[test]
+fn the_name_of_a_directory_that_is_there_is_synced(rt: HostRuntime) -> Result<(), Fail> {
+    clear(&rt)?;
+    fs::create_dir(&rt, "./wal")?;
+    let parent = Call::SyncParent;
+    let pieces = [
+        (0, 1, None, 1),
+        (2, 3, Some((parent, ErrorKind::InvalidInput)), 0),
+        (4, 5, Some((parent, ErrorKind::Unsupported)), 0),
+    ];
+    for (first, second, refused, parent_syncs) in pieces {
+        let watch = Watch::new();
+        let system = Watched {
+            system: &rt,
+            watch: &watch,
+        };
+        let mut directory = Directory::new(rt.alloc());
+        watch.refused.set(refused);
+        assert!(rt;
+            operate(&system, &mut directory, create(first))?,
+            "at {first}"
+        );
+        watch.refused.set(None);
+        assert!(rt;
+            operate(&system, &mut directory, create(second))?,
+            "at {second}"
+        );
+        assert_eq!(rt; watch.parent_syncs.get(), parent_syncs, "at {first}");
+    }
+    Ok(())
+}
+
+fn has_failed<T: Drop>(answer: Result<T, DiskErr>) -> bool {
+    matches!(answer, Err(DiskErr::Failed))
+}
+
+// Each of these answers was counted, as the contract of a disk says.
+#[test]
+fn a_refusal_is_a_failure(rt: HostRuntime) -> Result<(), Fail> {
+    clear(&rt)?;
+    let mut disk = FileDisk::new(&rt)?;
+    let mut buf = *b"...";
+    fs::create_dir(&rt, "./wal")?;
+
+    // A directory in place of a segment is passed over by a listing.
+    fs::create_dir(&rt, "./wal/000001.log")?;
+    assert_eq!(rt; run(&rt, create(0))?, Progress::Failed);
+    assert_eq!(rt; run(&rt, write(0))?, Progress::Failed);
+    assert!(rt; has_failed(disk.read(Side::Primary, seg(1, 0), 0, &mut buf)));
+
+    // A full device, and a link to one.
+    symlink(&rt, "/dev/full", "./wal/000001-001.log")?;
+    assert_eq!(rt; run(&rt, create(1))?, Progress::Failed);
+    assert_eq!(rt; run(&rt, write(1))?, Progress::Failed);
+    assert!(rt; disk.list(Side::Primary)?.is_empty());
+
+    // A link that leads nowhere.
+    symlink(&rt, "./nowhere", "./wal/000001-002.log")?;
+    for op in [create(2), write(2), sync(2)] {
+        assert_eq!(rt; run(&rt, op)?, Progress::Failed, "at {op:?}");
+    }
+    assert!(rt; has_failed(disk.read(Side::Primary, seg(1, 2), 0, &mut buf)));
+    assert!(rt; has_failed(disk.list(Side::Primary)));
+
+    // A file, or a link that leads nowhere, in place of a directory.
+    let (side, name) = (Side::Secondary, seg(1, 0));
+    fs::write(&rt, "./wal_secondary", "a file")?;
+    for _ in 0..2 {
+        assert_eq!(rt; run(&rt, DiskOp::Create { side, name })?, Progress::Failed);
+        assert!(rt; has_failed(disk.list(side)));
+        fs::remove_file(&rt, "./wal_secondary")?;
+        symlink(&rt, "./nowhere", "./wal_secondary")?;
+    }
+    fs::remove_file(&rt, "./wal_secondary")?;
     Ok(())
 }

@@ -1,0 +1,171 @@
+//! The files of the system, seen at work: how many are opened, and one call that is refused.
+
+use crate::paths::PARENT;
+use std::alloc::{Allocator, Global};
+use std::cell::Cell;
+use std::fs::{Metadata, OpenFile, OpenOptions};
+use std::io;
+use std::io::{ErrorKind, Read, Seek, SeekFrom, Write};
+use std::rt::Files;
+
+/// A call that may be refused.
+#[derive(Clone, Copy, PartialEq, Eq, Debug)]
+pub enum Call {
+    SyncParent,
+    SyncDirectory,
+    SyncSegment,
+    Write,
+}
+
+/// What is seen, and which call is refused.
+#[derive(Drop)]
+pub struct Watch {
+    pub opened: Cell<u32>,
+    pub parent_syncs: Cell<u32>,
+    pub refused: Cell<Option<(Call, ErrorKind)>>,
+}
+
+impl Watch {
+    pub fn new() -> Watch {
+        Watch {
+            opened: Cell::new(0),
+            parent_syncs: Cell::new(0),
+            refused: Cell::new(None),
+        }
+    }
+
+    fn ask(&self, call: Call) -> io::Result<()> {
+        match self.refused.get() {
+            Some((refused, kind)) if refused == call => Err(kind.into()),
+            _ => Ok(()),
+        }
+    }
+}
+
+/// The system under a watch.
+#[derive(Clone, Copy)]
+pub struct Watched<'a> {
+    pub system: &'a HostRuntime,
+    pub watch: &'a Watch,
+}
+
+impl Alloc for Watched<'_> {
+    type A = Global;
+
+    fn alloc(&self) -> Global {
+        self.system.alloc()
+    }
+}
+
+/// An open file under a watch.
+#[derive(Drop)]
+pub struct WatchedFile<'a> {
+    file: <HostRuntime as Files>::File,
+    sync: Call,
+    watch: &'a Watch,
+}
+
+impl Read for WatchedFile<'_> {
+    fn read(&mut self, buf: &mut [u8]) -> io::Result<usize> {
+        self.file.read(buf)
+    }
+}
+
+impl Write for WatchedFile<'_> {
+    fn write(&mut self, buf: &[u8]) -> io::Result<usize> {
+        self.watch.ask(Call::Write)?;
+        self.file.write(buf)
+    }
+
+    fn flush(&mut self) -> io::Result<()> {
+        self.file.flush()
+    }
+}
+
+impl Seek for WatchedFile<'_> {
+    fn seek(&mut self, to: SeekFrom) -> io::Result<u64> {
+        self.file.seek(to)
+    }
+}
+
+impl OpenFile for WatchedFile<'_> {
+    fn metadata(&self) -> io::Result<Metadata> {
+        self.file.metadata()
+    }
+
+    fn set_len(&self, size: u64) -> io::Result<()> {
+        self.file.set_len(size)
+    }
+
+    fn sync_all(&self) -> io::Result<()> {
+        self.watch.ask(self.sync)?;
+        if self.sync == Call::SyncParent {
+            self.watch
+                .parent_syncs
+                .set(self.watch.parent_syncs.get().saturating_add(1));
+        }
+        self.file.sync_all()
+    }
+
+    fn sync_data(&self) -> io::Result<()> {
+        self.file.sync_data()
+    }
+}
+
+impl<'a> Files for Watched<'a> {
+    type File = WatchedFile<'a>;
+
+    type Dir = <HostRuntime as Files>::Dir;
+
+    fn open_file(&self, how: &OpenOptions, path: &str) -> io::Result<WatchedFile<'a>> {
+        let sync = match path {
+            PARENT => Call::SyncParent,
+            _ if path.ends_with(".log") => Call::SyncSegment,
+            _ => Call::SyncDirectory,
+        };
+        self.watch
+            .opened
+            .set(self.watch.opened.get().saturating_add(1));
+        Ok(WatchedFile {
+            file: self.system.open_file(how, path)?,
+            sync,
+            watch: self.watch,
+        })
+    }
+
+    fn open_dir(&self, path: &str) -> io::Result<Self::Dir> {
+        self.system.open_dir(path)
+    }
+
+    fn metadata(&self, path: &str) -> io::Result<Metadata> {
+        self.system.metadata(path)
+    }
+
+    fn symlink_metadata(&self, path: &str) -> io::Result<Metadata> {
+        self.system.symlink_metadata(path)
+    }
+
+    fn copy(&self, from: &str, to: &str) -> io::Result<u64> {
+        self.system.copy(from, to)
+    }
+
+    fn rename(&self, from: &str, to: &str) -> io::Result<()> {
+        self.system.rename(from, to)
+    }
+
+    fn remove_file(&self, path: &str) -> io::Result<()> {
+        self.system.remove_file(path)
+    }
+
+    fn create_dir(&self, path: &str) -> io::Result<()> {
+        self.system.create_dir(path)
+    }
+
+    fn remove_dir(&self, path: &str) -> io::Result<()> {
+        self.system.remove_dir(path)
+    }
+
+    fn remove_dir_all<B: Allocator>(&self, alloc: B, path: &str) -> io::Result<()> {
+        self.system.remove_dir_all(alloc, path)
+    }
+}
