@@ -144,6 +144,7 @@ impl<D: Disk> Disk for ScriptDisk<D> {
         Ok(id)
     }
 
+    #[tactic(auto, using(crate::proofs::Passed::passed_on))]
     fn poll(&mut self, id: OpId) -> Progress
         requires { IsSome ((⟦<ScriptDisk<D> as Disk>⟧.view self.old).in_flight id) }
         ensures goes_on { GoesOn (⟦<ScriptDisk<D> as Disk>⟧.view self.old) (⟦<ScriptDisk<D> as Disk>⟧.view self.new) }
