@@ -130,7 +130,7 @@ fn entries_of(alloc: Global, text: &Blob) -> Result<Entries, BatchFault>
     ensures short { IfOk result (λ entries. length entries < 2 ^ 32) }
     ensures fault { IfErr result (MemoryOr (HasEntryFault text.now)) }
 {
-    let mut entries = Entries::new(alloc);
+    let mut entries = Entries::with_capacity(alloc, 1)?;
     let mut rest = &text.as_slice()[HEADER..];
     while !rest.is_empty() {
         let (entry, after) = entry_of(text, rest)?;

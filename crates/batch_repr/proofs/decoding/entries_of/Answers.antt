@@ -8,9 +8,9 @@ pub loop-rest-init : goal.loop-rest-init
 loop-rest-init c =
     let rest : take (length c.as_slice.result.now - 12) (drop 12 c.as_slice.result.now) ≡ drop 12 c.args.text.now = take_rest c.as_slice.result.now 12 ∙ ap (drop 12) c.as_slice.ensures in
     record {
-      so_far = rw (rest, c.new-entries.ensures) refl;
+      so_far = rw (rest, c.in_ok-entries.ensures) refl;
       ends = rw rest (take 12 c.args.text.now, sym (take-append-drop 12 c.args.text.now));
-      few = rw (rest, c.new-entries.ensures) (omega (arith, length-drop 12 c.args.text.now));
+      few = rw (rest, c.in_ok-entries.ensures) (omega (arith, length-drop 12 c.args.text.now));
     }
 
 pub loop-rest-preserved : goal.loop-rest-preserved
