@@ -12,3 +12,4 @@ pub mod Varints
 pub mod Fields
 mod Parting
 pub mod Agreement
+mod Pinned

@@ -1,7 +1,7 @@
-use crate::{Batch, BatchBuilder, BatchFault, BuildFault, Unnumbered, decode};
+use crate::{Batch, BatchBuilder, BatchFault, BuildFault, Unnumbered, decode, decode_shared};
 use std::alloc::Global;
 use std::process::Abort;
-use wal_base::Entry;
+use wal_base::{Blob, Entry};
 
 /// A batch of one Set, key `a` to `1`.
 fn one_set(rt: &impl Abort, mut builder: BatchBuilder) -> Unnumbered {
@@ -181,6 +181,29 @@ fn each_spelling_of_a_length_is_read(rt: HostRuntime) {
 
 /// The greatest number at which a batch may end.
 const LAST: u64 = 72_057_594_037_927_935;
+
+#[test]
+fn a_batch_outlives_the_text_that_it_shares(rt: HostRuntime) {
+    let bytes = text(&rt, rt.alloc(), 10, 1, b"\x03\x02xy\x01\x01a\x01b\x03\x00");
+    let text = Blob::of_vec(rt.alloc(), bytes).expect(&rt, "memory");
+    let read = decode_shared(rt.alloc(), &text).expect(&rt, "a batch");
+    drop(text);
+    let same = read.share(rt.alloc()).expect(&rt, "memory");
+    drop(read);
+    assert_eq!(rt; (same.first, same.entries.len()), (10, 3));
+    let [
+        Entry::Note { bytes: front },
+        Entry::Set { key, value },
+        Entry::Note { bytes: back },
+    ] = same.entries.as_slice()
+    else {
+        panic!(rt; "other entries");
+    };
+    assert_eq!(rt; front.as_slice(), b"xy".as_slice());
+    assert_eq!(rt; key.as_slice(), b"a".as_slice());
+    assert_eq!(rt; value.as_slice(), b"b".as_slice());
+    assert!(rt; back.as_slice().is_empty());
+}
 
 #[test]
 fn each_fault_stands_where_it_is(rt: HostRuntime) {
