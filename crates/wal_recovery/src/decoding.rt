@@ -1,4 +1,4 @@
-//! The batches of records, and copies of those that take a number.
+//! The batches of records, and those of them that take a number.
 
 ghost use Rattle.std.specs.Prelude.{◌≡◌, IfOk, IfErr};
 ghost use Rattle.batch_repr.specs.Batches.{count_of};
@@ -7,11 +7,11 @@ ghost use Rattle.wal_recovery.specs.Recovering.{counted, Spell};
 ghost use Rattle.wal_recovery.specs.Refused.{IsBadRecord};
 ghost use Rattle.wal_recovery.specs.Decoded.{BadOrMemory, IsBadAt};
 
-use batch_repr::{Batch, BatchFault, Batches, decode};
+use batch_repr::{Batch, BatchFault, Batches, decode_shared};
 use block_record::Rec;
 use std::alloc::Global;
 use thiserror::Error;
-use wal_base::{Blob, Entries, Entry, NoMemory};
+use wal_base::{Entry, NoMemory};
 
 /// Why records were not decoded.
 #[derive(Clone, Copy, Debug, PartialEq, Eq, Error)]
@@ -24,12 +24,12 @@ pub(crate) enum DecodeFault {
     NoMemory,
 }
 
-/// The batch of one record.
+/// The batch of one record, in its bytes.
 fn batch_of(alloc: Global, whole: &Rec) -> Result<Batch, DecodeFault>
     ensures spelled { IfOk result (SpellsBatch whole.now.bytes) }
     ensures bad { IfErr result (BadOrMemory (IsBadAt whole.now)) }
 {
-    match decode(alloc, whole.bytes.as_slice()) {
+    match decode_shared(alloc, &whole.bytes) {
         Ok(batch) => Ok(batch),
         Err(BatchFault::NoMemory) => Err(DecodeFault::NoMemory),
         Err(fault) => Err(DecodeFault::Bad {
@@ -70,55 +70,18 @@ pub(crate) fn count(entries: &[Entry]) -> u64
     found
 }
 
-fn copy_of_entry(alloc: Global, entry: &Entry) -> Result<Entry, NoMemory>
-    ensures { IfOk result (λ copy. copy ≡ entry.now) }
-{
-    match entry {
-        Entry::Set { key, value } => {
-            let key = Blob::copy_of(alloc, key.as_slice())?;
-            let value = Blob::copy_of(alloc, value.as_slice())?;
-            Ok(Entry::Set { key, value })
-        }
-        Entry::Delete { key } => {
-            let key = Blob::copy_of(alloc, key.as_slice())?;
-            Ok(Entry::Delete { key })
-        }
-        Entry::Note { bytes } => {
-            let bytes = Blob::copy_of(alloc, bytes.as_slice())?;
-            Ok(Entry::Note { bytes })
-        }
-    }
-}
-
-fn copy_of(alloc: Global, batch: &Batch) -> Result<Batch, NoMemory>
-    ensures { IfOk result (λ copy. copy ≡ batch.now) }
-{
-    let mut entries = Entries::with_capacity(alloc, batch.entries.len())?;
-    for entry in batch.entries.as_slice() {
-        let copy = copy_of_entry(alloc, entry)?;
-        if entries.push(copy).is_err() {
-            return Err(NoMemory);
-        }
-    }
-    Ok(Batch {
-        first: batch.first,
-        entries,
-    })
-}
-
-/// Copies of the batches that take a number. A merge moves batches into its list and lets repeated ones go, so it
-/// can't share them with the report.
+/// The batches that take a number, whose bytes are shared with those of the report.
 pub(crate) fn counted_of(alloc: Global, batches: &[Batch]) -> Result<Batches, NoMemory>
-    ensures { IfOk result (λ copies. copies ≡ counted batches.now) }
+    ensures { IfOk result (λ shared. shared ≡ counted batches.now) }
 {
-    let mut copies = Batches::new(alloc);
+    let mut counted = Batches::with_capacity(alloc, batches.len())?;
     for batch in batches {
         if count(batch.entries.as_slice()) > 0 {
-            let copy = copy_of(alloc, batch)?;
-            if copies.push(copy).is_err() {
+            let same = batch.share(alloc)?;
+            if counted.push(same).is_err() {
                 return Err(NoMemory);
             }
         }
     }
-    Ok(copies)
+    Ok(counted)
 }

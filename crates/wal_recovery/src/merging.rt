@@ -27,7 +27,7 @@ use crate::reading::read_bytes;
 use crate::reports::{SegReport, SegReports};
 use crate::wals::{FoundWal, FoundWals};
 use batch_repr::{Batch, Batches};
-use block_record::read_out;
+use block_record::read_out_shared;
 use disk_face::Disk;
 use segment_merge::{LenientMerge, MergeFault, SegmentRead, Segments, merge};
 use std::alloc::Global;
@@ -36,14 +36,14 @@ use std::alloc::Global;
 pub(crate) const FIRST_NUMBER: u64 = 10;
 
 /// The report on a segment with these bytes.
-fn report_of(alloc: Global, segment: Found, bytes: &[u8]) -> Result<SegReport, RecoverFault>
-    ensures report { IfOk result (IsReportOf segment bytes.now) }
-    ensures bad { IfErr result (DiskMemoryOr (IsBadIn segment bytes.now)) }
+fn report_of(alloc: Global, segment: Found, bytes: Vec<u8>) -> Result<SegReport, RecoverFault>
+    ensures report { IfOk result (IsReportOf segment bytes.items) }
+    ensures bad { IfErr result (DiskMemoryOr (IsBadIn segment bytes.items)) }
     ensures rose { IfErr result IsNoDisk }
 {
     let Found { side, name, len } = segment;
     let log = (name.wal % (1 << 32)) as u32;
-    let out = read_out(alloc, log, bytes)?;
+    let out = read_out_shared(alloc, log, bytes)?;
     match batches_of(alloc, out.records.as_slice()) {
         Ok(batches) => Ok(SegReport {
             side,
@@ -80,7 +80,7 @@ fn read_segment<D: Disk>(
     ensures bad { IfErr result (λ fault. IsTrue D.tells → IsAsListed (files (D.view disk.old)) segment → DiskMemoryOr (IsBadIn segment (bytes_at (files (D.view disk.old)) (place_of segment))) fault) }
 {
     let bytes = read_bytes(alloc, disk, segment)?;
-    let report = report_of(alloc, segment, bytes.as_slice())?;
+    let report = report_of(alloc, segment, bytes)?;
     let batches = counted_of(alloc, report.batches.as_slice())?;
     if reports.push(report).is_err() {
         return Err(RecoverFault::NoMemory);
@@ -161,11 +161,15 @@ fn merge_wal<D: Disk>(
     }
 }
 
-/// Adds batches behind others, and moves them there.
+/// Adds batches behind others, and moves them there: all at once where there are no others.
 fn append(batches: &mut Batches, more: Batches) -> Result<(), RecoverFault>
     ensures added { OnOk result (batches.new ≡ batches.old ++ more) }
     ensures memory { IfErr result (λ fault. fault ≡ RecoverFault.NoMemory) }
 {
+    if batches.is_empty() {
+        *batches = more;
+        return Ok(());
+    }
     for batch in more.into_vec() {
         if batches.push(batch).is_err() {
             return Err(RecoverFault::NoMemory);

@@ -3,4 +3,4 @@ use Rattle.wal_recovery.specs.Recovering.{counted}
 use Rattle.wal_recovery.proofs.decoding.counted_of.Given as goal
 
 abbrev pub invariant-loop-batch : goal.invariant-loop-batch
-invariant-loop-batch l = l.copies ≡ counted (take l.batch-index l.batches)
+invariant-loop-batch l = l.counted ≡ counted (take l.batch-index l.batches)

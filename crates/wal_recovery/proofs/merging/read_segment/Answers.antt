@@ -16,17 +16,17 @@ returns-in_err-report-clause-bad g c =
     let is : c.from_residual-in_err-report.result ≡ Err c.in_err-report.field-0.0 = search rules in
     subst (λ (r : Result (Unit {0}) RecoverFault). IfErr r (λ fault. IsTrue g.D.Disk.tells → IsAsListed (files (g.D.Disk.view c.args.disk.now)) c.args.segment
     → DiskMemoryOr (IsBadIn c.args.segment (bytes_at (files (g.D.Disk.view c.args.disk.now)) (place_of c.args.segment))) fault)) (sym is)
-    (λ told listed. subst (λ (bytes : List ℕ). DiskMemoryOr (IsBadIn c.args.segment bytes) c.in_err-report.field-0.0) (c.as_slice.ensures.value ∙ c.in_ok-bytes.ensures.bytes told listed) c.in_err-report.ensures.bad)
+    (λ told listed. subst (λ (bytes : List ℕ). DiskMemoryOr (IsBadIn c.args.segment bytes) c.in_err-report.field-0.0) (c.in_ok-bytes.ensures.bytes told listed) c.in_err-report.ensures.bad)
 
 pub returns-clause-added : goal.returns-clause-added
 returns-clause-added g c =
     let reports : c.push.new.self ≡ c.args.reports.now ++ c.in_ok-report.report ∷ [] = ok_of c.push.result _ (sym c.if-is_err.ensures.value) c.push.ensures.ok in
     let pushed : c.push-2.new.self ≡ c.args.row.now ++ record { index = c.args.index; batches = c.in_ok-batches.batches } ∷ [] = ok_of c.push-2.result _ (sym c.if-is_err-2.ensures.value) c.push-2.ensures.ok in
-    let copies : c.in_ok-batches.batches ≡ counted c.in_ok-report.report.batches = c.in_ok-batches.ensures ∙ ap counted c.as_slice-2.ensures in
+    let copies : c.in_ok-batches.batches ≡ counted c.in_ok-report.report.batches = c.in_ok-batches.ensures ∙ ap counted c.as_slice.ensures in
     record {
       report = c.in_ok-report.report;
       reports = reports;
       rows = pushed ∙ ap (λ (b : List Batch). c.args.row.now ++ record { index = c.args.index; batches = b } ∷ []) copies;
       numbered = counted_numbered c.in_ok-report.ensures.report.records c.in_ok-report.report.batches c.in_ok-report.ensures.report.batches;
-      holds = λ told listed. subst (λ (bytes : List ℕ). IsReportOf c.args.segment bytes c.in_ok-report.report) (c.as_slice.ensures.value ∙ c.in_ok-bytes.ensures.bytes told listed) c.in_ok-report.ensures.report;
+      holds = λ told listed. subst (λ (bytes : List ℕ). IsReportOf c.args.segment bytes c.in_ok-report.report) (c.in_ok-bytes.ensures.bytes told listed) c.in_ok-report.ensures.report;
     }
