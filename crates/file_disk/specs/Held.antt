@@ -7,7 +7,6 @@ use Rattle.file_disk.specs.declared.directory.Target.TheVariants.{Open, Path}
 use Rattle.file_disk.specs.declared.directory.Task.{Task}
 use Rattle.file_disk.specs.declared.directory.Task.TheVariants.{Create, Append, Sync}
 use Rattle.file_disk.specs.declared.directory.Started.{Started}
-use Rattle.file_disk.specs.declared.directory.Handle.{Handle}
 use Rattle.file_disk.specs.declared.directory.Directory.{Directory}
 use Rattle.file_disk.specs.Paths.{path_text}
 

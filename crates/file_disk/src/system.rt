@@ -16,6 +16,9 @@ use wal_base::Buf;
 /// The last place that a file of the system can have.
 const LAST_PLACE: u64 = (1 << 63) - 1;
 
+/// How many bytes of a segment are read from the system at once.
+const PIECE: usize = 1 << 16;
+
 /// A path as the system takes it. It is ASCII, so there is no error.
 fn text_of(path: &Buf) -> io::Result<&str> {
     std::str::from_utf8(path.as_slice()).map_err(|_| ErrorKind::InvalidFilename.into())
@@ -141,20 +144,28 @@ pub fn read<R: Files + AllocGlobal>(
         Err(error) if is_absent(rt, path, error.kind()) => return Ok(0),
         Err(error) => return Err(refusal(error)),
     };
-    let mut bytes = Vec::new(rt.alloc());
     file.seek(SeekFrom::Start(at)).map_err(refusal)?;
-    file.take(buf.len() as u64)
-        .read_to_end(&mut bytes)
-        .map_err(refusal)?;
-    Ok(copy_front(bytes.as_slice(), buf))
+    let mut piece = Vec::new(rt.alloc());
+    fill(&mut file, &mut piece, buf).map_err(refusal)
 }
 
-/// Copies as much as both hold to the front of the buffer, and answers how much.
-fn copy_front(bytes: &[u8], buf: &mut [u8]) -> usize
-    ensures within { result ≤ length buf.new }
-    ensures behind { drop result buf.new ≡ drop result buf.old }
+/// Reads to the front of the buffer until it is full or the input ends. What is read stands in a piece of memory first:
+/// the system does not say what it leaves of a buffer behind the bytes that it reads.
+fn fill<I: Read>(input: &mut I, piece: &mut Vec<u8>, buf: &mut [u8]) -> io::Result<usize>
+    ensures within { IfOk result (λ n. n ≤ length buf.new) }
+    ensures behind { IfOk result (λ n. drop n buf.new ≡ drop n buf.old) }
 {
-    let count = bytes.len().min(buf.len());
-    buf[..count].copy_from_slice(&bytes[..count]);
-    count
+    let mut filled = 0;
+    while filled < buf.len() {
+        piece.clear();
+        let room = (buf.len() - filled).min(PIECE);
+        input.by_ref().take(room as u64).read_to_end(piece)?;
+        let count = piece.len().min(room);
+        if count == 0 {
+            break;
+        }
+        buf[filled..filled + count].copy_from_slice(&piece[..count]);
+        filled += count;
+    }
+    Ok(filled)
 }

@@ -1,4 +1,4 @@
-use Rattle.std.proofs.Common.{◌≡◌, sym, subst, ap, ◌∙◌}
+use Rattle.std.proofs.Common.{sym, subst, ap, ◌∙◌}
 use Rattle.disk_face.specs.View.{DiskView}
 use Rattle.disk_face.specs.Calls.{GoesOn, Ends}
 use Rattle.file_disk.specs.Flights.{file_view}
