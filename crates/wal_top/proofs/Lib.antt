@@ -9,6 +9,7 @@ pub mod Unrecovering
 pub mod Shown
 pub mod Coming
 pub mod HavingSaid
+mod Letting
 pub mod Counting
 pub mod Endings
 pub mod Going

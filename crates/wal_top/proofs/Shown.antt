@@ -24,9 +24,9 @@ module _ (tells : Bool) (old new : DiskView) (batches shown : List Batch) (next 
       subst (ShowsStore tells old new Done) (sym (printed ∙ ap (λ (bs : List Batch). lines ++ recovered_end (length bs) next) is ∙ ap (λ (n : ℕ). lines ++ recovered_end (length batches) n) ends))
       (store batches lines recovers (subst (λ (bs : List Batch). IsStoreText bs lines) is is_store) only rested)
 
-pub segments_shown : (tells : Bool) (old new : DiskView) (batches : List Batch) (reports read : List SegReport) (count next : ℕ) (lines text : List ℕ) → read ≡ reports → count ≡ length batches → next ≡ end_after FIRST batches
-    → (IsTrue tells → RecoversLenient (directories old) batches) → (IsTrue tells → AreReports (directories old) reports) → SameDisk old new → lines ≡ segments_text read → text ≡ lines ++ recovered_end count next → ShowsSegments tells old new Done text
-segments_shown tells old new batches reports read count next lines text is few ends recovers are same printed whole =
+pub segments_shown : (tells : Bool) (old new : DiskView) (batches : List Batch) (reports : List SegReport) (count next : ℕ) (lines text : List ℕ) → count ≡ length batches → next ≡ end_after FIRST batches
+    → (IsTrue tells → RecoversLenient (directories old) batches) → (IsTrue tells → AreReports (directories old) reports) → SameDisk old new → lines ≡ segments_text reports → text ≡ lines ++ recovered_end count next → ShowsSegments tells old new Done text
+segments_shown tells old new batches reports count next lines text few ends recovers are same printed whole =
     subst (ShowsSegments tells old new Done)
-    (sym (whole ∙ ap (λ (l : List ℕ). l ++ recovered_end count next) (printed ∙ ap segments_text is) ∙ ap (λ (n : ℕ). segments_text reports ++ recovered_end n next) few ∙ ap (λ (n : ℕ). segments_text reports ++ recovered_end (length batches) n) ends))
+    (sym (whole ∙ ap (λ (l : List ℕ). l ++ recovered_end count next) printed ∙ ap (λ (n : ℕ). segments_text reports ++ recovered_end n next) few ∙ ap (λ (n : ℕ). segments_text reports ++ recovered_end (length batches) n) ends))
     (segments batches reports recovers are same)

@@ -17,7 +17,7 @@ use disk_face::Disk;
 use std::alloc::Global;
 use text_lines::{SegmentLine, put_batch, put_recovered_end, put_segment, put_store};
 use wal_base::{Buf, NoMemory};
-use wal_recovery::{Mode, SegReport, recover};
+use wal_recovery::{Mode, Recovered, SegReport, SegReports, recover};
 
 /// The text of a store.
 fn store_text(alloc: Global, batches: &[Batch], next: u64) -> Result<Buf, NoMemory>
@@ -47,29 +47,37 @@ pub(crate) fn store_said<D: Disk>(alloc: Global, disk: &mut D) -> Result<Said, N
     }
 }
 
-/// Adds what is said of a segment and its batches.
-fn put_report(text: &mut Buf, report: &SegReport) -> Result<(), NoMemory>
-    ensures { OnOk result (text.new ≡ text.old ++ report_lines report.now) }
+/// Adds what is said of a segment and its batches. Each batch is let go once its lines stand.
+fn put_report(text: &mut Buf, report: SegReport) -> Result<(), NoMemory>
+    ensures { OnOk result (text.new ≡ text.old ++ report_lines report) }
 {
+    let SegReport {
+        side,
+        name,
+        len,
+        ends_at,
+        torn,
+        batches,
+    } = report;
     let line = SegmentLine {
-        side: report.side,
-        name: report.name,
-        len: report.len,
-        ends_at: report.ends_at,
-        torn: report.torn,
+        side,
+        name,
+        len,
+        ends_at,
+        torn,
     };
-    put_segment(text, &line, report.batches.len())?;
-    for batch in report.batches.as_slice() {
-        put_batch(text, batch)?;
+    put_segment(text, &line, batches.len())?;
+    for batch in batches.into_vec() {
+        put_batch(text, &batch)?;
     }
     Ok(())
 }
 
 /// The lines of all segments.
-fn put_reports(text: &mut Buf, reports: &[SegReport]) -> Result<(), NoMemory>
-    ensures { OnOk result (text.new ≡ text.old ++ segments_text reports.now) }
+fn put_reports(text: &mut Buf, reports: SegReports) -> Result<(), NoMemory>
+    ensures { OnOk result (text.new ≡ text.old ++ segments_text reports) }
 {
-    for report in reports {
+    for report in reports.into_vec() {
         put_report(text, report)?;
     }
     Ok(())
@@ -86,9 +94,18 @@ pub(crate) fn segments_said<D: Disk>(alloc: Global, disk: &mut D) -> Result<Said
 {
     match recover(alloc, disk, Mode::Lenient) {
         Ok(found) => {
+            let Recovered {
+                batches,
+                next,
+                segments,
+                ..
+            } = found;
+            // Only their number is printed. They hold the segments' bytes, which are to go as the text grows.
+            let count = batches.len();
+            drop(batches);
             let mut text = Buf::new(alloc)?;
-            put_reports(&mut text, found.segments.as_slice())?;
-            put_recovered_end(&mut text, found.batches.len(), found.next)?;
+            put_reports(&mut text, segments)?;
+            put_recovered_end(&mut text, count, next)?;
             Ok(Said {
                 status: Status::Done,
                 text,
