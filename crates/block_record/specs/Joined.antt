@@ -1,6 +1,6 @@
 -- Records as places in the bytes of their segment, whose fragments are joined where they stand.
-use Rattle.std.specs.Prelude.{◌≡◌, ℕ, ◌+◌, ◌≤◌, List, length, drop, map}
-use Rattle.std.specs.List.{All, slice_range}
+use Rattle.std.specs.Prelude.{◌≡◌, ℕ, ◌+◌, ◌-◌, ◌≤◌, List, [], ◌∷◌, length, drop, map}
+use Rattle.std.specs.List.{slice_range}
 use Rattle.crc_chunk.specs.declared.chunk.ChunkKind.{ChunkKind}
 use Rattle.crc_chunk.specs.declared.chunk.TheConstants.{HEADER}
 use Rattle.block_record.specs.declared.records.Rec.{Rec}
@@ -23,18 +23,29 @@ fragment bytes at end = slice_range bytes (at + HEADER) end
 abbrev pub link_in : List ℕ → ChunkKind → ℕ → ℕ → Link
 link_in bytes kind at end = record { kind = kind; payload = fragment bytes at end }
 
+-- the record whose bytes stand there in a segment of which these bytes were cut off
+abbrev pub rec_behind : ℕ → List ℕ → Place → Rec
+rec_behind cut bytes place = record { at = place.at; bytes = slice_range bytes (place.from - cut) (place.to - cut) }
+
 -- The place begins before it ends, and ends by here.
 pub record EndsBy (end : ℕ) (place : Place) : Type 0 where
   pub order : place.from ≤ place.to
   pub below : place.to ≤ end
 
--- Each place lies within the bytes.
-abbrev pub StandIn : List ℕ → List Place → Type 0
-StandIn bytes places = All (EndsBy (length bytes)) places
+-- The place begins at the first of these or behind it, and ends by the second.
+pub record StandsBetween (start end : ℕ) (place : Place) : Type 0 where
+  pub above : start ≤ place.from
+  pub order : place.from ≤ place.to
+  pub below : place.to ≤ end
 
--- Each whole record lies before the rest, and that lies within the bytes.
+-- The places lie between these two, and each behind the one before it.
+abbrev pub AreApart : ℕ → ℕ → List Place → Type 0
+AreApart start end [] = start ≤ end
+AreApart start end (place ∷ places) = StandsBetween start end place × AreApart place.to end places
+
+-- Each whole record lies behind the one before it, the rest behind them, and that within the bytes.
 pub record IsApart (bytes : List ℕ) (whole : List Place) (rest : Place) : Type 0 where
-  pub before : All (EndsBy rest.from) whole
+  pub before : AreApart 0 rest.from whole
   pub within : EndsBy (length bytes) rest
 
 -- The bytes from this place on are as they were, and there are as many bytes as before.

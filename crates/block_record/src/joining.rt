@@ -1,9 +1,10 @@
 //! What was read of a segment so far, as places in its bytes. The fragments of a record are joined where they stand.
 
-ghost use Rattle.std.specs.Prelude.{◌≡◌, ◌+◌, ◌≤◌, length, map, IfOk, OnOk};
+ghost use Rattle.std.specs.Prelude.{◌≡◌, ◌+◌, ◌-◌, ◌≤◌, ◌++◌, length, map, IfOk, OnOk};
+ghost use Rattle.std.specs.List.{All};
 ghost use Rattle.crc_chunk.specs.declared.chunk.ChunkKind.TheVariants.{First, Middle};
 ghost use Rattle.block_record.specs.ReadOut.{nothing, ended, after_link};
-ghost use Rattle.block_record.specs.Joined.{rec_in, StandIn, SameBehind, link_in};
+ghost use Rattle.block_record.specs.Joined.{rec_in, rec_behind, AreApart, StandsBetween, SameBehind, link_in};
 
 use crate::records::{ReadOut, Rec, Records};
 use crc_chunk::{ChunkKind, HEADER};
@@ -43,20 +44,70 @@ impl Model for Joining {
     ghost invariant = { λ a. IsApart a.bytes.items a.whole.items a.rest };
 }
 
-/// The records that stand at these places of a segment, as parts of its bytes.
-fn parts_of(alloc: Global, segment: &Blob, places: &[Place]) -> Result<Records, NoMemory>
-    requires { StandIn segment.now places.now }
-    ensures { IfOk result (λ records. records ≡ map (rec_in segment.now) places.now) }
+/// How long a piece of a segment is that records share, where the segment is that long. A piece stays in memory until
+/// the last of its records is dropped, so it is small beside a segment; each costs a cut, so it is not smaller.
+const PIECE: usize = 1 << 20;
+
+/// How many pieces are cut off a segment at most: a longer segment has longer pieces. Each is cut off in a call within
+/// the call for the one behind it, so this bounds the stack.
+const PIECES: usize = 256;
+
+/// The first record of the last piece: the last record that has `size` bytes from its front on, or the first.
+fn last_piece(places: &[Place], end: usize, size: usize) -> usize
+    ensures { result ≤ length places.now - 1 }
 {
-    let mut records = Records::with_capacity(alloc, places.len())?;
+    places
+        .iter()
+        .rposition(|place| end.saturating_sub(place.from) >= size)
+        .unwrap_or(0)
+}
+
+/// Adds the records that stand at these places, as parts of the piece of the segment that was cut off there.
+fn add_parts(
+    piece: &Blob,
+    cut: usize,
+    places: &[Place],
+    records: &mut Records,
+) -> Result<(), NoMemory>
+    requires { All (StandsBetween cut (cut + length piece.now)) places.now }
+    ensures { OnOk result (records.new ≡ records.old ++ map (rec_behind cut piece.now) places.now) }
+{
     for place in places {
-        let bytes = segment.part(place.from, place.to)?;
+        let bytes = piece.part(place.from - cut, place.to - cut)?;
         let at = place.at as u64;
         if records.push(Rec { at, bytes }).is_err() {
             return Err(NoMemory);
         }
     }
-    Ok(records)
+    Ok(())
+}
+
+/// Adds the records that stand at these places of a segment, as parts of pieces of it.
+///
+/// The pieces are cut off from the back, and what is left gives back the memory of each before the next is cut off: so
+/// no more than a piece is held twice.
+fn add_shared(
+    alloc: Global,
+    bytes: Vec<u8>,
+    places: &[Place],
+    size: usize,
+    records: &mut Records,
+) -> Result<(), NoMemory>
+    requires { AreApart 0 (length bytes.items) places.now }
+    ensures { OnOk result (records.new ≡ records.old ++ map (rec_in bytes.items) places.now) }
+{
+    let mut front = bytes;
+    let first = last_piece(places, front.len(), size);
+    if first == 0 {
+        let piece = Blob::of_vec(alloc, front)?;
+        return add_parts(&piece, 0, places, records);
+    }
+    let cut = places[first].from;
+    let tail = front.split_off(cut)?;
+    front.shrink_to_fit();
+    add_shared(alloc, front, &places[..first], size, records)?;
+    let piece = Blob::of_vec(alloc, tail)?;
+    add_parts(&piece, cut, &places[first..], records)
 }
 
 impl Joining {
@@ -157,20 +208,23 @@ impl Joining {
         }
     }
 
-    /// Gives the whole records, which share the segment's bytes.
+    /// Gives the whole records, which share the segment's bytes a piece at a time.
     pub fn into_read_out(self, alloc: Global, torn: bool) -> Result<ReadOut, NoMemory>
         ensures records { IfOk result (λ out. out.records ≡ self.spelled.records) }
         ensures ends_at { IfOk result (λ out. out.ends_at ≡ self.spelled.ends_at) }
         ensures torn { IfOk result (λ out. out.torn ≡ torn) }
     {
         let Joining {
-            bytes,
+            mut bytes,
             whole,
             ends_at,
-            ..
+            rest,
         } = self;
-        let segment = Blob::of_vec(alloc, bytes)?;
-        let records = parts_of(alloc, &segment, &whole)?;
+        bytes.truncate(rest.from);
+        bytes.shrink_to_fit();
+        let size = PIECE.max(bytes.len() / PIECES);
+        let mut records = Records::with_capacity(alloc, whole.len())?;
+        add_shared(alloc, bytes, &whole, size, &mut records)?;
         Ok(ReadOut {
             records,
             ends_at: ends_at as u64,
