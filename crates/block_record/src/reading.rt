@@ -101,8 +101,9 @@ fn is_torn(is_open: bool, rest: &[u8]) -> bool
 
 /// Reads a segment of this log number, and lets the records share its bytes.
 ///
-/// It reads what `read_out` reads, and copies no record: each is a part of the bytes that were passed. The fragments
-/// of a record that goes over several chunks are moved together in them.
+/// It reads what `read_out` reads, and holds the bytes that were passed but once, save for a piece of about a mebibyte:
+/// the fragments of a record that goes over several chunks are moved together in them, and then they are cut into such
+/// pieces. Records share the piece that they stand in, and its memory comes back with the last of them.
 pub fn read_out_shared(alloc: Global, log: u32, bytes: Vec<u8>) -> Result<ReadOut, NoMemory>
     ensures { IfOk result (λ out. ReadsOut bytes.items log out.records out.ends_at out.torn) }
 {
