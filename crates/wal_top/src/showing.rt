@@ -39,10 +39,20 @@ pub(crate) fn store_said<D: Disk>(alloc: Global, disk: &mut D) -> Result<Said, N
     ensures shows { IfOk result (λ said. ShowsStore D.tells (D.view disk.old) (D.view disk.new) said.status said.text) }
 {
     match recover(alloc, disk, Mode::Strict) {
-        Ok(found) => Ok(Said {
-            status: Status::Done,
-            text: store_text(alloc, found.batches.as_slice(), found.next)?,
-        }),
+        Ok(found) => {
+            let Recovered {
+                batches,
+                next,
+                segments,
+                ..
+            } = found;
+            // The reports have lists of their own, which nothing here reads.
+            drop(segments);
+            Ok(Said {
+                status: Status::Done,
+                text: store_text(alloc, batches.as_slice(), next)?,
+            })
+        }
         Err(fault) => unrecovered(alloc, fault),
     }
 }
