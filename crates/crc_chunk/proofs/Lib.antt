@@ -1,4 +1,5 @@
 mod Vectors
+mod Limits
 pub mod Steps
 pub mod Entries
 pub mod Words
