@@ -1,5 +1,5 @@
--- What a replay comes to behind a recovery, told of the disk as it was before.
-use Rattle.std.proofs.Common.{◌≡◌, ◌≢◌, ◌⊎◌, inl, inr, ℕ, suc, ◌≤◌, Bool, true, false, List, [], length, Option, Some, None, IsTrue, refl, sym, ap, ◌∙◌, arith, subst}
+-- What a replay does behind a recovery, told of the disk as it was before.
+use Rattle.std.proofs.Common.{◌≡◌, ◌⊎◌, inl, inr, ℕ, suc, ◌≤◌, Bool, true, false, List, [], length, Option, Some, None, IsTrue, refl, sym, ap, ◌∙◌, arith, subst}
 use Rattle.batch_repr.specs.declared.batch.Batch.{Batch}
 use Rattle.batch_repr.specs.Batches.{end_after}
 use Rattle.disk_face.specs.declared.Side.{Side}
@@ -13,19 +13,17 @@ use Rattle.failover_writer.specs.Answered.{FaultsRose}
 use Rattle.failover_writer.specs.Keeping.{RecoversTo}
 use Rattle.failover_writer.proofs.Opening.{read_synced, rested_synced, recovered_opens}
 use Rattle.wal_recovery.specs.Listing.{Stored, StandsIn, name_in, IsNextWal}
-use Rattle.wal_recovery.specs.declared.reports.Mode.TheVariants.{Strict}
 use Rattle.wal_recovery.specs.Recovering.{Recovers}
 use Rattle.wal_recovery.specs.Resting.{AreSegmentsStable, IsAsOrSynced, OnlySynced}
 use Rattle.wal_top.specs.declared.script.Act.{Act}
 use Rattle.wal_top.specs.declared.replies.JournalEnd.{JournalEnd}
 use Rattle.wal_top.specs.declared.status.Status.{Status}
-use Rattle.wal_top.specs.declared.status.Status.TheVariants.{Read}
 use Rattle.wal_top.specs.Replay.{FIRST}
 use Rattle.wal_top.specs.declared.replaying.TheConstants.{LAST_WAL}
 use Rattle.wal_top.specs.Log.{directories, OthersStay, PollsLeft, EndsAs, LogsBatches}
 use Rattle.wal_top.specs.Journaling.{OthersSame, HasEnded}
-use Rattle.wal_top.specs.Outcomes.{Unrecovered, failed, refused}
-use Rattle.wal_top.specs.Doing.{IsShort, status_after, ReplaysOver, ReplaysActs, ComesTo, unrecovered, last_wal, dead, limited, committed, ScriptComesTo, bad_line, asked}
+use Rattle.wal_top.specs.Outcomes.{ReplaysActs}
+use Rattle.wal_top.specs.Doing.{ReplaysOver}
 
 -- ---- nothing was sent to a segment of the next WAL
 
@@ -97,29 +95,19 @@ module _ (old mid new : DiskView) (wal : ℕ) (tells : Bool) (only : IsTrue tell
         stable = λ told rested side name f listed other is. stable told rested side name f listed (sym (ended.others told (segment side name) other) ∙ is);
       }
 
-  pub comes_since : (acts : List Act) (base : List Batch) (status : Status) (text : List ℕ) → (IsTrue tells → IsRested (files old) → AreSegmentsStable (files mid)) → wal ≤ LAST_WAL → GoesOn old mid → (IsTrue tells → Recovers (directories old) base) → (IsTrue tells → IsNextWal (directories old) wal)
-      → ReplaysOver base acts wal tells mid new status text → ComesTo acts tells old new status text
-  comes_since acts base status text stable within goes recovers next r = by r.end.died refl r.limited refl
-    where
-      replays : ReplaysActs acts tells old new r.batches r.end text
-      replays = record {
-        base = base;
-        recovers = recovers;
-        answers = r.answers;
-        ends = ends_since base r.batches r.end goes r.ended;
-        wal = wal;
-        next = next;
-        of = r.ended.of;
-        logs = logs_since base r.batches r.end goes r.ended stable within next recovers;
-      }
-
-      as_status : (d l : Bool) → r.end.died ≡ d → r.limited ≡ l → ComesTo acts tells old new (status_after d l) text → ComesTo acts tells old new status text
-      as_status d l is also comes = subst (λ (s : Status). ComesTo acts tells old new s text) (sym (r.status_is ∙ ap (λ (b : Bool). status_after b r.limited) is ∙ ap (status_after d) also)) comes
-
-      by : (d : Bool) → r.end.died ≡ d → (l : Bool) → r.limited ≡ l → ComesTo acts tells old new status text
-      by true is l also = as_status true l is also (dead r.batches r.end text replays is)
-      by false is true also = as_status false true is also (limited r.batches r.end text replays is (subst (λ (b : Bool). IsShort b acts r.batches) also (r.short is)))
-      by false is false also = as_status false false is also (committed r.batches r.end text replays is (subst (λ (b : Bool). IsShort b acts r.batches) also (r.short is)))
+  -- a replay over what was recovered is a replay of the acts
+  pub replays_since : (acts : List Act) (base : List Batch) (status : Status) (text : List ℕ) → (IsTrue tells → IsRested (files old) → AreSegmentsStable (files mid)) → wal ≤ LAST_WAL → GoesOn old mid → (IsTrue tells → Recovers (directories old) base) → (IsTrue tells → IsNextWal (directories old) wal)
+      → (r : ReplaysOver base acts wal tells mid new status text) → ReplaysActs acts tells old new r.batches r.end text
+  replays_since acts base_ status text stable within goes recovers_ next_ r = record {
+    base = base_;
+    recovers = recovers_;
+    answers = r.answers;
+    ends = ends_since base_ r.batches r.end goes r.ended;
+    wal = wal;
+    next = next_;
+    of = r.ended.of;
+    logs = logs_since base_ r.batches r.end goes r.ended stable within next_ recovers_;
+  }
 
 -- 1 where no segment stands, or 1 more than a segment's WAL
 abbrev IsLeast : DiskView → ℕ → Type 0
@@ -134,19 +122,3 @@ one_next_wal view a b x y = go x.least y.least
     go (inl (e, none)) (inr (n, s, there, f)) = absurd (none n s there)
     go (inr (n, s, there, e)) (inl (f, none)) = absurd (none n s there)
     go (inr (n, s, there, e)) (inr (m, t, stands, f)) = omega (arith, e, f, x.above m t stands, y.above n s there)
-
--- what a script comes to is no fault of the source
-pub never_reads : (script : List ℕ) (tells : Bool) (old new : DiskView) (status : Status) (text : List ℕ) → ScriptComesTo script tells old new status text → status ≢ Read
-never_reads script tells old new _ _ (bad_line number bad same) = λ h. cc
-never_reads script tells old new _ _ (asked acts status text asks comes) = of_acts status text comes
-  where
-    of_disk : (s : Status) (t : List ℕ) → Unrecovered Strict tells old new s t → s ≢ Read
-    of_disk _ _ (failed side rose only rests) = λ h. cc
-    of_disk _ _ (refused fault real is same) = λ h. cc
-
-    of_acts : (s : Status) (t : List ℕ) → ComesTo acts tells old new s t → s ≢ Read
-    of_acts _ _ (unrecovered s t u) = of_disk s t u
-    of_acts _ _ (last_wal base next recovers is past only rests) = λ h. cc
-    of_acts _ _ (dead batches end t r died) = λ h. cc
-    of_acts _ _ (limited batches end t r lives lacks) = λ h. cc
-    of_acts _ _ (committed batches end t r lives all) = λ h. cc

@@ -5,13 +5,14 @@ pub mod Running
 pub mod Closings
 pub mod Telling
 pub mod Saying
-pub mod Unrecovering
-pub mod Shown
 pub mod Coming
-pub mod HavingSaid
+pub mod HasToSay
+pub mod Says
+pub mod ComesExactly
+pub mod TellsScript
+pub mod Leaves
 mod Letting
 pub mod Counting
-pub mod Endings
 pub mod Going
 pub mod Taking
 pub mod LinesSoFar

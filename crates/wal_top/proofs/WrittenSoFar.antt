@@ -2,7 +2,7 @@
 use Rattle.std.proofs.Common.{◌≡◌, ℕ, ◌-◌, List, [], ◌++◌, length, take, drop, Option, Some, None, refl, sym, ap, ◌∙◌, append_assoc}
 use Rattle.std.proofs.lemmas.List.{append-nil, take-append-drop, take_rest}
 use Rattle.wal_base.specs.Told.{told_back}
-use Rattle.wal_top.specs.Outcomes.{Wrote, WrotePart}
+use Rattle.wal_top.specs.Run.{Wrote, WrotePart}
 
 pub record WroteFront (before after : Option (List ℕ)) (text rest : List ℕ) : Type 0 where
   pub front : List ℕ

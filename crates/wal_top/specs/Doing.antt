@@ -1,14 +1,10 @@
 -- How a replay goes on, act by act, and what it comes to. Nothing of it is seen from outside.
-use Rattle.std.specs.Prelude.{◌≡◌, ◌≢◌, ℕ, ◌+◌, ◌<◌, ◌≤◌, Bool, true, false, IsTrue, MatchBool, List, [], ◌∷◌, ◌++◌, length, None, Result, Err}
+use Rattle.std.specs.Prelude.{◌≡◌, ◌≢◌, ℕ, ◌+◌, ◌<◌, ◌≤◌, Bool, true, false, MatchBool, List, [], ◌∷◌, ◌++◌, length, None, Result, Err}
 use Rattle.wal_base.specs.declared.entry.Entry.{Entry}
 use Rattle.batch_repr.specs.declared.batch.Batch.{Batch}
 use Rattle.batch_repr.specs.declared.limits.TheConstants.{NUMBER_MAX}
 use Rattle.batch_repr.specs.Batches.{count_of, end_after, IsContiguous, answer}
-use Rattle.disk_face.specs.View.{DiskView, files, NothingInFlight}
-use Rattle.wal_recovery.specs.declared.reports.Mode.TheVariants.{Strict}
-use Rattle.wal_recovery.specs.Listing.{IsNextWal}
-use Rattle.wal_recovery.specs.Recovering.{Recovers}
-use Rattle.wal_recovery.specs.Resting.{OnlySynced}
+use Rattle.disk_face.specs.View.{DiskView}
 use Rattle.failover_writer.specs.declared.fault.JournalFault.{JournalFault}
 use Rattle.failover_writer.specs.declared.fault.JournalFault.TheVariants.{NoMemory}
 use Rattle.failover_writer.specs.declared.fault.Step.{Step}
@@ -20,15 +16,10 @@ use Rattle.wal_top.specs.declared.script.Act.{Act}
 use Rattle.wal_top.specs.declared.script.Act.TheVariants.{Commit, Get}
 use Rattle.wal_top.specs.declared.replies.JournalEnd.{JournalEnd}
 use Rattle.wal_top.specs.declared.status.Status.{Status}
-use Rattle.wal_top.specs.declared.status.Status.TheVariants.{Done, Script, Disk, Limit}
-use Rattle.wal_top.specs.Cutting.{lines_of}
-use Rattle.wal_top.specs.Script.{IsScript, IsFirstBad}
-use Rattle.wal_top.specs.Printing.{commit_line, limit_line, dead_line, get_line, end_line, bad_line_text, limit_wal_text}
+use Rattle.wal_top.specs.declared.status.Status.TheVariants.{Done, Disk, Limit}
+use Rattle.wal_top.specs.Printing.{commit_line, limit_line, dead_line, get_line, end_line}
 use Rattle.wal_top.specs.Replay.{FIRST, IsReplayText, AllCommitted, LacksBatch}
-use Rattle.wal_top.specs.declared.replaying.TheConstants.{LAST_WAL}
-use Rattle.wal_top.specs.Log.{directories, EndsAs, EndsOf, LogsBatches}
 use Rattle.wal_top.specs.Journaling.{Runs, HasEnded}
-use Rattle.wal_top.specs.Outcomes.{Unrecovered}
 
 -- the batch of these entries, numbered behind the others
 abbrev pub numbered_behind : List Batch → List Entry → Batch
@@ -152,28 +143,3 @@ pub record ReplaysOver (base : List Batch) (acts : List Act) (wal : ℕ) (tells 
   pub answers : IsReplayText base acts batches end text
   pub short : end.died ≡ false → IsShort limited acts batches
   pub ended : HasEnded tells old wal (end_after FIRST base) batches end new
-
--- A replay of the acts over what the directories recover to.
-pub record ReplaysActs (acts : List Act) (tells : Bool) (old new : DiskView) (batches : List Batch) (end : JournalEnd) (text : List ℕ) : Type 0 where
-  pub base : List Batch
-  pub recovers : IsTrue tells → Recovers (directories old) base
-  pub answers : IsReplayText base acts batches end text
-  pub ends : EndsAs (length batches) end old new
-  pub wal : ℕ
-  pub next : IsTrue tells → IsNextWal (directories old) wal
-  pub of : EndsOf tells wal (end_after FIRST base) batches end new
-  pub logs : LogsBatches tells base batches end.acked old new
-
--- What the acts of a script come to over a disk.
-pub data ComesTo (acts : List Act) (tells : Bool) (old new : DiskView) : Status → List ℕ → Type 0 where
-  unrecovered : (status : Status) (text : List ℕ) → Unrecovered Strict tells old new status text → ComesTo acts tells old new status text
-  last_wal : (base : List Batch) (next : ℕ) → (IsTrue tells → Recovers (directories old) base) → (IsTrue tells → IsNextWal (directories old) next) → LAST_WAL < next
-      → (IsTrue tells → OnlySynced (files old) (files new)) → NothingInFlight new → ComesTo acts tells old new Limit limit_wal_text
-  dead : (batches : List Batch) (end : JournalEnd) (text : List ℕ) → ReplaysActs acts tells old new batches end text → IsTrue end.died → ComesTo acts tells old new Disk text
-  limited : (batches : List Batch) (end : JournalEnd) (text : List ℕ) → ReplaysActs acts tells old new batches end text → end.died ≡ false → LacksBatch acts batches → ComesTo acts tells old new Limit text
-  committed : (batches : List Batch) (end : JournalEnd) (text : List ℕ) → ReplaysActs acts tells old new batches end text → end.died ≡ false → AllCommitted acts batches → ComesTo acts tells old new Done text
-
--- What the bytes of a script come to over a disk: they have a first bad line, or they ask for acts.
-pub data ScriptComesTo (script : List ℕ) (tells : Bool) (old new : DiskView) : Status → List ℕ → Type 0 where
-  bad_line : (number : ℕ) → IsFirstBad (lines_of script) number → new ≡ old → ScriptComesTo script tells old new Script (bad_line_text number)
-  asked : (acts : List Act) (status : Status) (text : List ℕ) → IsScript script acts → ComesTo acts tells old new status text → ScriptComesTo script tells old new status text

@@ -9,7 +9,9 @@ pub mod Log
 pub mod Kept
 pub mod Journaling
 pub mod Reading
+pub mod Call
 pub mod Outcomes
+pub mod Run
+pub mod Parts
 pub mod Doing
 pub mod Faults
-pub mod Showing

@@ -1,7 +1,6 @@
--- What a run has to say, and how writing it ends (docs/FORMATS.md, "Statuses").
-use Rattle.std.specs.Prelude.{◌≡◌, ◌⊎◌, ℕ, ◌<◌, Bool, false, IsTrue, List, ◌++◌, length, Option}
+-- What a run has to say, by its status (docs/FORMATS.md, "Statuses").
+use Rattle.std.specs.Prelude.{◌≡◌, ℕ, ◌<◌, Bool, false, IsTrue, List, ◌++◌, length, Option}
 use Rattle.wal_base.specs.Faults.{Rose}
-use Rattle.wal_base.specs.Told.{told_back}
 use Rattle.batch_repr.specs.declared.batch.Batch.{Batch}
 use Rattle.batch_repr.specs.Batches.{end_after}
 use Rattle.disk_face.specs.declared.Side.{Side}
@@ -13,6 +12,7 @@ use Rattle.text_lines.specs.Lines.{recovered_end}
 use Rattle.wal_recovery.specs.declared.reports.Mode.{Mode}
 use Rattle.wal_recovery.specs.declared.reports.SegReport.{SegReport}
 use Rattle.wal_recovery.specs.declared.fault.RecoverFault.{RecoverFault}
+use Rattle.wal_recovery.specs.Listing.{IsNextWal}
 use Rattle.wal_recovery.specs.Recovering.{Recovers, RecoversLenient}
 use Rattle.wal_recovery.specs.Reports.{AreReports}
 use Rattle.wal_recovery.specs.Resting.{OnlySynced, AreSegmentsStable}
@@ -21,33 +21,29 @@ use Rattle.wal_top.specs.declared.status.Status.{Status}
 use Rattle.wal_top.specs.declared.status.Status.TheVariants.{Done, Usage, Script, Read, Write, Disk, Refused, NoMemory, Limit}
 use Rattle.wal_top.specs.declared.script.Act.{Act}
 use Rattle.wal_top.specs.declared.replies.JournalEnd.{JournalEnd}
-use Rattle.wal_top.specs.Words.{IsCommand, IsReplay, IsRecover, IsDump, RecoversIn}
+use Rattle.wal_top.specs.declared.replaying.TheConstants.{LAST_WAL}
+use Rattle.wal_top.specs.Call.{Change, Call, Stays, Rises}
+use Rattle.wal_top.specs.Words.{IsCommand, IsReplay, IsRecover, IsDump, RecoversIn, ReadsSource}
 use Rattle.wal_top.specs.Printing.{usage_text, read_fault_text, too_long_text, bad_line_text, disk_fault_text, refusal_text, limit_wal_text, segments_text}
 use Rattle.wal_top.specs.Replay.{FIRST, IsReplayText, AllCommitted, LacksBatch}
-use Rattle.wal_recovery.specs.Listing.{IsNextWal}
-use Rattle.wal_top.specs.declared.replaying.TheConstants.{LAST_WAL}
 use Rattle.wal_top.specs.Log.{directories, EndsAs, EndsOf, LogsBatches}
 use Rattle.wal_top.specs.Reading.{ReadsScript, ReadsTooMuch, ReadsBadLine}
 
 -- A script of the source was refused with this text: for its length, or for its first bad line.
-pub data RefusesScript (before after : Option (List ℕ)) : List ℕ → Type 0 where
-  too_long : ReadsTooMuch before after → RefusesScript before after too_long_text
-  bad_line : (number : ℕ) → ReadsBadLine before number after → RefusesScript before after (bad_line_text number)
+pub data RefusesScript (left : Change (Option (List ℕ))) : List ℕ → Type 0 where
+  too_long : ReadsTooMuch left.before left.after → RefusesScript left too_long_text
+  bad_line : (number : ℕ) → ReadsBadLine left.before number left.after → RefusesScript left (bad_line_text number)
 
--- The disk is reached: a replay has read and accepted its script, and no other command reads the source.
-pub data ReachesDisk (words : List (List ℕ)) (before after : Option (List ℕ)) : Type 0 where
-  read : (acts : List Act) → IsReplay words → ReadsScript before acts after → ReachesDisk words before after
-  unread : IsRecover words ⊎ IsDump words → after ≡ before → ReachesDisk words before after
+-- The disk is reached: a command that reads a script has read and accepted it, and another has left the source alone.
+pub data ReachesDisk (c : Call) : Type 0 where
+  read : (acts : List Act) → ReadsSource c.words → ReadsScript c.left.before acts c.left.after → ReachesDisk c
+  unread : (ReadsSource c.words → ⊥) → Stays c.left → ReachesDisk c
 
--- The directories were not recovered: a side failed, or they are refused. No file was begun, nothing is in flight, and nothing was done to refused directories.
-pub data Unrecovered (mode : Mode) (tells : Bool) (old new : DiskView) : Status → List ℕ → Type 0 where
-  failed : (side : Side) → Rose (old.faults side) (new.faults side) → (IsTrue tells → OnlySynced (files old) (files new)) → NothingInFlight new → Unrecovered mode tells old new Disk (disk_fault_text side)
-  refused : (fault : RecoverFault) → IsRefusal fault → (IsTrue tells → IsRefusedBy mode (directories old) fault) → SameDisk old new → Unrecovered mode tells old new Refused (refusal_text fault)
+-- ---- what a command does
 
--- The accepted script was replayed over what the directories recover to: these are its batches, this is how their journal ended and
--- the text of the answers, and the journal is left.
-pub record Replays (before after : Option (List ℕ)) (tells : Bool) (old new : DiskView) (acts : List Act) (batches : List Batch) (end : JournalEnd) (text : List ℕ) : Type 0 where
-  pub accepts : ReadsScript before acts after
+-- The acts were replayed over what the directories recover to: these are their batches, this is how their journal ended and the
+-- text of the answers, and the journal is left.
+pub record ReplaysActs (acts : List Act) (tells : Bool) (old new : DiskView) (batches : List Batch) (end : JournalEnd) (text : List ℕ) : Type 0 where
   pub base : List Batch
   pub recovers : IsTrue tells → Recovers (directories old) base
   pub answers : IsReplayText base acts batches end text
@@ -57,78 +53,98 @@ pub record Replays (before after : Option (List ℕ)) (tells : Bool) (old new : 
   pub of : EndsOf tells wal (end_after FIRST base) batches end new
   pub logs : LogsBatches tells base batches end.acked old new
 
+-- The accepted script of the source was replayed so.
+pub record Replays (c : Call) (acts : List Act) (batches : List Batch) (end : JournalEnd) (text : List ℕ) : Type 0 where
+  pub words : IsReplay c.words
+  pub accepts : ReadsScript c.left.before acts c.left.after
+  pub done : ReplaysActs acts c.tells c.disk.before c.disk.after batches end text
+
+-- The last WAL is taken: the script was accepted and the directories recover, but no WAL is next. No file was begun.
+pub record LacksWal (c : Call) (text : List ℕ) : Type 0 where
+  pub words : IsReplay c.words
+  pub acts : List Act
+  pub accepts : ReadsScript c.left.before acts c.left.after
+  pub base : List Batch
+  pub recovers : IsTrue c.tells → Recovers (directories c.disk.before) base
+  pub next : ℕ
+  pub next_is : IsTrue c.tells → IsNextWal (directories c.disk.before) next
+  pub past : LAST_WAL < next
+  pub only_synced : IsTrue c.tells → OnlySynced (files c.disk.before) (files c.disk.after)
+  pub idle : NothingInFlight c.disk.after
+  pub text_is : text ≡ limit_wal_text
+
+-- The store that the directories recover to was shown.
+pub record ShowsStore (c : Call) (text : List ℕ) : Type 0 where
+  pub words : IsRecover c.words
+  pub unread : Stays c.left
+  pub batches : List Batch
+  pub recovers : IsTrue c.tells → Recovers (directories c.disk.before) batches
+  pub store : List ℕ
+  pub store_is : IsStoreText batches store
+  pub text_is : text ≡ store ++ recovered_end (length batches) (end_after FIRST batches)
+  pub only_synced : IsTrue c.tells → OnlySynced (files c.disk.before) (files c.disk.after)
+  pub stable : IsTrue c.tells → IsRested (files c.disk.before) → AreSegmentsStable (files c.disk.after)
+
+-- The segments of the directories were shown, and what their batches are merged to.
+pub record ShowsSegments (c : Call) (text : List ℕ) : Type 0 where
+  pub words : IsDump c.words
+  pub unread : Stays c.left
+  pub batches : List Batch
+  pub recovers : IsTrue c.tells → RecoversLenient (directories c.disk.before) batches
+  pub reports : List SegReport
+  pub reports_are : IsTrue c.tells → AreReports (directories c.disk.before) reports
+  pub text_is : text ≡ segments_text reports ++ recovered_end (length batches) (end_after FIRST batches)
+  pub same : SameDisk c.disk.before c.disk.after
+
+-- ---- what a status says
+
 -- What was done, and its text: a replay of which each batch is committed and synced, the store that was recovered, or the segments that were read.
-pub data IsDone (words : List (List ℕ)) (before after : Option (List ℕ)) (tells : Bool) (old new : DiskView) : List ℕ → Type 0 where
-  replayed : (acts : List Act) (batches : List Batch) (end : JournalEnd) (text : List ℕ) → IsReplay words → Replays before after tells old new acts batches end text → end.died ≡ false → AllCommitted acts batches
-      → IsDone words before after tells old new text
-  recovered : (batches : List Batch) (store : List ℕ) → IsRecover words → after ≡ before → (IsTrue tells → Recovers (directories old) batches) → IsStoreText batches store
-      → (IsTrue tells → OnlySynced (files old) (files new)) → (IsTrue tells → IsRested (files old) → AreSegmentsStable (files new))
-      → IsDone words before after tells old new (store ++ recovered_end (length batches) (end_after FIRST batches))
-  dumped : (batches : List Batch) (reports : List SegReport) → IsDump words → after ≡ before → (IsTrue tells → RecoversLenient (directories old) batches) → (IsTrue tells → AreReports (directories old) reports)
-      → SameDisk old new → IsDone words before after tells old new (segments_text reports ++ recovered_end (length batches) (end_after FIRST batches))
+pub data IsDone (c : Call) (text : List ℕ) : Type 0 where
+  replayed : (acts : List Act) (batches : List Batch) (end : JournalEnd) → Replays c acts batches end text → end.died ≡ false → AllCommitted acts batches → IsDone c text
+  recovered : ShowsStore c text → IsDone c text
+  dumped : ShowsSegments c text → IsDone c text
 
 -- A limit was reached: the script was replayed but for commits that would end past the numbers, or the last WAL is taken.
-pub data IsLimited (words : List (List ℕ)) (before after : Option (List ℕ)) (tells : Bool) (old new : DiskView) : List ℕ → Type 0 where
-  of_numbers : (acts : List Act) (batches : List Batch) (end : JournalEnd) (text : List ℕ) → IsReplay words → Replays before after tells old new acts batches end text → end.died ≡ false → LacksBatch acts batches
-      → IsLimited words before after tells old new text
-  of_wals : (acts : List Act) (base : List Batch) (next : ℕ) → IsReplay words → ReadsScript before acts after → (IsTrue tells → Recovers (directories old) base) → (IsTrue tells → IsNextWal (directories old) next) → LAST_WAL < next
-      → (IsTrue tells → OnlySynced (files old) (files new)) → NothingInFlight new → IsLimited words before after tells old new limit_wal_text
+pub data IsLimited (c : Call) (text : List ℕ) : Type 0 where
+  of_numbers : (acts : List Act) (batches : List Batch) (end : JournalEnd) → Replays c acts batches end text → end.died ≡ false → LacksBatch acts batches → IsLimited c text
+  of_wals : LacksWal c text → IsLimited c text
+
+-- A side failed in recovery, and is named. No file was begun, and nothing is in flight.
+pub record FailsRecovery (c : Call) (text : List ℕ) : Type 0 where
+  pub mode : Mode
+  pub words : RecoversIn c.words mode
+  pub reaches : ReachesDisk c
+  pub side : Side
+  pub failed : Rose (c.disk.before.faults side) (c.disk.after.faults side)
+  pub text_is : text ≡ disk_fault_text side
+  pub only_synced : IsTrue c.tells → OnlySynced (files c.disk.before) (files c.disk.after)
+  pub idle : NothingInFlight c.disk.after
 
 -- The disk failed, and this is the text: in recovery, or so often that the journal of the answered script died.
-pub data FailsDisk (words : List (List ℕ)) (before after : Option (List ℕ)) (tells : Bool) (old new : DiskView) : List ℕ → Type 0 where
-  in_recovery : (mode : Mode) (text : List ℕ) → RecoversIn words mode → ReachesDisk words before after → Unrecovered mode tells old new Disk text → FailsDisk words before after tells old new text
-  dead : (acts : List Act) (batches : List Batch) (end : JournalEnd) (text : List ℕ) → IsReplay words → Replays before after tells old new acts batches end text → IsTrue end.died
-      → FailsDisk words before after tells old new text
+pub data FailsDisk (c : Call) (text : List ℕ) : Type 0 where
+  in_recovery : FailsRecovery c text → FailsDisk c text
+  dead : (acts : List Act) (batches : List Batch) (end : JournalEnd) → Replays c acts batches end text → IsTrue end.died → FailsDisk c text
 
--- The directories are refused, with this text.
-pub record RefusesDirectories (words : List (List ℕ)) (before after : Option (List ℕ)) (tells : Bool) (old new : DiskView) (text : List ℕ) : Type 0 where
+-- The directories are refused, with this text. Nothing was done to them.
+pub record RefusesDirectories (c : Call) (text : List ℕ) : Type 0 where
   pub mode : Mode
-  pub recovers : RecoversIn words mode
-  pub reaches : ReachesDisk words before after
-  pub refused : Unrecovered mode tells old new Refused text
+  pub words : RecoversIn c.words mode
+  pub reaches : ReachesDisk c
+  pub fault : RecoverFault
+  pub real : IsRefusal fault
+  pub refused : IsTrue c.tells → IsRefusedBy mode (directories c.disk.before) fault
+  pub text_is : text ≡ refusal_text fault
+  pub same : SameDisk c.disk.before c.disk.after
 
--- What a run has to say by its words, its source and its disk: a status, and the whole text that goes with it.
-pub data HasToSay (words : List (List ℕ)) (before after : Option (List ℕ)) (tells : Bool) (old new : DiskView) : Status → List ℕ → Type 0 where
-  usage : (IsCommand words → ⊥) → after ≡ before → new ≡ old → HasToSay words before after tells old new Usage usage_text
-  read_fault : IsReplay words → new ≡ old → HasToSay words before after tells old new Read read_fault_text
-  no_script : (text : List ℕ) → IsReplay words → new ≡ old → RefusesScript before after text → HasToSay words before after tells old new Script text
-  refused : (text : List ℕ) → RefusesDirectories words before after tells old new text → HasToSay words before after tells old new Refused text
-  failed : (text : List ℕ) → FailsDisk words before after tells old new text → HasToSay words before after tells old new Disk text
-  limited : (text : List ℕ) → IsLimited words before after tells old new text → HasToSay words before after tells old new Limit text
-  done : (text : List ℕ) → IsDone words before after tells old new text → HasToSay words before after tells old new Done text
-
--- The text was written, where the sink tells it.
-abbrev pub Wrote : Option (List ℕ) → Option (List ℕ) → List ℕ → Type 0
-Wrote before after text = after ≡ told_back before text
-
--- A front of the text was written, where the sink tells it.
-pub record WrotePart (before after : Option (List ℕ)) (text : List ℕ) : Type 0 where
-  pub front : List ℕ
-  pub rest : List ℕ
-  pub text_is : text ≡ front ++ rest
-  pub wrote : Wrote before after front
-
--- A part was written of the one text that the run had to say.
-pub record WrotePartOf (words : List (List ℕ)) (left_before left_after : Option (List ℕ)) (tells : Bool) (old new : DiskView) (written_before written_after : Option (List ℕ)) : Type 0 where
-  pub status : Status
-  pub text : List ℕ
-  pub says : HasToSay words left_before left_after tells old new status text
-  pub part : WrotePart written_before written_after text
-
--- A status is answered as it is, unless the sink fails or runs out of memory, or the run does.
-abbrev pub YieldsTo : Status → Status → Type 0
-YieldsTo status given = (given ≡ status) ⊎ ((given ≡ Write) ⊎ (given ≡ NoMemory))
-
--- how writing a text ended: whole, with the status as it was, or within it
-pub data Ended (status : Status) (text : List ℕ) (before after : Option (List ℕ)) : Status → Type 0 where
-  whole : Wrote before after text → Ended status text before after status
-  fault : WrotePart before after text → Ended status text before after Write
-  shortage : WrotePart before after text → Ended status text before after NoMemory
-
--- The run ends before it looks at the disk.
-abbrev pub IsBeforeDisk : Status → Type 0
-IsBeforeDisk status = (status ≡ Usage) ⊎ ((status ≡ Script) ⊎ (status ≡ Read))
-
--- No side of the disk counted a fault.
-abbrev pub IsCalm : DiskView → DiskView → Type 0
-IsCalm old new = (side : Side) → Rose (old.faults side) (new.faults side) → ⊥
+-- What a run has to say, by its status: why, and the whole text that goes with it. A fault or a shortage of the sink comes only once
+-- it is said, and want of memory before says nothing.
+abbrev pub HasToSay : Call → Status → List ℕ → Type 0
+HasToSay c Done text = IsDone c text
+HasToSay c Usage text = (IsCommand c.words → ⊥) × (text ≡ usage_text) × Stays c.disk
+HasToSay c Script text = ReadsSource c.words × RefusesScript c.left text × Stays c.disk
+HasToSay c Read text = ReadsSource c.words × Rises c.source_faults × (text ≡ read_fault_text) × Stays c.disk
+HasToSay c Write text = ⊥
+HasToSay c Disk text = FailsDisk c text
+HasToSay c Refused text = RefusesDirectories c text
+HasToSay c NoMemory text = ⊥
+HasToSay c Limit text = IsLimited c text

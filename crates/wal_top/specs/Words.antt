@@ -23,3 +23,17 @@ IsCommand words = IsReplay words ⊎ (IsRecover words ⊎ IsDump words)
 abbrev pub RecoversIn : List (List ℕ) → Mode → Type 0
 RecoversIn words Strict = IsReplay words ⊎ IsRecover words
 RecoversIn words Lenient = IsDump words
+
+-- ---- what a command may do
+
+-- The command reads a script from the source.
+abbrev pub ReadsSource : List (List ℕ) → Type 0
+ReadsSource words = IsReplay words
+
+-- The command writes a journal.
+abbrev pub HasJournal : List (List ℕ) → Type 0
+HasJournal words = IsReplay words
+
+-- The command starts operations on the disk, if only syncs.
+abbrev pub StartsOperations : List (List ℕ) → Type 0
+StartsOperations words = IsReplay words ⊎ IsRecover words

@@ -6,9 +6,9 @@
 //! which journal is left, by the words, the source and the disk.
 //!
 //! A run goes through the rooms in this order, and writes no text before the last: `words` (which command); of a replay
-//! `reading` (the script's bytes), `script` with `pieces` (its lines), `replaying` (what the directories
-//! recover to) with `replay`, `history` and `replies` (the acts, one after another, over a journal); of the other commands `showing` (the store, or the segments); `said` (which text and status);
-//! `writing` (the text, built whole by then).
+//! `reading` (the script's bytes), `script` with `pieces` (its lines), `replaying` (what the directories recover to) with
+//! `replay`, `history` and `replies` (the acts, one after another, over a journal); of the other commands `showing` (the
+//! store, or the segments); `said` (which text and status); `writing` (the text, built whole by then).
 #![tactic(auto)]
 
 mod gate;

@@ -8,7 +8,8 @@ ghost use Rattle.wal_top.specs.declared.reading.TheConstants.{SCRIPT_MAX};
 ghost use Rattle.wal_top.specs.declared.status.Status.TheVariants as statuses;
 ghost use Rattle.wal_top.specs.Printing.{bad_line_text};
 ghost use Rattle.wal_top.specs.Log.{directories, OthersStay};
-ghost use Rattle.wal_top.specs.Doing.{ComesTo, ScriptComesTo};
+ghost use Rattle.wal_top.specs.Call.{seen};
+ghost use Rattle.wal_top.specs.Parts.{SaysOfActs, SaysOfScript};
 
 use crate::replay::replay;
 use crate::said::{Answered, Said, saying, unrecovered};
@@ -27,8 +28,10 @@ pub const LAST_WAL: u64 = 999_999_999_999;
 fn said_of_acts<D: Disk>(alloc: Global, acts: VecDeque<Act>, mut disk: D) -> Answered<D>
     requires idle { NothingInFlight (D.view disk) }
     ensures goes_on { GoesOn (D.view disk) (D.view result.disk) }
-    ensures others { IsTrue D.tells → (wal : _) → IsNextWal (directories (D.view disk)) wal → OthersStay wal (files (D.view disk)) (files (D.view result.disk)) }
-    ensures comes { IfOk result.said (λ said. ComesTo acts.items D.tells (D.view disk) (D.view result.disk) said.status said.text) }
+    ensures others { IsTrue D.tells → (wal : _) → IsNextWal (directories (D.view disk)) wal
+        → OthersStay wal (files (D.view disk)) (files (D.view result.disk)) }
+    ensures says { let over = seen D.view disk result.disk in
+        IfOk result.said (λ said. SaysOfActs acts.items D.tells over said.status said.text) }
 {
     match recover(alloc, &mut disk, Mode::Strict) {
         Ok(found) => {
@@ -60,8 +63,10 @@ pub(crate) fn said_of<D: Disk>(alloc: Global, script: &[u8], disk: D) -> Answere
     requires within { length script.now ≤ SCRIPT_MAX }
     requires idle { NothingInFlight (D.view disk) }
     ensures goes_on { GoesOn (D.view disk) (D.view result.disk) }
-    ensures others { IsTrue D.tells → (wal : _) → IsNextWal (directories (D.view disk)) wal → OthersStay wal (files (D.view disk)) (files (D.view result.disk)) }
-    ensures comes { IfOk result.said (λ said. ScriptComesTo script.now D.tells (D.view disk) (D.view result.disk) said.status said.text) }
+    ensures others { IsTrue D.tells → (wal : _) → IsNextWal (directories (D.view disk)) wal
+        → OthersStay wal (files (D.view disk)) (files (D.view result.disk)) }
+    ensures says { let over = seen D.view disk result.disk in
+        IfOk result.said (λ said. SaysOfScript script.now D.tells over said.status said.text) }
 {
     match read_script(alloc, script) {
         Ok(acts) => said_of_acts(alloc, acts, disk),

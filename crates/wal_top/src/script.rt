@@ -1,6 +1,7 @@
 //! What the lines of a script ask for.
 
-ghost use Rattle.std.specs.Prelude.{◌≡◌, ◌≢◌, ◌↔◌, ◌≤◌, ◌+◌, ◌++◌, ◌∷◌, [], ℕ, List, Option, codes, length, sum_by, IsTrue, IfSome, IfNone, IfOk, OnOk, IsErrOf};
+ghost use Rattle.std.specs.Prelude.{◌≡◌, ◌≢◌, ◌↔◌, ◌≤◌, ◌+◌, ◌++◌, ◌∷◌, [], ℕ, List, Option};
+ghost use Rattle.std.specs.Prelude.{codes, length, sum_by, IsTrue, IfSome, IfNone, IfOk, OnOk, IsErrOf};
 ghost use Rattle.std.specs.Option.{option_to_list};
 ghost use Rattle.wal_base.specs.declared.entry.Entry.TheVariants.{Set};
 ghost use Rattle.batch_repr.specs.Building.{FitsBatch};

@@ -1,14 +1,15 @@
 //! What the directories hold, printed: the store, or the segments with their batches.
 
-ghost use Rattle.std.specs.Prelude.{◌≡◌, ◌++◌, length, IfOk, OnOk, IsTrue};
-ghost use Rattle.batch_repr.specs.Batches.{end_after};
-ghost use Rattle.disk_face.specs.View.{files, NothingInFlight, AtEachMoment};
+ghost use Rattle.std.specs.Prelude.{◌≡◌, ◌++◌, length, IfOk, OnOk};
+ghost use Rattle.disk_face.specs.View.{NothingInFlight};
 ghost use Rattle.disk_face.specs.Calls.{GoesOn, SameDisk};
 ghost use Rattle.text_lines.specs.Lines.{recovered_end};
 ghost use Rattle.text_lines.specs.Store.{IsStoreText};
-ghost use Rattle.wal_recovery.specs.Resting.{OnlySynced, AddsNoImage};
+ghost use Rattle.wal_top.specs.Call.{seen};
+ghost use Rattle.wal_top.specs.Words.{IsRecover, IsDump};
 ghost use Rattle.wal_top.specs.Printing.{report_lines, segments_text};
-ghost use Rattle.wal_top.specs.Showing.{ShowsStore, ShowsSegments};
+ghost use Rattle.wal_top.specs.Run.{WritesNoJournal};
+ghost use Rattle.wal_top.specs.Parts.{SaysUnread};
 
 use crate::said::{Said, unrecovered};
 use crate::status::Status;
@@ -33,10 +34,9 @@ fn store_text(alloc: Global, batches: &[Batch], next: u64) -> Result<Buf, NoMemo
 pub(crate) fn store_said<D: Disk>(alloc: Global, disk: &mut D) -> Result<Said, NoMemory>
     requires { NothingInFlight (D.view disk.old) }
     ensures goes_on { GoesOn (D.view disk.old) (D.view disk.new) }
-    ensures idle { NothingInFlight (D.view disk.new) }
-    ensures only_synced { IsTrue D.tells → OnlySynced (files (D.view disk.old)) (files (D.view disk.new)) }
-    ensures each_moment { IsTrue D.tells → AtEachMoment ((D.view disk.old).clock) (D.view disk.new) (AddsNoImage (files (D.view disk.old))) }
-    ensures shows { IfOk result (λ said. ShowsStore D.tells (D.view disk.old) (D.view disk.new) said.status said.text) }
+    ensures no_journal { WritesNoJournal D.tells (seen D.view disk.old disk.new) }
+    ensures says { let over = seen D.view disk.old disk.new in
+        IfOk result (λ said. SaysUnread IsRecover D.tells over said.status said.text) }
 {
     match recover(alloc, disk, Mode::Strict) {
         Ok(found) => {
@@ -97,10 +97,10 @@ fn put_reports(text: &mut Buf, reports: SegReports) -> Result<(), NoMemory>
 pub(crate) fn segments_said<D: Disk>(alloc: Global, disk: &mut D) -> Result<Said, NoMemory>
     requires { NothingInFlight (D.view disk.old) }
     ensures goes_on { GoesOn (D.view disk.old) (D.view disk.new) }
-    ensures idle { NothingInFlight (D.view disk.new) }
+    ensures no_journal { WritesNoJournal D.tells (seen D.view disk.old disk.new) }
     ensures same { SameDisk (D.view disk.old) (D.view disk.new) }
-    ensures each_moment { IsTrue D.tells → AtEachMoment ((D.view disk.old).clock) (D.view disk.new) (AddsNoImage (files (D.view disk.old))) }
-    ensures shows { IfOk result (λ said. ShowsSegments D.tells (D.view disk.old) (D.view disk.new) said.status said.text) }
+    ensures says { let over = seen D.view disk.old disk.new in
+        IfOk result (λ said. SaysUnread IsDump D.tells over said.status said.text) }
 {
     match recover(alloc, disk, Mode::Lenient) {
         Ok(found) => {

@@ -2,7 +2,7 @@
 
 ghost use Rattle.std.specs.Prelude.{◌≡◌, IsErrOf, OnOk};
 ghost use Rattle.wal_base.specs.Faults.{HasCause};
-ghost use Rattle.wal_top.specs.Outcomes.{Wrote, WrotePart};
+ghost use Rattle.wal_top.specs.Run.{Wrote, WrotePart};
 
 use wal_base::{PutErr, Sink};
 

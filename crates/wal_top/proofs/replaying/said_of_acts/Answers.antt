@@ -1,22 +1,35 @@
 -- What follows a recovery is told of the disk as it was before.
-use Rattle.std.proofs.Common.{ℕ, refl, subst, arith}
+use Rattle.std.proofs.Common.{ℕ, inl, refl, subst, arith}
 use Rattle.disk_face.specs.View.{files}
 use Rattle.wal_recovery.specs.declared.reports.Mode.TheVariants.{Strict}
 use Rattle.wal_top.specs.declared.status.Status.TheVariants.{Limit}
 use Rattle.wal_top.specs.Printing.{limit_wal_text}
 use Rattle.wal_top.specs.Log.{OthersStay}
-use Rattle.wal_top.specs.Doing.{ComesTo, unrecovered, last_wal}
+use Rattle.wal_top.specs.Call.{Call, seen}
+use Rattle.wal_top.specs.Outcomes.{HasToSay, read, of_wals}
 use Rattle.wal_top.proofs.Saying.{ok_map, as_told}
-use Rattle.wal_top.proofs.Unrecovering.{says_unrecovered}
-use Rattle.wal_top.proofs.Coming.{are_unsent, others_stay, comes_since, one_next_wal}
+use Rattle.wal_top.proofs.HasToSay.{says_unrecovered, says_replayed}
+use Rattle.wal_top.proofs.Coming.{are_unsent, others_stay, replays_since, one_next_wal}
 use Rattle.wal_top.proofs.replaying.said_of_acts.Goals as goal
 
-pub returns-then-found-gt-LAST_WAL-clause-comes : goal.returns-then-found-gt-LAST_WAL-clause-comes
-returns-then-found-gt-LAST_WAL-clause-comes g c =
+pub returns-then-found-gt-LAST_WAL-clause-says : goal.returns-then-found-gt-LAST_WAL-clause-says
+returns-then-found-gt-LAST_WAL-clause-says g c =
     let e = c.in-Ok.ensures in
-    ok_map c.saying.result c.saying.ensures (λ said p.
-    as_told (ComesTo c.args.acts.items g.D.Disk.tells (g.D.Disk.view c.args.disk) (g.D.Disk.view c.recover.new.disk)) said.status Limit said.text limit_wal_text
-    (last_wal c.in-Ok.found.batches c.in-Ok.found.next_wal e.recovered e.next_wal (omega (arith, c.if-found-gt-LAST_WAL.true)) e.files e.idle) p.0 p.1)
+    ok_map c.saying.result c.saying.ensures (λ said p words' left' faults is reads.
+    let call : Call = record { words = words'; left = left'; source_faults = faults; tells = g.D.Disk.tells; disk = seen g.D.Disk.view c.args.disk c.recover.new.disk } in
+    as_told (HasToSay call) said.status Limit said.text limit_wal_text (of_wals (record {
+      words = is;
+      acts = c.args.acts.items;
+      accepts = reads;
+      base = c.in-Ok.found.batches;
+      recovers = e.recovered;
+      next = c.in-Ok.found.next_wal;
+      next_is = e.next_wal;
+      past = omega (arith, c.if-found-gt-LAST_WAL.true);
+      only_synced = e.files;
+      idle = e.idle;
+      text_is = refl;
+    })) p.0 p.1)
 
 pub replay-requires-clause-absent : goal.replay-requires-clause-absent
 replay-requires-clause-absent g c = λ told.
@@ -30,15 +43,21 @@ returns-else-found-gt-LAST_WAL-clause-others g c = λ told wal next.
     subst (λ (n : ℕ). OthersStay n (files v) (files (g.D.Disk.view c.replay.result.disk))) (one_next_wal v c.in-Ok.found.next_wal wal (e.next_wal told) next)
     (others_stay v (g.D.Disk.view c.recover.new.disk) (g.D.Disk.view c.replay.result.disk) c.in-Ok.found.next_wal g.D.Disk.tells e.files c.replay.ensures.others told)
 
-pub returns-else-found-gt-LAST_WAL-clause-comes : goal.returns-else-found-gt-LAST_WAL-clause-comes
-returns-else-found-gt-LAST_WAL-clause-comes g c =
+pub returns-else-found-gt-LAST_WAL-clause-says : goal.returns-else-found-gt-LAST_WAL-clause-says
+returns-else-found-gt-LAST_WAL-clause-says g c =
     let e = c.in-Ok.ensures in
-    ok_map c.replay.result.said c.replay.ensures.replays (λ said p.
-    comes_since (g.D.Disk.view c.args.disk) (g.D.Disk.view c.recover.new.disk) (g.D.Disk.view c.replay.result.disk) c.in-Ok.found.next_wal g.D.Disk.tells e.files c.args.acts.items c.in-Ok.found.batches said.status said.text
-    (λ told. e.stable told refl) c.if-found-gt-LAST_WAL.false e.goes_on e.recovered e.next_wal p)
+    let v = g.D.Disk.view c.args.disk in
+    let mid = g.D.Disk.view c.recover.new.disk in
+    let new = g.D.Disk.view c.replay.result.disk in
+    ok_map c.replay.result.said c.replay.ensures.replays (λ said r words' left' faults is reads.
+    let call : Call = record { words = words'; left = left'; source_faults = faults; tells = g.D.Disk.tells; disk = seen g.D.Disk.view c.args.disk c.replay.result.disk } in
+    says_replayed call c.args.acts.items c.in-Ok.found.batches c.in-Ok.found.next_wal mid said.status said.text is reads r
+    (replays_since v mid new c.in-Ok.found.next_wal g.D.Disk.tells e.files c.args.acts.items c.in-Ok.found.batches said.status said.text
+    (λ told. e.stable told refl) c.if-found-gt-LAST_WAL.false e.goes_on e.recovered e.next_wal r))
 
-pub returns-in-Err-clause-comes : goal.returns-in-Err-clause-comes
-returns-in-Err-clause-comes g c =
+pub returns-in-Err-clause-says : goal.returns-in-Err-clause-says
+returns-in-Err-clause-says g c =
     let e = c.in-Err.ensures in
-    ok_map c.unrecovered.result c.unrecovered.ensures (λ said p.
-    unrecovered said.status said.text (says_unrecovered Strict g.D.Disk.tells (g.D.Disk.view c.args.disk) (g.D.Disk.view c.recover.new.disk) e.files e.idle c.in-Err.fault said.status said.text p e.disk e.refused e.untouched))
+    ok_map c.unrecovered.result c.unrecovered.ensures (λ said p words' left' faults is reads.
+    let call : Call = record { words = words'; left = left'; source_faults = faults; tells = g.D.Disk.tells; disk = seen g.D.Disk.view c.args.disk c.recover.new.disk } in
+    says_unrecovered call Strict (inl is) (read c.args.acts.items is reads) e.files e.idle c.in-Err.fault said.status said.text p e.disk e.refused e.untouched)

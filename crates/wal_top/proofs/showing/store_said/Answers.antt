@@ -1,19 +1,22 @@
 -- What recovery answers, said in words of the store.
-use Rattle.std.proofs.Common.{refl}
+use Rattle.std.proofs.Common.{refl, inr}
 use Rattle.wal_recovery.specs.declared.reports.Mode.TheVariants.{Strict}
-use Rattle.wal_top.specs.Showing.{unrecovered}
+use Rattle.wal_top.specs.Call.{Call, seen}
+use Rattle.wal_top.specs.Outcomes.{unread}
 use Rattle.wal_top.proofs.Saying.{ok_map}
-use Rattle.wal_top.proofs.Unrecovering.{says_unrecovered}
-use Rattle.wal_top.proofs.Shown.{store_shown}
+use Rattle.wal_top.proofs.HasToSay.{says_unrecovered, says_store}
+use Rattle.wal_top.proofs.ComesExactly.{recover_reads_nothing}
 use Rattle.wal_top.proofs.showing.store_said.Goals as goal
 
-pub returns-in_ok-store_text-in-Ok-clause-shows : goal.returns-in_ok-store_text-in-Ok-clause-shows
-returns-in_ok-store_text-in-Ok-clause-shows g c =
+pub returns-in_ok-store_text-in-Ok-clause-says : goal.returns-in_ok-store_text-in-Ok-clause-says
+returns-in_ok-store_text-in-Ok-clause-says g c words' left' faults is stays =
+    let call : Call = record { words = words'; left = left'; source_faults = faults; tells = g.D.Disk.tells; disk = seen g.D.Disk.view c.args.disk.now c.recover.new.disk } in
     let e = c.in-Ok.ensures in
-    store_shown g.D.Disk.tells (g.D.Disk.view c.args.disk.now) (g.D.Disk.view c.recover.new.disk) c.in-Ok.found.batches c.as_slice.result.now c.in-Ok.found.next _ c.as_slice.ensures e.next e.recovered e.files (λ told. e.stable told refl) c.in_ok-store_text-in-Ok.ensures
+    says_store call c.in-Ok.found.batches c.in-Ok.found.next _ e.next stays c.as_slice.result.now c.as_slice.ensures is e.recovered e.files (λ told. e.stable told refl) c.in_ok-store_text-in-Ok.ensures
 
-pub returns-in-Err-clause-shows : goal.returns-in-Err-clause-shows
-returns-in-Err-clause-shows g c =
+pub returns-in-Err-clause-says : goal.returns-in-Err-clause-says
+returns-in-Err-clause-says g c =
     let e = c.in-Err.ensures in
-    ok_map c.unrecovered.result c.unrecovered.ensures (λ said p.
-    unrecovered said.status said.text (says_unrecovered Strict g.D.Disk.tells (g.D.Disk.view c.args.disk.now) (g.D.Disk.view c.recover.new.disk) e.files e.idle c.in-Err.fault said.status said.text p e.disk e.refused e.untouched))
+    ok_map c.unrecovered.result c.unrecovered.ensures (λ said p words' left' faults is stays.
+    let call : Call = record { words = words'; left = left'; source_faults = faults; tells = g.D.Disk.tells; disk = seen g.D.Disk.view c.args.disk.now c.recover.new.disk } in
+    says_unrecovered call Strict (inr is) (unread (recover_reads_nothing words' is) stays) e.files e.idle c.in-Err.fault said.status said.text p e.disk e.refused e.untouched)

@@ -1,25 +1,43 @@
-use Rattle.std.proofs.Common.{List, ℕ, Err, refl, ap, subst}
-use Rattle.wal_top.specs.Outcomes as outcomes
-use Rattle.wal_top.specs.Outcomes.{HasToSay}
-use Rattle.wal_top.specs.Doing.{ScriptComesTo}
+-- What was read decides what is said, and nothing but the journal is left.
+use Rattle.std.proofs.Common.{List, ℕ, Err, inl, refl, ap, subst}
+use Rattle.disk_face.proofs.Moments.{goes_on_from}
+use Rattle.wal_top.specs.Call.{Call, call_of, seen}
+use Rattle.wal_top.specs.Outcomes.{HasToSay, too_long}
+use Rattle.wal_top.specs.Parts.{SaysOfScript}
 use Rattle.wal_top.proofs.Saying.{ok_map, as_told}
-use Rattle.wal_top.proofs.HavingSaid.{says_of_script}
-use Rattle.wal_top.proofs.Coming.{never_reads}
+use Rattle.wal_top.proofs.Leaves.{leaves_journal}
 use Rattle.wal_top.proofs.top.replayed.Goals as goal
 
 pub returns-in-Ok-clause-says : goal.returns-in-Ok-clause-says
 returns-in-Ok-clause-says g c =
-    ok_map c.said_of.result.said c.said_of.ensures.comes (λ said p words is. says_of_script words (g.S.Source.left c.args.src.now) (g.S.Source.left c.read_script_bytes.new.src) g.D.Disk.tells (g.D.Disk.view c.args.disk) (g.D.Disk.view c.said_of.result.disk) c.in-Ok.script is c.in-Ok.ensures.whole c.in-Ok.ensures.within said.status said.text
-    (subst (λ (t : List ℕ). ScriptComesTo t g.D.Disk.tells (g.D.Disk.view c.args.disk) (g.D.Disk.view c.said_of.result.disk) said.status said.text) c.as_slice.ensures p))
-
-pub returns-in-Ok-clause-read : goal.returns-in-Ok-clause-read
-returns-in-Ok-clause-read g c = ok_map c.said_of.result.said c.said_of.ensures.comes (λ said p e. absurd (never_reads _ _ _ _ said.status said.text p e))
+    ok_map c.said_of.result.said c.said_of.ensures.says (λ said p words is.
+    subst (λ (t : List ℕ). SaysOfScript t g.D.Disk.tells (seen g.D.Disk.view c.args.disk c.said_of.result.disk) said.status said.text) c.as_slice.ensures p
+    words (seen g.S.Source.left c.args.src.now c.read_script_bytes.new.src) (seen g.S.Source.faults c.args.src.now c.read_script_bytes.new.src) is c.in-Ok.ensures.whole)
 
 pub returns-in-Err-Fault-clause-says : goal.returns-in-Err-Fault-clause-says
 returns-in-Err-Fault-clause-says g c =
-    ok_map c.saying.result c.saying.ensures (λ said p words is. as_told (HasToSay words _ _ _ _ _) said.status _ said.text _ (outcomes.read_fault is refl) p.0 p.1)
+    ok_map c.saying.result c.saying.ensures (λ said p words' is.
+    let call : Call = call_of words' g.S.Source.left g.S.Source.faults c.args.src.now c.read_script_bytes.new.src g.D.Disk.tells g.D.Disk.view c.args.disk c.args.disk in
+    as_told (HasToSay call) said.status _ said.text _ (is, c.in-Err-Fault.ensures.fault (ap (λ x. Err x) c.in-Err-Fault.field-0-is), refl, refl) p.0 p.1)
 
 pub returns-in-Err-TooLong-clause-says : goal.returns-in-Err-TooLong-clause-says
 returns-in-Err-TooLong-clause-says g c =
-    ok_map c.saying-in-Err-TooLong.result c.saying-in-Err-TooLong.ensures (λ said p words is. as_told (HasToSay words _ _ _ _ _) said.status _ said.text _
-    (outcomes.no_script _ is refl (outcomes.too_long (c.in-Err-TooLong.ensures.too_long (ap (λ x. Err x) c.in-Err-TooLong.field-0-is)))) p.0 p.1)
+    ok_map c.saying-in-Err-TooLong.result c.saying-in-Err-TooLong.ensures (λ said p words' is.
+    let call : Call = call_of words' g.S.Source.left g.S.Source.faults c.args.src.now c.read_script_bytes.new.src g.D.Disk.tells g.D.Disk.view c.args.disk c.args.disk in
+    as_told (HasToSay call) said.status _ said.text _ (is, too_long (c.in-Err-TooLong.ensures.too_long (ap (λ x. Err x) c.in-Err-TooLong.field-0-is)), refl) p.0 p.1)
+
+pub returns-in-Ok-clause-leaves : goal.returns-in-Ok-clause-leaves
+returns-in-Ok-clause-leaves g c words' is =
+    leaves_journal (call_of words' g.S.Source.left g.S.Source.faults c.args.src.now c.read_script_bytes.new.src g.D.Disk.tells g.D.Disk.view c.args.disk c.said_of.result.disk) is c.in-Ok.ensures.took c.said_of.ensures.goes_on c.said_of.ensures.others
+
+pub returns-in-Err-NoMemory-clause-leaves : goal.returns-in-Err-NoMemory-clause-leaves
+returns-in-Err-NoMemory-clause-leaves g c words' is =
+    leaves_journal (call_of words' g.S.Source.left g.S.Source.faults c.args.src.now c.read_script_bytes.new.src g.D.Disk.tells g.D.Disk.view c.args.disk c.args.disk) is c.in-Err-NoMemory.ensures.took (goes_on_from (g.D.Disk.view c.args.disk)) (λ told wal next p elsewhere. inl refl)
+
+pub returns-in-Err-Fault-clause-leaves : goal.returns-in-Err-Fault-clause-leaves
+returns-in-Err-Fault-clause-leaves g c words' is =
+    leaves_journal (call_of words' g.S.Source.left g.S.Source.faults c.args.src.now c.read_script_bytes.new.src g.D.Disk.tells g.D.Disk.view c.args.disk c.args.disk) is c.in-Err-Fault.ensures.took (goes_on_from (g.D.Disk.view c.args.disk)) (λ told wal next p elsewhere. inl refl)
+
+pub returns-in-Err-TooLong-clause-leaves : goal.returns-in-Err-TooLong-clause-leaves
+returns-in-Err-TooLong-clause-leaves g c words' is =
+    leaves_journal (call_of words' g.S.Source.left g.S.Source.faults c.args.src.now c.read_script_bytes.new.src g.D.Disk.tells g.D.Disk.view c.args.disk c.args.disk) is c.in-Err-TooLong.ensures.took (goes_on_from (g.D.Disk.view c.args.disk)) (λ told wal next p elsewhere. inl refl)

@@ -1,0 +1,90 @@
+-- What a run has to say of directories that were not recovered, of a replay over those that were, and of what is shown of them.
+use Rattle.std.proofs.Common.{◌≡◌, ℕ, Bool, true, false, List, ◌++◌, length, IsTrue, refl, sym, ap, ◌∙◌, subst}
+use Rattle.batch_repr.specs.declared.batch.Batch.{Batch}
+use Rattle.disk_face.specs.View.{DiskView, files, NothingInFlight}
+use Rattle.batch_repr.specs.Batches.{end_after}
+use Rattle.disk_face.specs.Image.{IsRested}
+use Rattle.disk_face.specs.Calls.{SameDisk}
+use Rattle.text_lines.specs.Store.{IsStoreText}
+use Rattle.text_lines.specs.Lines.{recovered_end}
+use Rattle.wal_recovery.specs.declared.reports.SegReport.{SegReport}
+use Rattle.wal_recovery.specs.Recovering.{Recovers, RecoversLenient}
+use Rattle.wal_recovery.specs.Reports.{AreReports}
+use Rattle.wal_recovery.specs.declared.reports.Mode.{Mode}
+use Rattle.wal_recovery.specs.declared.fault.RecoverFault.{RecoverFault}
+use Rattle.wal_recovery.specs.declared.fault.RecoverFault.TheVariants as faults
+use Rattle.wal_recovery.specs.Resting.{OnlySynced, AreSegmentsStable}
+use Rattle.wal_recovery.specs.Answers.{IsRefusedBy, IsRefusal, FaultRose, DiskMemoryOr}
+use Rattle.wal_top.specs.declared.script.Act.{Act}
+use Rattle.wal_top.specs.declared.status.Status.{Status}
+use Rattle.wal_top.specs.declared.status.Status.TheVariants.{Done, Refused}
+use Rattle.wal_top.specs.Call.{Call, Stays}
+use Rattle.wal_top.specs.Words.{IsReplay, IsRecover, IsDump, RecoversIn}
+use Rattle.wal_top.specs.Printing.{refusal_text, segments_text}
+use Rattle.wal_top.specs.Reading.{ReadsScript}
+use Rattle.wal_top.specs.Replay.{FIRST}
+use Rattle.wal_top.specs.Log.{directories}
+use Rattle.wal_top.specs.Faults.{SaysFault}
+use Rattle.wal_top.specs.Doing.{IsShort, status_after, ReplaysOver}
+use Rattle.wal_top.specs.Outcomes.{ReachesDisk, ReplaysActs, Replays, replayed, recovered, dumped, of_numbers, in_recovery, dead, HasToSay}
+
+-- it has to say so by this status
+as_status : (c : Call) (text : List ℕ) (status said : Status) → status ≡ said → HasToSay c said text → HasToSay c status text
+as_status c text status said is h = subst (λ (s : Status). HasToSay c s text) (sym is) h
+
+module _ (c : Call) (mode : Mode) (words : RecoversIn c.words mode) (reaches : ReachesDisk c) (only : IsTrue c.tells → OnlySynced (files c.disk.before) (files c.disk.after)) (rests : NothingInFlight c.disk.after) where
+  refuses : (fault : RecoverFault) (text : List ℕ) → text ≡ refusal_text fault → IsRefusal fault → (IsTrue c.tells → IsRefusedBy mode (directories c.disk.before) fault) → SameDisk c.disk.before c.disk.after → HasToSay c Refused text
+  refuses why text text_is_ real_ is same_ = record { mode = mode; words = words; reaches = reaches; fault = why; real = real_; refused = is; text_is = text_is_; same = same_ }
+
+  -- a fault of recovery is said by its side, or by why the directories are refused
+  pub says_unrecovered : (fault : RecoverFault) (status : Status) (text : List ℕ) → SaysFault fault status text → FaultRose c.disk.before c.disk.after fault
+      → (IsTrue c.tells → DiskMemoryOr (IsRefusedBy mode (directories c.disk.before)) fault) → (IsRefusal fault → SameDisk c.disk.before c.disk.after) → HasToSay c status text
+  says_unrecovered (faults.Disk side') status text (s, t) rose is same =
+      as_status c text status _ s (in_recovery (record { mode = mode; words = words; reaches = reaches; side = side'; failed = rose; text_is = t; only_synced = only; idle = rests }))
+  says_unrecovered (faults.DuplicateSegment wal index) status text (s, t) rose is same = as_status c text status _ s (refuses (faults.DuplicateSegment wal index) text t tt is (same tt))
+  says_unrecovered (faults.BadBatch wal index place fault) status text (s, t) rose is same = as_status c text status _ s (refuses (faults.BadBatch wal index place fault) text t tt is (same tt))
+  says_unrecovered (faults.Gap wal index expected found) status text (s, t) rose is same = as_status c text status _ s (refuses (faults.Gap wal index expected found) text t tt is (same tt))
+  says_unrecovered (faults.Conflict wal index first) status text (s, t) rose is same = as_status c text status _ s (refuses (faults.Conflict wal index first) text t tt is (same tt))
+  says_unrecovered faults.NoMemory status text says rose is same = absurd says
+
+-- a replay says that its journal died, that a commit has no batch, or that it is done
+pub says_replayed : (c : Call) (acts : List Act) (base : List Batch) (wal : ℕ) (mid : DiskView) (status : Status) (text : List ℕ) → IsReplay c.words → ReadsScript c.left.before acts c.left.after
+    → (r : ReplaysOver base acts wal c.tells mid c.disk.after status text) → ReplaysActs acts c.tells c.disk.before c.disk.after r.batches r.end text → HasToSay c status text
+says_replayed c acts base wal mid status text is reads r replays_acts = as_status c text status (status_after r.end.died r.limited) r.status_is (by r.end.died refl r.limited refl)
+  where
+    all : Replays c acts r.batches r.end text
+    all = record { words = is; accepts = reads; done = replays_acts }
+
+    by : (died : Bool) → r.end.died ≡ died → (limited : Bool) → r.limited ≡ limited → HasToSay c (status_after died limited) text
+    by true e limited l = dead acts r.batches r.end all e
+    by false e true l = of_numbers acts r.batches r.end all e (subst (λ (b : Bool). IsShort b acts r.batches) l (r.short e))
+    by false e false l = replayed acts r.batches r.end all e (subst (λ (b : Bool). IsShort b acts r.batches) l (r.short e))
+
+-- the store and the segments, as recovery answers them and as they are printed
+module _ (c : Call) (batches' : List Batch) (next : ℕ) (text : List ℕ) (ends : next ≡ end_after FIRST batches') (unread' : Stays c.left) where
+  pub says_store : (shown : List Batch) → shown ≡ batches' → IsRecover c.words → (IsTrue c.tells → Recovers (directories c.disk.before) batches') → (IsTrue c.tells → OnlySynced (files c.disk.before) (files c.disk.after))
+      → (IsTrue c.tells → IsRested (files c.disk.before) → AreSegmentsStable (files c.disk.after)) → (lines : List ℕ) × IsStoreText shown lines × (text ≡ lines ++ recovered_end (length shown) next) → HasToSay c Done text
+  says_store shown is words' recovers' only rested (lines, is_store, printed) = recovered (record {
+    words = words';
+    unread = unread';
+    batches = batches';
+    recovers = recovers';
+    store = lines;
+    store_is = subst (λ (bs : List Batch). IsStoreText bs lines) is is_store;
+    text_is = printed ∙ ap (λ (bs : List Batch). lines ++ recovered_end (length bs) next) is ∙ ap (λ (n : ℕ). lines ++ recovered_end (length batches') n) ends;
+    only_synced = only;
+    stable = rested;
+  })
+
+  pub says_segments : (reports : List SegReport) (count : ℕ) (lines : List ℕ) → count ≡ length batches' → IsDump c.words → (IsTrue c.tells → RecoversLenient (directories c.disk.before) batches') → (IsTrue c.tells → AreReports (directories c.disk.before) reports)
+      → SameDisk c.disk.before c.disk.after → lines ≡ segments_text reports → text ≡ lines ++ recovered_end count next → HasToSay c Done text
+  says_segments reports' count lines few words' recovers' are same' printed whole = dumped (record {
+    words = words';
+    unread = unread';
+    batches = batches';
+    recovers = recovers';
+    reports = reports';
+    reports_are = are;
+    text_is = whole ∙ ap (λ (l : List ℕ). l ++ recovered_end count next) printed ∙ ap (λ (n : ℕ). segments_text reports' ++ recovered_end n next) few ∙ ap (λ (n : ℕ). segments_text reports' ++ recovered_end (length batches') n) ends;
+    same = same';
+  })

@@ -1,0 +1,43 @@
+-- What a run leaves, by whether it writes a journal.
+use Rattle.std.proofs.Common.{◌+◌, ℕ, Bool, List, Option, IsTrue, inl, refl}
+use Rattle.disk_face.specs.View.{DiskView, files, NothingInFlight}
+use Rattle.disk_face.specs.Calls.{GoesOn, SameDisk}
+use Rattle.disk_face.proofs.Moments.{goes_on_from, same_from, moments_from}
+use Rattle.wal_recovery.specs.Listing.{IsNextWal}
+use Rattle.wal_recovery.specs.Resting.{AddsNoImage}
+use Rattle.wal_top.specs.declared.reading.TheConstants.{SCRIPT_MAX}
+use Rattle.wal_top.specs.Call.{Call, Stays}
+use Rattle.wal_top.specs.Words.{IsReplay, StartsOperations}
+use Rattle.wal_top.specs.Reading.{TookAtMost}
+use Rattle.wal_top.specs.Log.{directories, OthersStay}
+use Rattle.wal_top.specs.Run.{WritesNoJournal, Leaves}
+use Rattle.wal_top.proofs.Taking.{took_none}
+
+-- by a replay
+pub leaves_journal : (c : Call) → IsReplay c.words → TookAtMost (SCRIPT_MAX + 1) c.left.before c.left.after → GoesOn c.disk.before c.disk.after
+    → (IsTrue c.tells → (wal : ℕ) → IsNextWal (directories c.disk.before) wal → OthersStay wal (files c.disk.before) (files c.disk.after)) → Leaves c
+leaves_journal c words took' goes others' = record {
+  took = took';
+  goes_on = goes;
+  others = others';
+  no_journal = λ none. absurd (none words);
+  starts_nothing = λ none. absurd (none (inl words));
+}
+
+-- by another command, with the source as it was
+pub leaves_no_journal : (c : Call) → Stays c.left → GoesOn c.disk.before c.disk.after → WritesNoJournal c.tells c.disk → ((StartsOperations c.words → ⊥) → SameDisk c.disk.before c.disk.after) → Leaves c
+leaves_no_journal c stays goes none same = record {
+  took = took_none c.left.before c.left.after (SCRIPT_MAX + 1) stays;
+  goes_on = goes;
+  others = λ told wal next p elsewhere. none.only_synced told p;
+  no_journal = λ h. none;
+  starts_nothing = same;
+}
+
+-- by none, with the source and the disk as they were
+pub leaves_all : (words : List (List ℕ)) (left : Option (List ℕ)) (faults : ℕ) (tells : Bool) (v : DiskView) → NothingInFlight v
+    → Leaves (record { words = words; left = record { before = left; after = left }; source_faults = record { before = faults; after = faults }; tells = tells; disk = record { before = v; after = v } })
+leaves_all words left faults tells v rests =
+    leaves_no_journal _ refl (goes_on_from v)
+    (record { only_synced = λ told p. inl refl; each_moment = λ told. moments_from v (AddsNoImage (files v)) (λ dirs image. image); idle = rests })
+    (λ none. same_from v)

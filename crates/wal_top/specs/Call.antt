@@ -1,0 +1,47 @@
+-- What a run has to go by: its words, its source and its disk.
+use Rattle.std.specs.Prelude.{◌≡◌, ℕ, Bool, List, Option}
+use Rattle.wal_base.specs.Faults.{Rose}
+use Rattle.disk_face.specs.declared.Side.{Side}
+use Rattle.disk_face.specs.View.{DiskView}
+
+-- something as it was before, and as it is after
+pub record Change (X : Type 0) : Type 0 where
+  pub before : X
+  pub after : X
+
+-- what is seen of something, before and after
+abbrev pub seen : {Thing X : Type 0} → (Thing → X) → Thing → Thing → Change X
+seen view old new = record { before = view old; after = view new }
+
+-- a call: the words, the bytes that the source has left, the count of its faults, whether the disk tells its files, and the disk
+pub record Call : Type 0 where
+  pub words : List (List ℕ)
+  pub left : Change (Option (List ℕ))
+  pub source_faults : Change ℕ
+  pub tells : Bool
+  pub disk : Change DiskView
+
+abbrev pub call_of : {Source Disk : Type 0} → List (List ℕ) → (Source → Option (List ℕ)) → (Source → ℕ) → Source → Source → Bool → (Disk → DiskView) → Disk → Disk → Call
+call_of words left faults source source_then tells view disk disk_then = record {
+  words = words;
+  left = seen left source source_then;
+  source_faults = seen faults source source_then;
+  tells = tells;
+  disk = seen view disk disk_then;
+}
+
+-- It is as it was.
+abbrev pub Stays : {X : Type 0} → Change X → Type 0
+Stays x = x.after ≡ x.before
+
+-- A fault or a shortage was counted.
+abbrev pub Rises : Change ℕ → Type 0
+Rises count = Rose count.before count.after
+
+-- The source counted no fault.
+abbrev pub HasCalmSource : Call → Type 0
+HasCalmSource c = Rises c.source_faults → ⊥
+
+-- No side of the disk counted a fault.
+abbrev pub HasCalmDisk : Call → Type 0
+HasCalmDisk c = (side : Side) → Rose (c.disk.before.faults side) (c.disk.after.faults side) → ⊥
