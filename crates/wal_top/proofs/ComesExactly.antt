@@ -248,15 +248,3 @@ module _ (r : Run) (given : Status) (write : given ≡ Write → Rises r.sink_fa
     shows_store = λ words told batches recovers calm_disk. done_unless (recover_is r.call said text h words told batches recovers calm_disk) yields;
     shows_segments = λ words told batches recovers calm_disk. done_unless (dump_is r.call said text h words told batches recovers calm_disk) yields;
   }
-
--- Want of memory may come for any status.
-pub memory_comes : (r : Run) → ComesExactly r NoMemory
-memory_comes r = record {
-  no_command = λ none. inr (inr refl);
-  no_script = λ words told calm. inr (inr refl);
-  refused = λ mode why words good told is calm calm_disk. inr (inr refl);
-  limited = λ begin past calm calm_disk. inr (inr refl);
-  replays = λ begin within room calm calm_disk calm_sink. inr refl;
-  shows_store = λ words told batches recovers calm_disk calm_sink. inr refl;
-  shows_segments = λ words told batches recovers calm_disk calm_sink. inr refl;
-}
