@@ -8,9 +8,13 @@ use Rattle.disk_face.proofs.Moments.{moments_from, moments_joined}
 use Rattle.log_writer.specs.Writer.{Writer}
 use Rattle.log_writer.specs.Fits.{SameFile, file_of}
 use Rattle.failover_writer.specs.State.{State, acked, most_synced}
-use Rattle.failover_writer.specs.Ranges.{StandsFor, KeepsRecords}
+use Rattle.failover_writer.specs.Ranges.{StandsFor}
 use Rattle.failover_writer.specs.Keeping.{OthersStay, StoodAt, Passes}
 use Rattle.failover_writer.proofs.OneChanged.{files_changed, file_within}
+
+-- What `KeepsRecords` says, of two journals each with what is seen of its disk.
+abbrev pub Holds : Bool → State → DiskView → State → DiskView → Type 0
+Holds tells old before new after = (records : List Batch) → StandsFor tells records old before → StandsFor tells records new after
 
 -- The files of now are those of the journal as it stands now.
 pub stood_now : (tells : Bool) (records : List Batch) (opening : Files) (old new : State) (v : DiskView) → StandsFor tells records new v → OthersStay opening new (files v) → new.wal ≡ old.wal → new.base ≡ old.base → acked old ≤ acked new
@@ -44,7 +48,7 @@ passes_still tells old new v wal base segments = record {
 }
 
 -- One call after another.
-pub passes_further : (tells : Bool) (old mid new : State) (before between after : DiskView) → KeepsRecords tells old before mid between → GoesOn between after → Passes tells old mid before between → Passes tells mid new between after
+pub passes_further : (tells : Bool) (old mid new : State) (before between after : DiskView) → Holds tells old before mid between → GoesOn between after → Passes tells old mid before between → Passes tells mid new between after
     → Passes tells old new before after
 passes_further tells old mid new before between after keeps goes one two = record {
   wal = two.wal ∙ one.wal;
@@ -57,7 +61,7 @@ passes_further tells old mid new before between after keeps goes one two = recor
 }
 
 -- A call of which each moment but the first is its last.
-pub passes_once : (tells : Bool) (old new : State) (before after : DiskView) → new.wal ≡ old.wal → new.base ≡ old.base → acked old ≤ acked new → KeepsRecords tells old before new after → GoesOn before after
+pub passes_once : (tells : Bool) (old new : State) (before after : DiskView) → new.wal ≡ old.wal → new.base ≡ old.base → acked old ≤ acked new → Holds tells old before new after → GoesOn before after
     → ((opening : Files) → IsTrue tells → OthersStay opening old (files before) → OthersStay opening new (files after)) → (IsTrue tells → (k : ℕ) → before.clock ≤ k → k ≤ after.clock → (after.history k ≡ files before) ⊎ (after.history k ≡ files after))
     → Passes tells old new before after
 passes_once tells old new before after wal base le keeps goes opened two = record {

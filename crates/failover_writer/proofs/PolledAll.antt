@@ -18,14 +18,13 @@ use Rattle.log_writer.specs.Steps.{after_answer}
 use Rattle.failover_writer.specs.Remaining.{polls_left}
 use Rattle.failover_writer.specs.Answered.{AsksToPoll, pending_count}
 use Rattle.failover_writer.specs.State.{State, Held}
-use Rattle.failover_writer.specs.Ranges.{KeepsRecords}
 use Rattle.failover_writer.specs.Keeping.{Passes}
 use Rattle.failover_writer.specs.Stepping.{NoneBusy, PollsFirst, Polls}
 use Rattle.failover_writer.specs.Stepping as stepping
 use Rattle.failover_writer.specs.Answered.{IsTold}
 use Rattle.failover_writer.specs.Moves.{IsFirstBusy, PollsAt, PollsAll, was_pending}
 use Rattle.failover_writer.proofs.Lists.{split_at, last_split}
-use Rattle.failover_writer.proofs.Passing.{passes_still, passes_further}
+use Rattle.failover_writer.proofs.Passing.{Holds, passes_still, passes_further}
 
 -- The first busy one of the earlier segments was polled, if one is, and the current one was not yet.
 pub record IsPolledEarly (state mid : State) (one : Option Progress) : Type 0 where
@@ -228,7 +227,7 @@ all_one tells state mid new before between after index pending pending_now early
 
 -- What a part of a step does to the journal and its disk.
 pub record GoesPart (tells : Bool) (old new : State) (before after : DiskView) : Type 0 where
-  pub keeps : KeepsRecords tells old before new after
+  pub keeps : Holds tells old before new after
   pub passes : Passes tells old new before after
   pub goes : GoesOn before after
 

@@ -1,6 +1,6 @@
 -- What the monitor says of the current segment, and so what a step does by the rule of the step.
 use Rattle.std.proofs.Common.{◌≡◌, ℕ, ◌+◌, ◌-◌, Bool, List, [], ◌∷◌, length, take, get_or, Option, Some, None, Result, Ok, Err, ap, sym, subst, ◌∙◌, refl, arith, cond}
-use Rattle.std.specs.Prelude.{◌↔◌, ◌||◌, nat_lt, slice_get}
+use Rattle.std.specs.Prelude.{◌↔◌, ◌||◌, slice_get}
 use Rattle.std.proofs.lemmas.List.{length-append}
 use Rattle.std.proofs.lemmas.Option.{slice_get-get_or}
 use Rattle.failover_writer.proofs.Lists.{last_split}
@@ -19,9 +19,9 @@ use Rattle.failover_writer.specs.declared.fault.JournalFault.{JournalFault}
 use Rattle.failover_writer.specs.declared.fault.JournalFault.TheVariants as faults
 use Rattle.failover_writer.specs.declared.fault.Step.{Step}
 use Rattle.failover_writer.specs.declared.fault.Step.TheVariants as steps
-use Rattle.failover_writer.specs.State.{State, len, acked, is_broken, broken_count}
+use Rattle.failover_writer.specs.State.{State, broken_count}
 use Rattle.failover_writer.specs.Ranges.{side_at, AreJoined, StandsFor}
-use Rattle.failover_writer.specs.Stepping.{Verdict, IsToStay, GoesOn, starts, stays, Dies, IsUp, Releases, StepRule, dies, goes, short, moved_or_waited}
+use Rattle.failover_writer.specs.Stepping.{shown, Verdict, IsToStay, GoesOn, starts, stays, Dies, IsUp, Releases, StepRule, dies, goes, short, moved_or_waited}
 use Rattle.failover_writer.specs.Answered.{AsksOnce, IsTold, StepsBy}
 use Rattle.failover_writer.specs.Remaining.{polls_left}
 use Rattle.failover_writer.specs.Moves.{MayStartNext, started, nothing, PollsAll, was_pending, EndsGoing}
@@ -30,10 +30,6 @@ use Rattle.failover_writer.proofs.Segments.{last_is}
 pub empty_from : (ws : List Writer) → slice_get ws (length ws - 1) ≡ None → ws ≡ []
 empty_from [] e = refl
 empty_from (w ∷ ws) e = let some = slice_get-get_or (w ∷ ws) (length (w ∷ ws) - 1) w (omega arith) in let clash : Some (get_or (w ∷ ws) (length (w ∷ ws) - 1) w) ≡ None = sym some ∙ e in cc
-
--- what the monitor is shown of this segment
-abbrev pub shown : State → Writer → MonitorView
-shown state current = record { opened = length state.segments; broken = is_broken current; waiting = current.waiting; threshold = state.threshold; behind = nat_lt (acked state) (len state) }
 
 -- ---- the verdict
 

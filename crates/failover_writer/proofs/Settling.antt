@@ -1,5 +1,5 @@
 -- What holds of steps one after another, and what a closing comes to by it.
-use Rattle.std.proofs.Common.{◌≡◌, ◌≢◌, ◌⊎◌, inl, inr, ℕ, ◌<◌, ◌≤◌, Bool, List, [], ◌∷◌, length, Option, Some, None, Result, Ok, OnOk, IfErr, ap, sym, subst, ◌∙◌, refl, arith}
+use Rattle.std.proofs.Common.{◌≡◌, ◌≢◌, inl, inr, ℕ, ◌<◌, Bool, List, [], ◌∷◌, length, Option, Some, None, Result, Ok, OnOk, IfErr, ap, sym, subst, ◌∙◌, refl, arith}
 use native.Mathlib.Decide.{dec_lt}
 use Rattle.std.proofs.lemmas.List.{length-drop}
 use Rattle.std.proofs.lemmas.Result.{on_ok_weaker}
@@ -13,18 +13,19 @@ use Rattle.log_writer.specs.declared.phase.Phase.{Phase}
 use Rattle.log_writer.specs.declared.phase.Phase.TheVariants.{New, InFlight, Idle, Broken}
 use Rattle.log_writer.specs.Writer.{Writer}
 use Rattle.log_writer.specs.Fits.{Fits, HasFlight, IsBusy, file_of}
+use Rattle.failover_writer.specs.declared.fault.DeadMark.{DeadMark}
 use Rattle.failover_writer.specs.declared.fault.JournalFault.{JournalFault}
 use Rattle.failover_writer.specs.declared.fault.Step.{Step}
 use Rattle.failover_writer.specs.declared.fault.Step.TheVariants as steps
 use Rattle.failover_writer.specs.Setting.{KeepsEnd, KeepsGoal}
 use Rattle.disk_face.specs.declared.Side.{Side}
-use Rattle.failover_writer.specs.State.{State, len, acked}
-use Rattle.failover_writer.specs.Ranges.{StandsFor, Stands, KeepsRecords}
+use Rattle.failover_writer.specs.State.{State, Held, len, acked}
+use Rattle.failover_writer.specs.Ranges.{StandsFor, Stands}
 use Rattle.failover_writer.specs.Stepping as stepping
 use Rattle.failover_writer.specs.Stepping.{NoneBusy, WantsMore, Polls, first, none_to_begin, switches, starts, stays, Dies, Releases, StepRule, was_dead, idle, dies, goes, short}
-use Rattle.failover_writer.specs.Answered.{StepsBy, StepsOn, MovesOn, IsIdle, IsMarked, IsHarmed, IsSmooth, FaultsRose, PollsFell, last_answer}
-use Rattle.failover_writer.specs.Keeping.{Passes}
-use Rattle.failover_writer.specs.Closing.{Lasts, Drains, Moves}
+use Rattle.failover_writer.specs.Answered.{StepsBy, StepsOn, MovesOn, IsIdle, IsMarked, FaultsRose, PollsFell, last_answer}
+use Rattle.failover_writer.specs.Closing.{Drains, Moves}
+use Rattle.failover_writer.specs.Lasting.{Lasts}
 use Rattle.failover_writer.proofs.Segments.{all_from, not_theirs}
 use Rattle.failover_writer.proofs.Released.{acked_within}
 use Rattle.failover_writer.proofs.Passing.{passes_still, passes_further}
@@ -95,21 +96,16 @@ goal_kept (short one other polled up polls) = goal_polled polls
 
 -- ---- steps one after another
 
--- A step by its contract.
-pub lasts_once : (tells : Bool) (old new : State) (before after : DiskView) (answer : Result Step JournalFault) → StepsBy old new before after answer → (IsHarmed new → IsHarmed old ⊎ FaultsRose before after)
-    → (1 ≤ old.threshold → IsSmooth old → IsSmooth new ⊎ (FaultsRose before after ⊎ PollsFell before after)) → KeepsRecords tells old before new after → Passes tells old new before after → GoesOn before after
-    → Lasts tells old new before after
-lasts_once tells old new before after answer by harmed smooth keeps passes goes_on =
-    record { setting = goal_kept by.rule; harmed = harmed; smooth = smooth; keeps = keeps; passes = passes; goes_on = goes_on }
+pub end_still : (old new : State) → KeepsGoal old new → KeepsEnd old new
+end_still old new same = record { wal = same.wal; base = same.base; threshold = same.threshold; next = same.next; end = same.end }
 
-pub lasts_none : (tells : Bool) (state : State) (v : DiskView) → Lasts tells state state v v
-lasts_none tells state v = record {
-  setting = goal_still state state refl;
-  harmed = λ harmed. inl harmed;
-  smooth = λ low smooth. inl smooth;
-  keeps = λ records stands. stands;
-  passes = passes_still tells state state v refl refl refl;
-  goes_on = goes_on_from v;
+end_further : (old mid new : State) → KeepsEnd old mid → KeepsEnd mid new → KeepsEnd old new
+end_further old mid new one two = record {
+  wal = two.wal ∙ one.wal;
+  base = two.base ∙ one.base;
+  threshold = two.threshold ∙ one.threshold;
+  next = two.next ∙ one.next;
+  end = two.end ∙ one.end;
 }
 
 rose_before : (before between after : DiskView) → GoesOn before between → GoesOn between after → FaultsRose before between → FaultsRose before after
@@ -125,61 +121,82 @@ fell_before before between after two fell = (fell.0, omega (arith, fell.1, two.p
 fell_after : (before between after : DiskView) → GoesOn before between → PollsFell between after → PollsFell before after
 fell_after before between after one fell = (fell.0, omega (arith, fell.1, one.polls fell.0))
 
-pub lasts_further : (tells : Bool) (old mid new : State) (before between after : DiskView) → Lasts tells old mid before between → Lasts tells mid new between after → Lasts tells old new before after
-lasts_further tells old mid new before between after one two = record {
-  setting = goal_further old mid new one.setting two.setting;
-  harmed = λ harmed. elim (two.harmed harmed) [
-    | inl was ↦ elim (one.harmed was) [ inl harmed_first ↦ inl harmed_first | inr rose ↦ inr (rose_before before between after one.goes_on two.goes_on rose) ]
-    | inr rose ↦ inr (rose_after before between after one.goes_on rose)
-  ];
-  smooth = λ low smooth. elim (one.smooth low smooth) [
-    | inl mid_smooth ↦ elim (two.smooth (omega (arith, low, one.setting.threshold)) mid_smooth) [
-      | inl now ↦ inl now
-      | inr (inl rose) ↦ inr (inl (rose_after before between after one.goes_on rose))
-      | inr (inr fell) ↦ inr (inr (fell_after before between after one.goes_on fell))
-    ]
-    | inr (inl rose) ↦ inr (inl (rose_before before between after one.goes_on two.goes_on rose))
-    | inr (inr fell) ↦ inr (inr (fell_before before between after two.goes_on fell))
-  ];
-  keeps = λ records stands. two.keeps records (one.keeps records stands);
-  passes = passes_further tells old mid new before between after one.keeps two.goes_on one.passes two.passes;
-  goes_on = goes_on_further before between after one.goes_on two.goes_on;
-}
+module _ {Disk : Type 0} (tells : Bool) (view : Disk → DiskView) where
+  -- A call that changes nothing but what is asked for.
+  pub lasts_beside : (old : Held Disk) (want : ℕ) → ((records : List Batch) → StandsFor tells records old.state (view old.disk) → StandsFor tells records (record old.state { want = want }) (view old.disk))
+      → Lasts tells view old (record old { state = record old.state { want = want } })
+  lasts_beside old want keeps = record {
+    setting = record { wal = refl; base = refl; threshold = refl; next = refl; end = refl };
+    acked = omega arith;
+    harmed = λ harmed. inl harmed;
+    smooth = λ low smooth. inl (record { lives = smooth.lives; few = smooth.few; segments = smooth.segments });
+    keeps = keeps;
+    passes = passes_still tells old.state (record old.state { want = want }) (view old.disk) refl refl refl;
+    goes_on = goes_on_from (view old.disk);
+  }
 
--- The last step is idle, or ends with a fault.
-pub drained : (tells : Bool) (old mid new : State) (before v after : DiskView) (step : Result Step JournalFault) (answer : Result Unit JournalFault) → step ≡ last_answer answer → StepsOn old before mid v → Lasts tells old mid before v
-    → StepsBy mid new v after step → Lasts tells mid new v after → OnOk answer (IsIdle new) → IfErr answer (IsMarked new) → Drains tells old new before after answer
-drained tells old mid new before v after step answer is steps one by two rests marked = record {
-  mid = mid;
-  v = v;
-  steps = steps;
-  last = subst (StepsBy mid new v after) is by;
-  lasts = lasts_further tells old mid new before v after one two;
-  idle = rests;
-  marked = marked;
-}
+  pub lasts_none : (old : Held Disk) → Lasts tells view old old
+  lasts_none old = lasts_beside old old.state.want (λ records stands. stands)
 
--- The last step does not move: it is idle, has waited, or ends with a fault.
-pub moved_to : (tells : Bool) (old mid new : State) (before v after : DiskView) (answer : Result Step JournalFault) → MovesOn old before mid v → Lasts tells old mid before v → StepsBy mid new v after answer → Lasts tells mid new v after
-    → answer ≢ Ok steps.Moved → (answer ≡ Ok steps.Idle → IsIdle new) → (answer ≡ Ok steps.Waited → PollsFell v after) → IfErr answer (IsMarked new) → Moves tells old new before after answer
-moved_to tells old mid new before v after answer moves one by two ends rests waited marked = record {
-  settles = record { mid = mid; v = v; moves = moves; last = by; ends = ends };
-  lasts = lasts_further tells old mid new before v after one two;
-  idle = rests;
-  waited = λ is. fell_after before v after one.goes_on (waited is);
-  marked = marked;
-}
+  pub lasts_further : (old mid new : Held Disk) → Lasts tells view old mid → Lasts tells view mid new → Lasts tells view old new
+  lasts_further old mid new one two = record {
+    setting = end_further old.state mid.state new.state one.setting two.setting;
+    acked = omega (arith, one.acked, two.acked);
+    harmed = λ harmed. elim (two.harmed harmed) [
+      | inl was ↦ elim (one.harmed was) [ inl harmed_first ↦ inl harmed_first | inr rose ↦ inr (rose_before (view old.disk) (view mid.disk) (view new.disk) one.goes_on two.goes_on rose) ]
+      | inr rose ↦ inr (rose_after (view old.disk) (view mid.disk) (view new.disk) one.goes_on rose)
+    ];
+    smooth = λ low smooth. elim (one.smooth low smooth) [
+      | inl mid_smooth ↦ elim (two.smooth (omega (arith, low, one.setting.threshold)) mid_smooth) [
+        | inl now ↦ inl now
+        | inr (inl rose) ↦ inr (inl (rose_after (view old.disk) (view mid.disk) (view new.disk) one.goes_on rose))
+        | inr (inr fell) ↦ inr (inr (fell_after (view old.disk) (view mid.disk) (view new.disk) one.goes_on fell))
+      ]
+      | inr (inl rose) ↦ inr (inl (rose_before (view old.disk) (view mid.disk) (view new.disk) one.goes_on two.goes_on rose))
+      | inr (inr fell) ↦ inr (inr (fell_before (view old.disk) (view mid.disk) (view new.disk) two.goes_on fell))
+    ];
+    keeps = λ records stands. two.keeps records (one.keeps records stands);
+    passes = passes_further tells old.state mid.state new.state (view old.disk) (view mid.disk) (view new.disk) one.keeps two.goes_on one.passes two.passes;
+    goes_on = goes_on_further (view old.disk) (view mid.disk) (view new.disk) one.goes_on two.goes_on;
+  }
+
+  -- The last step is idle, or ends with a fault.
+  pub drained : (old mid new : Held Disk) (step : Result Step JournalFault) (answer : Result Unit JournalFault) → step ≡ last_answer answer → StepsOn old.state (view old.disk) mid.state (view mid.disk) → mid.state.want ≡ old.state.want
+      → Lasts tells view old mid → StepsBy mid.state new.state (view mid.disk) (view new.disk) step → new.state.want ≡ mid.state.want → Lasts tells view mid new → OnOk answer (IsIdle new.state) → IfErr answer (IsMarked new.state) → Drains tells view old new answer
+  drained old mid new step answer is steps want one by wanted two rests marked = record {
+    mid = mid.state;
+    v = (view mid.disk);
+    steps = steps;
+    last = subst (StepsBy mid.state new.state (view mid.disk) (view new.disk)) is by;
+    want = wanted ∙ want;
+    lasts = lasts_further old mid new one two;
+    idle = rests;
+    marked = marked;
+  }
+
+  -- The last step does not move: it is idle, has waited, or ends with a fault.
+  pub moved_to : (old mid new : Held Disk) (answer : Result Step JournalFault) → MovesOn old.state (view old.disk) mid.state (view mid.disk) → mid.state.want ≡ old.state.want → Lasts tells view old mid → StepsBy mid.state new.state (view mid.disk) (view new.disk) answer
+      → new.state.want ≡ mid.state.want → Lasts tells view mid new → answer ≢ Ok steps.Moved → (answer ≡ Ok steps.Idle → IsIdle new.state) → (answer ≡ Ok steps.Waited → PollsFell (view mid.disk) (view new.disk)) → IfErr answer (IsMarked new.state)
+      → Moves tells view old new answer
+  moved_to old mid new answer moves want one by wanted two ends rests waited marked = record {
+    settles = record { mid = mid.state; v = (view mid.disk); moves = moves; last = by; ends = ends };
+    want = wanted ∙ want;
+    lasts = lasts_further old mid new one two;
+    idle = rests;
+    waited = λ is. fell_after (view old.disk) (view mid.disk) (view new.disk) one.goes_on (waited is);
+    marked = marked;
+  }
 
 -- ---- a closing
 
 -- a journal of which all records are to be synced
-abbrev pub asking : State → State
-asking state = record state { want = len state }
+abbrev pub asking : {Disk : Type 0} → Held Disk → Held Disk
+asking old = record old { state = record old.state { want = len old.state } }
 
 pub records_are : (tells : Bool) (records : List Batch) (state : State) (v : DiskView) → StandsFor tells records state v → len state ≡ length records
 records_are tells records state v stands = omega (arith, stands.queue.start, ap length stands.queue.holds, length-drop state.queue.start records)
 
-pub asking_stands : (tells : Bool) (records : List Batch) (state : State) (v : DiskView) → StandsFor tells records state v → StandsFor tells records (asking state) v
+pub asking_stands : (tells : Bool) (records : List Batch) (state : State) (v : DiskView) → StandsFor tells records state v → StandsFor tells records (record state { want = len state }) v
 asking_stands tells records state v stands = record {
   named = stands.named;
   numbered = stands.numbered;
@@ -227,20 +244,20 @@ none_flies tells records state v stands rests id = go (v.in_flight id) refl
         (all_from (λ (w : Writer). Fits tells records w v) (λ (w : Writer). IsBusy w.phase → ⊥) (λ (w : Writer). file_of w ≢ f.place) state.segments (λ w fits not_busy. not_its tells records v id f w is fits not_busy) stands.fit rests)
         (stands.alone id f is))
 
-module _ (tells : Bool) (old new : State) (before after : DiskView) (answer : Result Unit JournalFault) (drains : Drains tells (asking old) new before after answer) where
-  pub closed_keeps : KeepsRecords tells old before new after
-  closed_keeps records stands = drains.lasts.keeps records (asking_stands tells records old before stands)
+module _ {Disk : Type 0} (tells : Bool) (view : Disk → DiskView) (old new : Held Disk) (answer : Result Unit JournalFault) (drains : Drains tells view (asking old) new answer) where
+  pub closed_lasts : Lasts tells view old new
+  closed_lasts = lasts_further tells view old (asking old) new (lasts_beside tells view old (len old.state) (λ records. asking_stands tells records old.state (view old.disk))) drains.lasts
 
-  pub closed_synced : Stands tells old before → OnOk answer (acked new ≡ len new)
-  closed_synced stands = on_ok_weaker answer (λ rests. all_acked tells stands.0 new after (closed_keeps stands.0 stands.1) (drains.lasts.setting.want ∙ sym drains.lasts.setting.end) rests) drains.idle
+  pub closed_synced : Stands tells old.state (view old.disk) → OnOk answer (acked new.state ≡ len new.state)
+  closed_synced stands = on_ok_weaker answer (λ rests. all_acked tells stands.0 new.state (view new.disk) (closed_lasts.keeps stands.0 stands.1) (drains.want ∙ sym drains.lasts.setting.end) rests) drains.idle
 
-  pub closed_rests : Stands tells old before → OnOk answer (NothingInFlight after)
-  closed_rests stands = on_ok_weaker answer (λ rests. none_flies tells stands.0 new after (closed_keeps stands.0 stands.1) rests.rests) drains.idle
+  pub closed_rests : Stands tells old.state (view old.disk) → OnOk answer (NothingInFlight (view new.disk))
+  closed_rests stands = on_ok_weaker answer (λ rests. none_flies tells stands.0 new.state (view new.disk) (closed_lasts.keeps stands.0 stands.1) rests.rests) drains.idle
 
-  pub closed_passes : Passes tells old new before after
-  closed_passes =
-      passes_further tells old (asking old) new before before after (λ records stands. asking_stands tells records old before stands) drains.lasts.goes_on
-      (passes_still tells old (asking old) before refl refl refl) drains.lasts.passes
-
-  pub closed_setting : KeepsEnd old new
-  closed_setting = let same = drains.lasts.setting in record { wal = same.wal; base = same.base; threshold = same.threshold; next = same.next; end = same.end }
+  -- A dead journal stays as it was, so it is not idle then.
+  pub closed_lives : (old.state.dead ≢ None → new.state.dead ≡ old.state.dead) → OnOk answer (old.state.dead ≡ None)
+  closed_lives still = on_ok_weaker answer (λ rests. go rests.lives old.state.dead refl) drains.idle
+    where
+      go : new.state.dead ≡ None → (mark : Option DeadMark) → old.state.dead ≡ mark → old.state.dead ≡ None
+      go lives None is = is
+      go lives (Some mark) is = sym (still (λ none. let clash : Some mark ≡ None = sym is ∙ none in cc)) ∙ lives

@@ -11,7 +11,7 @@ use Rattle.disk_face.specs.Listing.{IsSegmentName}
 use Rattle.wal_recovery.specs.Listing.{Stored, AreByIndex, StandsIn}
 use Rattle.wal_recovery.specs.Recovering.{FIRST_NUMBER, WalMerges, Recovers}
 use Rattle.log_writer.specs.Fits.{file_of}
-use Rattle.failover_writer.specs.State.{State, acked}
+use Rattle.failover_writer.specs.State.{State, Held, acked}
 use Rattle.failover_writer.specs.Ranges.{StandsFor}
 
 -- the place is not of this WAL
@@ -82,6 +82,10 @@ pub record KeepsBase (tells : Bool) (base : List Batch) (state : State) (v : Dis
   pub opening : Files
   pub begun : IsOpening state.wal state.base base opening
   pub others : IsTrue tells → OthersStay opening state (files v)
+
+-- It goes on to keep each base that it kept.
+abbrev pub KeepsBases : {Disk : Type 0} → Bool → (Disk → DiskView) → Held Disk → Held Disk → Type 0
+KeepsBases tells view old new = (base : List Batch) → KeepsBase tells base old.state (view old.disk) → KeepsBase tells base new.state (view new.disk)
 
 -- ---- moments
 

@@ -6,6 +6,7 @@ pub mod Remaining
 pub mod Answered
 pub mod Keeping
 pub mod Sound
+pub mod Lasting
 pub mod Moves
 pub mod Inside
 pub mod Closing

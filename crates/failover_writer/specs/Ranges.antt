@@ -1,5 +1,5 @@
 -- Which segments a journal has, and which records they and the queue hold (docs/FORMATS.md, "The segments of a journal").
-use Rattle.std.specs.Prelude.{◌≡◌, ◌≢◌, ℕ, suc, ◌%◌, ◌==◌, ◌≤◌, min, max, Bool, List, [], ◌∷◌, length, Some, Contains, map, IsTrue, if◌then◌else◌}
+use Rattle.std.specs.Prelude.{◌≡◌, ◌≢◌, ℕ, suc, ◌%◌, ◌==◌, ◌≤◌, min, max, Bool, List, [], ◌∷◌, ◌++◌, length, Some, Contains, map, IsTrue, if◌then◌else◌}
 use Rattle.std.specs.List.{AllByRecursion}
 use Rattle.batch_repr.specs.declared.batch.Batch.{Batch}
 use Rattle.batch_repr.specs.Batches.{IsContiguous, end_after}
@@ -14,7 +14,7 @@ use Rattle.log_writer.specs.declared.phase.Phase.TheVariants.{New}
 use Rattle.log_writer.specs.Writer.{Writer}
 use Rattle.log_writer.specs.Steps.{IsQueueOf}
 use Rattle.log_writer.specs.Fits.{Fits, IsUnsent, file_of}
-use Rattle.failover_writer.specs.State.{State, acked}
+use Rattle.failover_writer.specs.State.{State, Held, acked}
 
 -- the side of the segment of this index: the primary one where it is even
 abbrev pub side_at : ℕ → Side
@@ -69,5 +69,9 @@ abbrev pub Stands : Bool → State → DiskView → Type 0
 Stands tells state v = (records : List Batch) × StandsFor tells records state v
 
 -- It goes on to hold each list of records that it held.
-abbrev pub KeepsRecords : Bool → State → DiskView → State → DiskView → Type 0
-KeepsRecords tells old v new w = (records : List Batch) → StandsFor tells records old v → StandsFor tells records new w
+abbrev pub KeepsRecords : {Disk : Type 0} → Bool → (Disk → DiskView) → Held Disk → Held Disk → Type 0
+KeepsRecords tells view old new = (records : List Batch) → StandsFor tells records old.state (view old.disk) → StandsFor tells records new.state (view new.disk)
+
+-- It goes on to hold each list of records that it held, with this record after them.
+abbrev pub AddsRecord : {Disk : Type 0} → Bool → (Disk → DiskView) → Batch → Held Disk → Held Disk → Type 0
+AddsRecord tells view added old new = (records : List Batch) → StandsFor tells records old.state (view old.disk) → StandsFor tells (records ++ added ∷ []) new.state (view new.disk)

@@ -1,5 +1,5 @@
 -- What a journal means to contracts (docs/FORMATS.md, "The journal").
-use Rattle.std.specs.Prelude.{ℕ, ◌∷◌, max, Bool, true, false, List, [], Option, count_by}
+use Rattle.std.specs.Prelude.{ℕ, ◌∷◌, max, Bool, true, false, List, [], Option, None, count_by}
 use Rattle.record_queue.specs.Queue.{Queue, end_of}
 use Rattle.log_writer.specs.declared.phase.Phase.{Phase}
 use Rattle.log_writer.specs.declared.phase.Phase.TheVariants.{New, InFlight, Idle, Broken}
@@ -52,7 +52,15 @@ is_broken writer = phase_is_broken writer.phase
 abbrev pub broken_count : State → ℕ
 broken_count state = count_by is_broken state.segments
 
+-- a journal of no record, before any segment is begun
+abbrev pub unbegun : ℕ → ℕ → ℕ → Queue → State
+unbegun wal base threshold queue = record { wal = wal; base = base; next = base; threshold = threshold; queue = queue; want = 0; segments = []; dead = None }
+
 -- a journal with its disk
 pub record Held (Disk : Type 0) : Type 0 where
   pub disk : Disk
   pub state : State
+
+-- with room for so many records more
+abbrev pub with_room : {Disk : Type 0} → ℕ → Held Disk → Held Disk
+with_room spare old = record old { state = record old.state { queue = record old.state.queue { spare = spare } } }

@@ -37,6 +37,14 @@ WantsMore state (w ∷ v ∷ writers) = WantsMore state (v ∷ writers)
 abbrev pub HasWork : State → Type 0
 HasWork state = IsBehind state × WantsMore state state.segments
 
+-- Something is in flight, or there is work.
+abbrev pub IsActive : State → Type 0
+IsActive state = NoneBusy state.segments → HasWork state
+
+-- Nothing is in flight, and there is no work.
+abbrev pub IsAtRest : State → Type 0
+IsAtRest state = NoneBusy state.segments × (HasWork state → ⊥)
+
 -- ---- polls
 
 -- The first of the segments that is busy was polled, if one is, and its writer noted the answer.
@@ -54,12 +62,16 @@ pub data Polls (state : State) : Option Progress → Option Progress → State �
 
 -- ---- what is begun or started then
 
+-- what the monitor is shown of this segment
+abbrev pub shown : State → Writer → MonitorView
+shown state current = record { opened = length state.segments; broken = is_broken current; waiting = current.waiting; threshold = state.threshold; behind = nat_lt (acked state) (len state) }
+
 -- This is said of what the monitor is shown of the current segment.
 pub record Verdict (Says : MonitorView → Type 0) (state : State) : Type 0 where
   pub earlier : List Writer
   pub current : Writer
   pub segments_are : state.segments ≡ earlier ++ current ∷ []
-  pub says : Says (record { opened = length state.segments; broken = is_broken current; waiting = current.waiting; threshold = state.threshold; behind = nat_lt (acked state) (len state) })
+  pub says : Says (shown state current)
 
 -- The monitor says neither to die nor to switch.
 abbrev pub IsToStay : MonitorView → Type 0
@@ -112,7 +124,7 @@ pub data GoesOn (polled : State) : State → Type 0 where
 -- It is not dead, and has something in flight or work.
 pub record IsUp (state : State) : Type 0 where
   pub lives : state.dead ≡ None
-  pub wants : NoneBusy state.segments → HasWork state
+  pub wants : IsActive state
 
 -- Its current segment, the last that may be begun, is broken: this is the end of it.
 pub record Dies (old new : State) (side : Side) (faults : ℕ) : Type 0 where

@@ -3,20 +3,21 @@
 ghost use Rattle.std.specs.Prelude.{◌≡◌, ◌≢◌, ◌↔◌, ◌⊎◌, ◌≤◌, ◌<◌, ◌-◌, suc, List, [], ◌∷◌, ◌++◌, length, take, drop, Option, None, Ok, MatchBool, IfOk, IfErr, IfSome, OnOk, OnErr, IsTrue, nat_lt};
 ghost use Rattle.batch_repr.specs.declared.batch.Batch.{Batch};
 ghost use Rattle.disk_face.specs.declared.Progress.{Progress};
-ghost use Rattle.disk_face.specs.View.{Files, files, AtEachMoment, NothingInFlight};
+ghost use Rattle.disk_face.specs.View.{files, NothingInFlight};
 ghost use Rattle.disk_face.specs.Calls.{GoesOn, Stalls};
 ghost use Rattle.stall_monitor.specs.declared.verdict.TheConstants.{SEGMENTS_MAX, THRESHOLD_MAX};
-ghost use Rattle.failover_writer.specs.State.{len, acked, is_broken};
+ghost use Rattle.failover_writer.specs.State.{len, acked, unbegun, with_room};
 ghost use Rattle.failover_writer.specs.Ranges as ranges;
-ghost use Rattle.failover_writer.specs.Ranges.{AreUnsent, StandsFor, Stands, KeepsRecords};
+ghost use Rattle.failover_writer.specs.Ranges.{AreUnsent, StandsFor, Stands, KeepsRecords, AddsRecord};
 ghost use Rattle.failover_writer.specs.Stepping as stepping;
-ghost use Rattle.failover_writer.specs.Stepping.{IsBehind, HasWork, NoneBusy, BeginsNext, Releases, IsUp};
+ghost use Rattle.failover_writer.specs.Stepping.{IsBehind, HasWork, NoneBusy, IsActive, IsAtRest, shown, BeginsNext, Releases, IsUp};
 ghost use Rattle.failover_writer.specs.declared.fault.Step.TheVariants as steps;
-ghost use Rattle.failover_writer.specs.Setting.{KeepsEnd, KeepsGoal, KeepsSegments};
+ghost use Rattle.failover_writer.specs.Setting.{KeepsGoal, KeepsSegments};
 ghost use Rattle.failover_writer.specs.Remaining.{polls_left, Falls};
 ghost use Rattle.failover_writer.specs.Sound.{HasGivenUp, IsSound};
-ghost use Rattle.failover_writer.specs.Answered.{AsksOnce, StepsBy, Settles, IsIdle, IsMarked, IsHarmed, IsSmooth, FaultsRose, PollsFell, Closes};
-ghost use Rattle.failover_writer.specs.Keeping.{KeepsRun, RecoversTo, OthersStay, IsOpenedOn, IsOpening, KeepsBase, Passes};
+ghost use Rattle.failover_writer.specs.Answered.{AsksOnce, StepsBy, Settles, IsIdle, IsMarked, PollsFell, Closes};
+ghost use Rattle.failover_writer.specs.Keeping.{OthersStay, IsOpening, KeepsBase, KeepsBases, Passes};
+ghost use Rattle.failover_writer.specs.Lasting.{Lasts, Survives};
 ghost use Rattle.failover_writer.specs.Closing.{Drains, Moves};
 ghost use Rattle.failover_writer.specs.Moves.{IsBusyAt, IsFirstBusy, PollsAt, PollsAll, MayStartNext, IsRestingAt, NoneRests, EndsGoing, Pushes};
 
@@ -55,9 +56,30 @@ impl<D: Disk> Model for Journal<D> {
 
     ghost Value = { Held D };
 
-    ghost view = { λ j. record { disk = j.disk; state = record { wal = j.wal; base = j.base; next = j.next; threshold = j.threshold; queue = j.records; want = j.want; segments = j.writers.items; dead = j.dead } } };
+    ghost view = { λ j. record {
+      disk = j.disk;
+      state = record {
+        wal = j.wal;
+        base = j.base;
+        next = j.next;
+        threshold = j.threshold;
+        queue = j.records;
+        want = j.want;
+        segments = j.writers.items;
+        dead = j.dead;
+      };
+    } };
 
-    ghost invariant = { λ j. IsInOrder D.tells (record { wal = j.wal; base = j.base; next = j.next; threshold = j.threshold; queue = j.records; want = j.want; segments = j.writers.items; dead = j.dead }) (D.view j.disk) j.acked j.first_busy j.failed };
+    ghost invariant = { λ j. IsInOrder D.tells (record {
+      wal = j.wal;
+      base = j.base;
+      next = j.next;
+      threshold = j.threshold;
+      queue = j.records;
+      want = j.want;
+      segments = j.writers.items;
+      dead = j.dead;
+    }) (D.view j.disk) j.acked j.first_busy j.failed };
 }
 
 /// The side of the segment of this index.
@@ -85,11 +107,11 @@ impl<D: Disk> Journal<D> {
         requires wal { wal ≤ 999999999999 }
         requires threshold { (1 ≤ threshold) × (threshold ≤ THRESHOLD_MAX) }
         requires absent { IsTrue D.tells → AreUnsent wal 0 (D.view disk) }
-        ensures made { IfOk result (λ journal. journal ≡ record { disk = disk; state = record { wal = wal; base = base; next = base; threshold = threshold; queue = journal.state.queue; want = 0; segments = []; dead = None } }) }
-        ensures empty { IfOk result (λ journal. (journal.state.queue.start ≡ 0) × (journal.state.queue.records ≡ [])) }
-        ensures stands { IfOk result (λ journal. StandsFor D.tells [] journal.state (D.view journal.disk)) }
-        ensures others { IfOk result (λ journal. OthersStay (files (D.view disk)) journal.state (files (D.view journal.disk))) }
-        ensures keeps_base { IfOk result (λ journal. (before : List Batch) → IsOpening wal base before (files (D.view disk)) → KeepsBase D.tells before journal.state (D.view journal.disk)) }
+        ensures made { IfOk result (λ j. j ≡ record { disk = disk; state = unbegun wal base threshold j.state.queue }) }
+        ensures empty { IfOk result (λ j. (j.state.queue.start ≡ 0) × (j.state.queue.records ≡ [])) }
+        ensures stands { IfOk result (λ j. StandsFor D.tells [] j.state (D.view j.disk)) }
+        ensures others { IfOk result (λ j. OthersStay (files (D.view disk)) j.state (files (D.view j.disk))) }
+        ensures keeps_base { IfOk result (λ j. (b : List Batch) → IsOpening wal base b (files (D.view disk)) → KeepsBase D.tells b j.state (D.view j.disk)) }
         ensures err { IfErr result (λ back. back ≡ disk) }
     {
         let Ok(records) = RecordQueue::new(alloc) else {
@@ -120,9 +142,9 @@ impl<D: Disk> Journal<D> {
         ensures room { OnOk result (1 ≤ self.new.state.queue.spare) }
         ensures setting { KeepsGoal self.old.state self.new.state }
         ensures acked { acked self.new.state ≡ acked self.old.state }
-        ensures same { self.new ≡ record self.old { state = record self.old.state { queue = record self.old.state.queue { spare = self.new.state.queue.spare } } } }
-        ensures keeps { KeepsRecords D.tells self.old.state (D.view self.old.disk) self.new.state (D.view self.new.disk) }
-        ensures keeps_base { (base : List Batch) → KeepsBase D.tells base self.old.state (D.view self.old.disk) → KeepsBase D.tells base self.new.state (D.view self.new.disk) }
+        ensures same { self.new ≡ with_room self.new.state.queue.spare self.old }
+        ensures keeps { KeepsRecords D.tells D.view self.old self.new }
+        ensures keeps_base { KeepsBases D.tells D.view self.old self.new }
     {
         self.records.reserve()
     }
@@ -137,8 +159,8 @@ impl<D: Disk> Journal<D> {
         ensures setting { KeepsSegments self.old.state self.new.state }
         ensures acked { acked self.new.state ≡ acked self.old.state }
         ensures disk { self.new.disk ≡ self.old.disk }
-        ensures keeps { (records : List Batch) → StandsFor D.tells records self.old.state (D.view self.old.disk) → StandsFor D.tells (records ++ added ∷ []) self.new.state (D.view self.new.disk) }
-        ensures keeps_base { (base : List Batch) → KeepsBase D.tells base self.old.state (D.view self.old.disk) → KeepsBase D.tells base self.new.state (D.view self.new.disk) }
+        ensures keeps { AddsRecord D.tells D.view added self.old self.new }
+        ensures keeps_base { KeepsBases D.tells D.view self.old self.new }
     {
         // Each batch takes a number, and is spelled by its bytes.
         prove!(0 < added.count());
@@ -210,7 +232,7 @@ impl<D: Disk> Journal<D> {
         requires lives { self.old.state.dead ≡ None }
         requires busy { IsBusyAt index self.old.state }
         ensures polled { PollsAt D.tells index self.old.state self.new.state (D.view self.old.disk) (D.view self.new.disk) result }
-        ensures keeps { KeepsRecords D.tells self.old.state (D.view self.old.disk) self.new.state (D.view self.new.disk) }
+        ensures keeps { KeepsRecords D.tells D.view self.old self.new }
         ensures passes { Passes D.tells self.old.state self.new.state (D.view self.old.disk) (D.view self.new.disk) }
         ensures goes_on { GoesOn (D.view self.old.disk) (D.view self.new.disk) }
     {
@@ -261,7 +283,7 @@ impl<D: Disk> Journal<D> {
     fn poll_all(&mut self) -> bool
         requires lives { self.old.state.dead ≡ None }
         ensures polled { PollsAll self.old.state self.new.state (D.view self.old.disk) (D.view self.new.disk) result }
-        ensures keeps { KeepsRecords D.tells self.old.state (D.view self.old.disk) self.new.state (D.view self.new.disk) }
+        ensures keeps { KeepsRecords D.tells D.view self.old self.new }
         ensures passes { Passes D.tells self.old.state self.new.state (D.view self.old.disk) (D.view self.new.disk) }
         ensures goes_on { GoesOn (D.view self.old.disk) (D.view self.new.disk) }
     {
@@ -307,7 +329,7 @@ impl<D: Disk> Journal<D> {
 
     /// Whether something is in flight, or there is work.
     fn is_up(&mut self) -> bool
-        ensures up { MatchBool result (NoneBusy self.old.state.segments → HasWork self.old.state) (NoneBusy self.old.state.segments × (HasWork self.old.state → ⊥)) }
+        ensures up { MatchBool result (IsActive self.old.state) (IsAtRest self.old.state) }
         ensures same { self.new ≡ self.old }
     {
         self.has_work() || self.is_busy()
@@ -330,7 +352,7 @@ impl<D: Disk> Journal<D> {
         requires few { length self.old.state.segments < SEGMENTS_MAX }
         ensures begun { OnOk result (BeginsNext self.old.state self.new.state) }
         ensures err { OnErr result (self.new.state ≡ self.old.state) }
-        ensures keeps { KeepsRecords D.tells self.old.state (D.view self.old.disk) self.new.state (D.view self.new.disk) }
+        ensures keeps { KeepsRecords D.tells D.view self.old self.new }
         ensures passes { Passes D.tells self.old.state self.new.state (D.view self.old.disk) (D.view self.new.disk) }
         ensures goes_on { GoesOn (D.view self.old.disk) (D.view self.new.disk) }
         ensures stalls { polls_left (D.view self.new.disk) ≡ polls_left (D.view self.old.disk) }
@@ -371,7 +393,7 @@ impl<D: Disk> Journal<D> {
         requires lives { self.old.state.dead ≡ None }
         ensures started { OnOk result (MayStartNext self.old.state self.new.state) }
         ensures err { OnErr result (self.new.state ≡ self.old.state) }
-        ensures keeps { KeepsRecords D.tells self.old.state (D.view self.old.disk) self.new.state (D.view self.new.disk) }
+        ensures keeps { KeepsRecords D.tells D.view self.old self.new }
         ensures passes { Passes D.tells self.old.state self.new.state (D.view self.old.disk) (D.view self.new.disk) }
         ensures goes_on { GoesOn (D.view self.old.disk) (D.view self.new.disk) }
         ensures stalls { polls_left (D.view self.new.disk) ≡ polls_left (D.view self.old.disk) }
@@ -392,7 +414,7 @@ impl<D: Disk> Journal<D> {
     fn release(&mut self)
         ensures released { Releases self.old.state self.new.state }
         ensures disk { self.new.disk ≡ self.old.disk }
-        ensures keeps { KeepsRecords D.tells self.old.state (D.view self.old.disk) self.new.state (D.view self.new.disk) }
+        ensures keeps { KeepsRecords D.tells D.view self.old self.new }
         ensures passes { Passes D.tells self.old.state self.new.state (D.view self.old.disk) (D.view self.new.disk) }
     {
         if let Some(current) = self.writers.last() {
@@ -407,19 +429,10 @@ impl<D: Disk> Journal<D> {
         ensures waited { result ≡ Ok steps.Waited → PollsFell (D.view self.old.disk) (D.view self.new.disk) }
         ensures dead { IfErr result (IsMarked self.new.state) }
         ensures still { (self.old.state.dead ≢ None) ⊎ IsIdle self.old.state → self.new ≡ self.old }
-        ensures setting { KeepsGoal self.old.state self.new.state }
+        ensures want { self.new.state.want ≡ self.old.state.want }
         ensures falls { Falls self.old.state self.new.state (D.view self.old.disk) (D.view self.new.disk) result }
-        ensures harmed { IsHarmed self.new.state → IsHarmed self.old.state ⊎ FaultsRose (D.view self.old.disk) (D.view self.new.disk) }
-        ensures smooth { 1 ≤ self.old.state.threshold → IsSmooth self.old.state → IsSmooth self.new.state ⊎ (FaultsRose (D.view self.old.disk) (D.view self.new.disk) ⊎ PollsFell (D.view self.old.disk) (D.view self.new.disk)) }
-        ensures acked { acked self.old.state ≤ acked self.new.state }
-        ensures keeps { KeepsRecords D.tells self.old.state (D.view self.old.disk) self.new.state (D.view self.new.disk) }
-        ensures keeps_base { (base : List Batch) → KeepsBase D.tells base self.old.state (D.view self.old.disk) → KeepsBase D.tells base self.new.state (D.view self.new.disk) }
-        ensures recovers { (records base : List Batch) → StandsFor D.tells records self.old.state (D.view self.old.disk) → KeepsBase D.tells base self.old.state (D.view self.old.disk) → IsTrue D.tells → AtEachMoment ((D.view self.old.disk).clock) (D.view self.new.disk) (RecoversTo base records (acked self.old.state)) }
-        ensures recovers_at_exit { (records base : List Batch) → StandsFor D.tells records self.old.state (D.view self.old.disk) → KeepsBase D.tells base self.old.state (D.view self.old.disk) → IsTrue D.tells → RecoversTo base records (acked self.new.state) (files (D.view self.new.disk)) }
-        ensures run { (records : List Batch) (opening : Files) → StandsFor D.tells records self.old.state (D.view self.old.disk) → IsOpenedOn opening self.old.state (files (D.view self.old.disk)) → IsTrue D.tells → AtEachMoment ((D.view self.old.disk).clock) (D.view self.new.disk) (KeepsRun self.old.state.wal self.old.state.base records (acked self.old.state) opening) }
-        ensures run_at_exit { (records : List Batch) (opening : Files) → StandsFor D.tells records self.old.state (D.view self.old.disk) → IsOpenedOn opening self.old.state (files (D.view self.old.disk)) → IsTrue D.tells → KeepsRun self.old.state.wal self.old.state.base records (acked self.new.state) opening (files (D.view self.new.disk)) }
-        ensures passes { Passes D.tells self.old.state self.new.state (D.view self.old.disk) (D.view self.new.disk) }
-        ensures goes_on { GoesOn (D.view self.old.disk) (D.view self.new.disk) }
+        ensures lasts { Lasts D.tells D.view self.old self.new }
+        ensures survives { Survives D.tells D.view self.old self.new }
     {
         if let Some(mark) = self.dead {
             return Err(JournalFault::Dead {
@@ -437,7 +450,7 @@ impl<D: Disk> Journal<D> {
     fn advance(&mut self) -> Result<Step, JournalFault>
         requires up { IsUp self.old.state }
         ensures rule { StepsBy self.old.state self.new.state (D.view self.old.disk) (D.view self.new.disk) result }
-        ensures keeps { KeepsRecords D.tells self.old.state (D.view self.old.disk) self.new.state (D.view self.new.disk) }
+        ensures keeps { KeepsRecords D.tells D.view self.old self.new }
         ensures passes { Passes D.tells self.old.state self.new.state (D.view self.old.disk) (D.view self.new.disk) }
         ensures goes_on { GoesOn (D.view self.old.disk) (D.view self.new.disk) }
     {
@@ -453,7 +466,7 @@ impl<D: Disk> Journal<D> {
 
     /// What the monitor is shown of the current segment.
     fn view(&self, current: &LogWriter) -> MonitorView
-        ensures { result ≡ record { opened = length self.now.state.segments; broken = is_broken current.now; waiting = current.now.waiting; threshold = self.now.state.threshold; behind = nat_lt (acked self.now.state) (len self.now.state) } }
+        ensures { result ≡ shown self.now.state current.now }
     {
         MonitorView {
             opened: self.writers.len() as u32,
@@ -469,7 +482,7 @@ impl<D: Disk> Journal<D> {
         requires lives { self.old.state.dead ≡ None }
         ensures went { OnOk result (stepping.GoesOn self.old.state self.new.state) }
         ensures ended { IfErr result (EndsGoing self.old.state self.new.state) }
-        ensures keeps { KeepsRecords D.tells self.old.state (D.view self.old.disk) self.new.state (D.view self.new.disk) }
+        ensures keeps { KeepsRecords D.tells D.view self.old self.new }
         ensures passes { Passes D.tells self.old.state self.new.state (D.view self.old.disk) (D.view self.new.disk) }
         ensures goes_on { GoesOn (D.view self.old.disk) (D.view self.new.disk) }
         ensures stalls { polls_left (D.view self.new.disk) ≡ polls_left (D.view self.old.disk) }
@@ -506,25 +519,16 @@ impl<D: Disk> Journal<D> {
         ensures waited { result ≡ Ok steps.Waited → PollsFell (D.view self.old.disk) (D.view self.new.disk) }
         ensures dead { IfErr result (IsMarked self.new.state) }
         ensures still { (self.old.state.dead ≢ None) ⊎ IsIdle self.old.state → self.new ≡ self.old }
-        ensures setting { KeepsGoal self.old.state self.new.state }
-        ensures harmed { IsHarmed self.new.state → IsHarmed self.old.state ⊎ FaultsRose (D.view self.old.disk) (D.view self.new.disk) }
-        ensures smooth { 1 ≤ self.old.state.threshold → IsSmooth self.old.state → IsSmooth self.new.state ⊎ (FaultsRose (D.view self.old.disk) (D.view self.new.disk) ⊎ PollsFell (D.view self.old.disk) (D.view self.new.disk)) }
-        ensures acked { acked self.old.state ≤ acked self.new.state }
-        ensures keeps { KeepsRecords D.tells self.old.state (D.view self.old.disk) self.new.state (D.view self.new.disk) }
-        ensures keeps_base { (base : List Batch) → KeepsBase D.tells base self.old.state (D.view self.old.disk) → KeepsBase D.tells base self.new.state (D.view self.new.disk) }
-        ensures recovers { (records base : List Batch) → StandsFor D.tells records self.old.state (D.view self.old.disk) → KeepsBase D.tells base self.old.state (D.view self.old.disk) → IsTrue D.tells → AtEachMoment ((D.view self.old.disk).clock) (D.view self.new.disk) (RecoversTo base records (acked self.old.state)) }
-        ensures recovers_at_exit { (records base : List Batch) → StandsFor D.tells records self.old.state (D.view self.old.disk) → KeepsBase D.tells base self.old.state (D.view self.old.disk) → IsTrue D.tells → RecoversTo base records (acked self.new.state) (files (D.view self.new.disk)) }
-        ensures run { (records : List Batch) (opening : Files) → StandsFor D.tells records self.old.state (D.view self.old.disk) → IsOpenedOn opening self.old.state (files (D.view self.old.disk)) → IsTrue D.tells → AtEachMoment ((D.view self.old.disk).clock) (D.view self.new.disk) (KeepsRun self.old.state.wal self.old.state.base records (acked self.old.state) opening) }
-        ensures run_at_exit { (records : List Batch) (opening : Files) → StandsFor D.tells records self.old.state (D.view self.old.disk) → IsOpenedOn opening self.old.state (files (D.view self.old.disk)) → IsTrue D.tells → KeepsRun self.old.state.wal self.old.state.base records (acked self.new.state) opening (files (D.view self.new.disk)) }
-        ensures passes { Passes D.tells self.old.state self.new.state (D.view self.old.disk) (D.view self.new.disk) }
-        ensures goes_on { GoesOn (D.view self.old.disk) (D.view self.new.disk) }
+        ensures want { self.new.state.want ≡ self.old.state.want }
+        ensures lasts { Lasts D.tells D.view self.old self.new }
+        ensures survives { Survives D.tells D.view self.old self.new }
     {
         self.move_on()
     }
 
     /// Steps until a step does not move.
     fn move_on(&mut self) -> Result<Step, JournalFault>
-        ensures moves { Moves D.tells self.old.state self.new.state (D.view self.old.disk) (D.view self.new.disk) result }
+        ensures moves { Moves D.tells D.view self.old self.new result }
         ensures still { (self.old.state.dead ≢ None) ⊎ IsIdle self.old.state → self.new ≡ self.old }
     {
         loop {
@@ -540,22 +544,14 @@ impl<D: Disk> Journal<D> {
     /// called again.
     pub fn close(&mut self) -> Result<(), JournalFault>
         ensures closes { Closes self.old.state self.new.state (D.view self.old.disk) (D.view self.new.disk) result }
+        ensures lives { OnOk result (self.old.state.dead ≡ None) }
+        ensures idle { OnOk result (IsIdle self.new.state) }
         ensures synced { OnOk result (acked self.new.state ≡ len self.new.state) }
         ensures rests { OnOk result (NothingInFlight (D.view self.new.disk)) }
         ensures dead { IfErr result (IsMarked self.new.state) }
         ensures still { self.old.state.dead ≢ None → self.new.disk ≡ self.old.disk }
-        ensures setting { KeepsEnd self.old.state self.new.state }
-        ensures harmed { IsHarmed self.new.state → IsHarmed self.old.state ⊎ FaultsRose (D.view self.old.disk) (D.view self.new.disk) }
-        ensures smooth { 1 ≤ self.old.state.threshold → IsSmooth self.old.state → IsSmooth self.new.state ⊎ (FaultsRose (D.view self.old.disk) (D.view self.new.disk) ⊎ PollsFell (D.view self.old.disk) (D.view self.new.disk)) }
-        ensures acked { acked self.old.state ≤ acked self.new.state }
-        ensures keeps { KeepsRecords D.tells self.old.state (D.view self.old.disk) self.new.state (D.view self.new.disk) }
-        ensures keeps_base { (base : List Batch) → KeepsBase D.tells base self.old.state (D.view self.old.disk) → KeepsBase D.tells base self.new.state (D.view self.new.disk) }
-        ensures recovers { (records base : List Batch) → StandsFor D.tells records self.old.state (D.view self.old.disk) → KeepsBase D.tells base self.old.state (D.view self.old.disk) → IsTrue D.tells → AtEachMoment ((D.view self.old.disk).clock) (D.view self.new.disk) (RecoversTo base records (acked self.old.state)) }
-        ensures recovers_at_exit { (records base : List Batch) → StandsFor D.tells records self.old.state (D.view self.old.disk) → KeepsBase D.tells base self.old.state (D.view self.old.disk) → IsTrue D.tells → RecoversTo base records (acked self.new.state) (files (D.view self.new.disk)) }
-        ensures run { (records : List Batch) (opening : Files) → StandsFor D.tells records self.old.state (D.view self.old.disk) → IsOpenedOn opening self.old.state (files (D.view self.old.disk)) → IsTrue D.tells → AtEachMoment ((D.view self.old.disk).clock) (D.view self.new.disk) (KeepsRun self.old.state.wal self.old.state.base records (acked self.old.state) opening) }
-        ensures run_at_exit { (records : List Batch) (opening : Files) → StandsFor D.tells records self.old.state (D.view self.old.disk) → IsOpenedOn opening self.old.state (files (D.view self.old.disk)) → IsTrue D.tells → KeepsRun self.old.state.wal self.old.state.base records (acked self.new.state) opening (files (D.view self.new.disk)) }
-        ensures passes { Passes D.tells self.old.state self.new.state (D.view self.old.disk) (D.view self.new.disk) }
-        ensures goes_on { GoesOn (D.view self.old.disk) (D.view self.new.disk) }
+        ensures lasts { Lasts D.tells D.view self.old self.new }
+        ensures survives { Survives D.tells D.view self.old self.new }
     {
         self.want = self.records.end();
         self.drain()
@@ -565,7 +561,7 @@ impl<D: Disk> Journal<D> {
     fn drain(&mut self) -> Result<(), JournalFault>
         requires all { self.old.state.want ≡ len self.old.state }
         requires stands { Stands D.tells self.old.state (D.view self.old.disk) }
-        ensures drains { Drains D.tells self.old.state self.new.state (D.view self.old.disk) (D.view self.new.disk) result }
+        ensures drains { Drains D.tells D.view self.old self.new result }
         ensures still { self.old.state.dead ≢ None → self.new ≡ self.old }
     {
         loop {
@@ -584,8 +580,8 @@ impl<D: StallDisk> Journal<D> {
         ensures setting { KeepsGoal self.old.state self.new.state }
         ensures acked { acked self.new.state ≡ acked self.old.state }
         ensures stalled { Stalls side polls (D.view self.old.disk) (D.view self.new.disk) }
-        ensures keeps { KeepsRecords D.tells self.old.state (D.view self.old.disk) self.new.state (D.view self.new.disk) }
-        ensures keeps_base { (base : List Batch) → KeepsBase D.tells base self.old.state (D.view self.old.disk) → KeepsBase D.tells base self.new.state (D.view self.new.disk) }
+        ensures keeps { KeepsRecords D.tells D.view self.old self.new }
+        ensures keeps_base { KeepsBases D.tells D.view self.old self.new }
     {
         self.disk.stall(side, polls);
     }

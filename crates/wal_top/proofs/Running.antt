@@ -1,5 +1,5 @@
 -- What the calls of a run's journal keep of it, one after another.
-use Rattle.std.proofs.Common.{◌≡◌, ◌≢◌, ◌⊎◌, inl, inr, ℕ, suc, ◌≤◌, ◌<◌, Bool, true, false, List, [], ◌∷◌, ◌++◌, length, map, Option, Some, None, IsTrue, Result, Ok, ap, sym, subst, ◌∙◌, refl, arith, append_assoc}
+use Rattle.std.proofs.Common.{◌≡◌, ◌≢◌, ◌⊎◌, inl, inr, ℕ, suc, ◌≤◌, ◌<◌, Bool, true, false, List, [], ◌∷◌, ◌++◌, length, map, Option, Some, None, IsTrue, ap, sym, subst, ◌∙◌, refl, arith, append_assoc}
 use Rattle.std.specs.Prelude.{is_some}
 use native.Mathlib.Decide.{dec_le}
 use Rattle.std.specs.Prelude.{max, Contains}
@@ -7,25 +7,19 @@ use Rattle.std.specs.List.{AllByRecursion}
 use Rattle.std.proofs.lemmas.List.{append-nil, length-drop, nil_from_length}
 use Rattle.batch_repr.specs.declared.batch.Batch.{Batch}
 use Rattle.disk_face.specs.declared.SegName.{SegName}
-use Rattle.disk_face.specs.declared.Progress.{Progress}
 use Rattle.disk_face.specs.View.{Place, DiskView, files, NothingInFlight}
 use Rattle.disk_face.specs.Calls.{GoesOn}
 use Rattle.disk_face.proofs.Moments.{goes_on_further, rose_later, rose_earlier}
 use Rattle.log_writer.specs.Writer.{Writer}
 use Rattle.log_writer.specs.Fits.{file_of}
-use Rattle.failover_writer.specs.declared.fault.JournalFault.{JournalFault}
-use Rattle.failover_writer.specs.declared.fault.Step.{Step}
 use Rattle.failover_writer.specs.declared.fault.DeadMark.{DeadMark}
-use Rattle.failover_writer.specs.State.{State, Held, len, acked, most_synced, broken_count}
-use Rattle.failover_writer.specs.Ranges.{AreJoined, StandsFor, KeepsRecords}
-use Rattle.failover_writer.specs.Stepping.{HasWork, Polls, StepRule}
-use Rattle.failover_writer.specs.Stepping as stepping
-use Rattle.failover_writer.specs.Answered.{StepsBy, IsIdle, IsHarmed, IsSmooth, FaultsRose, PollsFell, StepsOn, Closes, last_answer}
-use Rattle.failover_writer.specs.Answered as answered
+use Rattle.failover_writer.specs.State.{State, Held, with_room, len, acked, most_synced, broken_count}
+use Rattle.failover_writer.specs.Ranges.{AreJoined, StandsFor, KeepsRecords, AddsRecord}
+use Rattle.failover_writer.specs.Answered.{IsHarmed, IsSmooth, FaultsRose, PollsFell}
 use Rattle.failover_writer.specs.Moves.{Pushes}
-use Rattle.failover_writer.specs.Keeping.{IsElsewhere, KeepsBase, Passes}
+use Rattle.failover_writer.specs.Keeping.{IsElsewhere, KeepsBase, KeepsBases}
+use Rattle.failover_writer.specs.Lasting.{Lasts}
 use Rattle.failover_writer.specs.Sound.{IsSound}
-use Rattle.failover_writer.proofs.Stepped.{idle_of, still_of}
 use Rattle.failover_writer.proofs.Segments.{not_theirs, synced_within}
 use Rattle.failover_writer.proofs.Kept.{run_kept_now}
 use Rattle.failover_writer.proofs.Reading.{reads_as_image}
@@ -34,30 +28,6 @@ use Rattle.wal_top.specs.declared.replies.JournalEnd.{JournalEnd}
 use Rattle.wal_top.specs.Log.{PollsLeft, EndsAs}
 use Rattle.wal_top.specs.Journaling.{Runs, RunsOn, RunsStill, OthersSame, HasEnded}
 use Rattle.wal_top.proofs.Limits.{threshold}
-
--- ---- a journal that was dead is not closed
-
-ok_lives : (old : State) (one other : Option Progress) (new : State) (answer : Result Step JournalFault) (step : Step) → StepRule old one other new answer → answer ≡ Ok step → old.dead ≡ None
-ok_lives old _ _ _ _ step (stepping.was_dead side count dead) e = absurd cc
-ok_lives old _ _ _ _ step (stepping.idle lives rests work) e = lives
-ok_lives old _ _ _ _ step (stepping.dies one other polled new side count up polls dying) e = absurd cc
-ok_lives old _ _ _ _ step (stepping.goes one other polled started new up polls on releases) e = up.lives
-ok_lives old _ _ _ _ step (stepping.short one other polled up polls) e = absurd cc
-
-steps_live : (from : State) (before : DiskView) (to : State) (v : DiskView) → StepsOn from before to v → to.dead ≡ None → from.dead ≡ None
-steps_live from before _ _ answered.none lives = lives
-steps_live from before _ _ (answered.one_more mid new v after answer steps step) lives = steps_live from before mid v steps (ok_lives mid step.one step.other new (Ok answer) answer step.rule refl)
-
-module _ (old new : State) (before after : DiskView) (answer : Result Unit JournalFault) (done : Unit) (closes : Closes old new before after answer) (e : answer ≡ Ok done) where
-  last_idle : IsIdle closes.mid
-  last_idle = (idle_of closes.mid new closes.v after (last_answer answer) closes.last).0 (ap last_answer e)
-
-  pub closed_lives : old.dead ≡ None
-  closed_lives = steps_live (record old { want = len old }) before closes.mid closes.v closes.steps last_idle.lives
-
-  -- and it lives then
-  pub closed_leaves : new.dead ≡ None
-  closed_leaves = ap (λ (s : State). s.dead) (still_of closes.mid new closes.v after (last_answer answer) closes.last (inr last_idle)) ∙ last_idle.lives
 
 -- ---- what a run's journal keeps
 
@@ -98,41 +68,37 @@ module _ (tells : Bool) (start : DiskView) (wal base : ℕ) where
       })
       was_smooth (inr x) = inr x
 
-  -- a call that steps
-  pub runs_further : (own : List Batch) (old new : State) (v w : DiskView) → new.threshold ≡ old.threshold → KeepsRecords tells old v new w
-      → ((b : List Batch) → KeepsBase tells b old v → KeepsBase tells b new w)
-      → (IsHarmed new → IsHarmed old ⊎ FaultsRose v w) → (1 ≤ old.threshold → IsSmooth old → IsSmooth new ⊎ (FaultsRose v w ⊎ PollsFell v w)) → Passes tells old new v w → GoesOn v w
-      → Runs tells start wal base own old v → Runs tells start wal base own new w
-  runs_further own old new v w same_threshold keeps keeps_base harmed smooth passes goes r = record {
-    stands = keeps own r.stands;
-    wal_is = passes.wal ∙ r.wal_is;
-    base_is = passes.base ∙ r.base_is;
-    threshold = same_threshold ∙ r.threshold;
-    goes = goes_on_further start v w r.goes goes;
-    harmed = λ h. by_harm (harmed h);
-    smooth = by_smooth r.smooth;
-    kept = λ told b opening. keeps_base b (r.kept told b opening);
-    others = λ told. passes.others (files start) told (r.others told);
-  }
-    where
-      by_harm : IsHarmed old ⊎ FaultsRose v w → FaultsRose start w
-      by_harm (inl was) = rose_then start v w goes r.goes (r.harmed was)
-      by_harm (inr rose) = rose_now start v w r.goes rose
-
-      by_new : IsSmooth new ⊎ (FaultsRose v w ⊎ PollsFell v w) → IsSmooth new ⊎ (FaultsRose start w ⊎ PollsLeft start)
-      by_new (inl s) = inl s
-      by_new (inr (inl rose)) = inr (inl (rose_now start v w r.goes rose))
-      by_new (inr (inr (side, fell))) = inr (inr (side, omega (arith, fell, r.goes.polls side)))
-
-      by_smooth : IsSmooth old ⊎ (FaultsRose start v ⊎ PollsLeft start) → IsSmooth new ⊎ (FaultsRose start w ⊎ PollsLeft start)
-      by_smooth (inl s) = by_new (smooth (omega (arith, r.threshold, threshold)) s)
-      by_smooth (inr (inl rose)) = inr (inl (rose_then start v w goes r.goes rose))
-      by_smooth (inr (inr left)) = inr (inr left)
-
   module _ {Disk : Type 0} (view : Disk → DiskView) (own : List Batch) (old new : Held Disk) where
+    -- a call that steps
+    pub runs_further : Lasts tells view old new → KeepsBases tells view old new → Runs tells start wal base own old.state (view old.disk) → Runs tells start wal base own new.state (view new.disk)
+    runs_further lasts keeps_base r = record {
+      stands = lasts.keeps own r.stands;
+      wal_is = lasts.setting.wal ∙ r.wal_is;
+      base_is = lasts.setting.base ∙ r.base_is;
+      threshold = lasts.setting.threshold ∙ r.threshold;
+      goes = goes_on_further start (view old.disk) (view new.disk) r.goes lasts.goes_on;
+      harmed = λ h. by_harm (lasts.harmed h);
+      smooth = by_smooth r.smooth;
+      kept = λ told b opening. keeps_base b (r.kept told b opening);
+      others = λ told. lasts.passes.others (files start) told (r.others told);
+    }
+      where
+        by_harm : IsHarmed old.state ⊎ FaultsRose (view old.disk) (view new.disk) → FaultsRose start (view new.disk)
+        by_harm (inl was) = rose_then start (view old.disk) (view new.disk) lasts.goes_on r.goes (r.harmed was)
+        by_harm (inr rose) = rose_now start (view old.disk) (view new.disk) r.goes rose
+
+        by_new : IsSmooth new.state ⊎ (FaultsRose (view old.disk) (view new.disk) ⊎ PollsFell (view old.disk) (view new.disk)) → IsSmooth new.state ⊎ (FaultsRose start (view new.disk) ⊎ PollsLeft start)
+        by_new (inl s) = inl s
+        by_new (inr (inl rose)) = inr (inl (rose_now start (view old.disk) (view new.disk) r.goes rose))
+        by_new (inr (inr (side, fell))) = inr (inr (side, omega (arith, fell, r.goes.polls side)))
+
+        by_smooth : IsSmooth old.state ⊎ (FaultsRose start (view old.disk) ⊎ PollsLeft start) → IsSmooth new.state ⊎ (FaultsRose start (view new.disk) ⊎ PollsLeft start)
+        by_smooth (inl s) = by_new (lasts.smooth (omega (arith, r.threshold, threshold)) s)
+        by_smooth (inr (inl rose)) = inr (inl (rose_then start (view old.disk) (view new.disk) lasts.goes_on r.goes rose))
+        by_smooth (inr (inr left)) = inr (inr left)
+
     -- room was made
-    pub runs_reserved : (spare : ℕ) → new ≡ record old { state = record old.state { queue = record old.state.queue { spare = spare } } } → KeepsRecords tells old.state (view old.disk) new.state (view new.disk)
-        → ((b : List Batch) → KeepsBase tells b old.state (view old.disk) → KeepsBase tells b new.state (view new.disk)) → Runs tells start wal base own old.state (view old.disk) → Runs tells start wal base own new.state (view new.disk)
+    pub runs_reserved : (spare : ℕ) → new ≡ with_room spare old → KeepsRecords tells view old new → KeepsBases tells view old new → Runs tells start wal base own old.state (view old.disk) → Runs tells start wal base own new.state (view new.disk)
     runs_reserved spare same keeps keeps_base r =
         let roomy : State = record old.state { queue = record old.state.queue { spare = spare } } in
         subst (λ (h : Held Disk). Runs tells start wal base own h.state (view h.disk)) (sym same)
@@ -141,8 +107,8 @@ module _ (tells : Bool) (start : DiskView) (wal base : ℕ) where
         (λ b was. subst (λ (h : Held Disk). KeepsBase tells b h.state (view h.disk)) same (keeps_base b was)) r)
 
     -- a record was added
-    pub runs_pushed : (added : Batch) (sync : Bool) → Pushes added sync old.state new.state → new.disk ≡ old.disk → ((records : List Batch) → StandsFor tells records old.state (view old.disk) → StandsFor tells (records ++ added ∷ []) new.state (view new.disk))
-        → ((b : List Batch) → KeepsBase tells b old.state (view old.disk) → KeepsBase tells b new.state (view new.disk)) → Runs tells start wal base own old.state (view old.disk) → Runs tells start wal base (own ++ added ∷ []) new.state (view new.disk)
+    pub runs_pushed : (added : Batch) (sync : Bool) → Pushes added sync old.state new.state → new.disk ≡ old.disk → AddsRecord tells view added old new → KeepsBases tells view old new
+        → Runs tells start wal base own old.state (view old.disk) → Runs tells start wal base (own ++ added ∷ []) new.state (view new.disk)
     runs_pushed added sync pushes disk keeps keeps_base r =
         let e = pushes.new_is in
         subst (λ (d : Disk). Runs tells start wal base (own ++ added ∷ []) new.state (view d)) (sym disk)

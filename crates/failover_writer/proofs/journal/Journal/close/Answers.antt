@@ -1,63 +1,42 @@
 -- Where all records are to be synced, the steps that follow are those of the closing.
-use Rattle.std.proofs.Common.{ℕ, sym, subst, refl}
+use Rattle.std.proofs.Common.{◌≢◌, ℕ, None, ap, sym, subst, ◌∙◌, refl}
 use Rattle.failover_writer.specs.State.{Held}
-use Rattle.failover_writer.specs.Ranges.{StandsFor, Stands, KeepsRecords}
-use Rattle.failover_writer.specs.Keeping.{Passes}
+use Rattle.failover_writer.specs.Ranges.{StandsFor, Stands}
 use Rattle.failover_writer.specs.Closing.{Drains}
-use Rattle.failover_writer.proofs.Settling.{asking, asking_stands, closed_keeps, closed_synced, closed_rests, closed_passes, closed_setting}
+use Rattle.failover_writer.proofs.Settling.{asking, asking_stands, closed_lasts, closed_synced, closed_rests, closed_lives}
 use Rattle.failover_writer.proofs.Sound.{sound_beside}
-use Rattle.failover_writer.proofs.Stopped.{base_kept, run_at_moments, run_at_exit, base_at_moments, base_at_exit}
+use Rattle.failover_writer.proofs.Stopped.{survives}
 use Rattle.failover_writer.proofs.journal.Journal.close.Goals as goal
 
 -- what the journal held, and what its steps came to
 stood : (g : _) (c : goal.After-drain g) → Stands g.D.Disk.tells c.args.self.now.state (g.D.Disk.view c.args.self.now.disk)
 stood g c = subst (λ (h : Held _). Stands g.D.Disk.tells h.state (g.D.Disk.view h.disk)) c.self.view_is c.self.invariant.stands
 
-came : (g : _) (c : goal.After-drain g)
-    → Drains g.D.Disk.tells (asking c.args.self.now.state) c.drain.new.self.state (g.D.Disk.view c.args.self.now.disk) (g.D.Disk.view c.drain.new.self.disk) c.drain.result
+came : (g : _) (c : goal.After-drain g) → Drains g.D.Disk.tells g.D.Disk.view (asking c.args.self.now) c.drain.new.self c.drain.result
 came g c =
-    let new = c.drain.new.self.state in
-    let after = g.D.Disk.view c.drain.new.self.disk in
     let here = c.self.inside in
-    subst (λ (h : Held _). Drains g.D.Disk.tells (asking h.state) new (g.D.Disk.view h.disk) after c.drain.result) c.self.view_is
-    (subst (λ (n : ℕ). Drains g.D.Disk.tells (record { wal = here.wal; base = here.base; next = here.next; threshold = here.threshold; queue = here.records; want = n; segments = here.writers.items; dead = here.dead }) new (g.D.Disk.view here.disk) after c.drain.result)
+    subst (λ (h : Held _). Drains g.D.Disk.tells g.D.Disk.view (asking h) c.drain.new.self c.drain.result) c.self.view_is
+    (subst (λ (n : ℕ). Drains g.D.Disk.tells g.D.Disk.view (record { disk = here.disk; state = record { wal = here.wal; base = here.base; next = here.next; threshold = here.threshold; queue = here.records; want = n; segments = here.writers.items; dead = here.dead } }) c.drain.new.self c.drain.result)
     c.end-self-inside.ensures c.drain.ensures.drains)
 
+pub returns-clause-lives : goal.returns-clause-lives
+returns-clause-lives g c =
+    closed_lives g.D.Disk.tells g.D.Disk.view c.args.self.now c.drain.new.self c.drain.result (came g c)
+    (λ dead. ap (λ (h : Held _). h.state.dead) (c.drain.ensures.still (subst (λ (h : Held _). h.state.dead ≢ None) (sym c.self.view_is) dead)) ∙ ap (λ (h : Held _). h.state.dead) c.self.view_is)
+
 pub returns-clause-synced : goal.returns-clause-synced
-returns-clause-synced g c = closed_synced g.D.Disk.tells c.args.self.now.state c.drain.new.self.state (g.D.Disk.view c.args.self.now.disk) (g.D.Disk.view c.drain.new.self.disk) c.drain.result (came g c) (stood g c)
+returns-clause-synced g c = closed_synced g.D.Disk.tells g.D.Disk.view c.args.self.now c.drain.new.self c.drain.result (came g c) (stood g c)
 
 pub returns-clause-rests : goal.returns-clause-rests
-returns-clause-rests g c = closed_rests g.D.Disk.tells c.args.self.now.state c.drain.new.self.state (g.D.Disk.view c.args.self.now.disk) (g.D.Disk.view c.drain.new.self.disk) c.drain.result (came g c) (stood g c)
+returns-clause-rests g c = closed_rests g.D.Disk.tells g.D.Disk.view c.args.self.now c.drain.new.self c.drain.result (came g c) (stood g c)
 
-kept : (g : _) (c : goal.After-drain g) → KeepsRecords g.D.Disk.tells c.args.self.now.state (g.D.Disk.view c.args.self.now.disk) c.drain.new.self.state (g.D.Disk.view c.drain.new.self.disk)
-kept g c = closed_keeps g.D.Disk.tells c.args.self.now.state c.drain.new.self.state (g.D.Disk.view c.args.self.now.disk) (g.D.Disk.view c.drain.new.self.disk) c.drain.result (came g c)
+pub returns-clause-lasts : goal.returns-clause-lasts
+returns-clause-lasts g c = closed_lasts g.D.Disk.tells g.D.Disk.view c.args.self.now c.drain.new.self c.drain.result (came g c)
 
-pub returns-clause-keeps : goal.returns-clause-keeps
-returns-clause-keeps g c = kept g c
-
-passed : (g : _) (c : goal.After-drain g) → Passes g.D.Disk.tells c.args.self.now.state c.drain.new.self.state (g.D.Disk.view c.args.self.now.disk) (g.D.Disk.view c.drain.new.self.disk)
-passed g c = closed_passes g.D.Disk.tells c.args.self.now.state c.drain.new.self.state (g.D.Disk.view c.args.self.now.disk) (g.D.Disk.view c.drain.new.self.disk) c.drain.result (came g c)
-
-pub returns-clause-passes : goal.returns-clause-passes
-returns-clause-passes g c = passed g c
-
-pub returns-clause-keeps_base : goal.returns-clause-keeps_base
-returns-clause-keeps_base g c = base_kept g.D.Disk.tells c.args.self.now.state c.drain.new.self.state (g.D.Disk.view c.args.self.now.disk) (g.D.Disk.view c.drain.new.self.disk) (passed g c)
-
-pub returns-clause-recovers : goal.returns-clause-recovers
-returns-clause-recovers g c = base_at_moments g.D.Disk.tells c.args.self.now.state c.drain.new.self.state (g.D.Disk.view c.args.self.now.disk) (g.D.Disk.view c.drain.new.self.disk) (passed g c) (kept g c)
-
-pub returns-clause-recovers_at_exit : goal.returns-clause-recovers_at_exit
-returns-clause-recovers_at_exit g c = base_at_exit g.D.Disk.tells c.args.self.now.state c.drain.new.self.state (g.D.Disk.view c.args.self.now.disk) (g.D.Disk.view c.drain.new.self.disk) (passed g c) (kept g c)
-
-pub returns-clause-run : goal.returns-clause-run
-returns-clause-run g c = run_at_moments g.D.Disk.tells c.args.self.now.state c.drain.new.self.state (g.D.Disk.view c.args.self.now.disk) (g.D.Disk.view c.drain.new.self.disk) (passed g c) (kept g c)
-
-pub returns-clause-run_at_exit : goal.returns-clause-run_at_exit
-returns-clause-run_at_exit g c = run_at_exit g.D.Disk.tells c.args.self.now.state c.drain.new.self.state (g.D.Disk.view c.args.self.now.disk) (g.D.Disk.view c.drain.new.self.disk) (passed g c) (kept g c)
-
-pub returns-clause-setting : goal.returns-clause-setting
-returns-clause-setting g c = closed_setting g.D.Disk.tells c.args.self.now.state c.drain.new.self.state (g.D.Disk.view c.args.self.now.disk) (g.D.Disk.view c.drain.new.self.disk) c.drain.result (came g c)
+pub returns-clause-survives : goal.returns-clause-survives
+returns-clause-survives g c =
+    let lasts = closed_lasts g.D.Disk.tells g.D.Disk.view c.args.self.now c.drain.new.self c.drain.result (came g c) in
+    survives g.D.Disk.tells g.D.Disk.view c.args.self.now c.drain.new.self lasts.keeps lasts.passes
 
 pub invariant_of-self : goal.invariant_of-self
 invariant_of-self g c =

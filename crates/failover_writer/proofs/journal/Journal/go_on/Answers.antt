@@ -5,8 +5,8 @@ use borrow.Author.Tests.{both_ways}
 use Rattle.stall_monitor.specs.Verdicts.{IsToDie, IsToSwitch}
 use Rattle.log_writer.specs.Writer.{Writer}
 use Rattle.failover_writer.specs.State.{Held}
-use Rattle.failover_writer.specs.Stepping.{Dies, IsToStay, first, none_to_begin, switches}
-use Rattle.failover_writer.proofs.Ruled.{shown, empty_from, verdict_from, stays_where, went_on, dies_now}
+use Rattle.failover_writer.specs.Stepping.{shown, Dies, IsToStay, first, none_to_begin, switches}
+use Rattle.failover_writer.proofs.Ruled.{empty_from, verdict_from, stays_where, went_on, dies_now}
 use Rattle.failover_writer.proofs.journal.Journal.go_on.Goals as goal
 
 pub returns-in_ok-begin_next-clause-went : goal.returns-in_ok-begin_next-clause-went

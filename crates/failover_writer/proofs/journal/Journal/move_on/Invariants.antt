@@ -1,14 +1,15 @@
 -- All steps so far moved, and what holds of them; each takes a poll left, or leaves less to do.
 use Rattle.std.proofs.Common.{◌≡◌, ◌≢◌, ◌⊎◌, None}
 use Rattle.failover_writer.specs.Answered.{MovesOn, IsIdle}
-use Rattle.failover_writer.specs.Closing.{Lasts}
+use Rattle.failover_writer.specs.Lasting.{Lasts}
 use Rattle.failover_writer.specs.Remaining.{measure}
 use Rattle.failover_writer.proofs.journal.Journal.move_on.Given as goal
 
 abbrev pub invariant-loop : goal.invariant-loop
 invariant-loop g l = record {
   steps : MovesOn l.initial.self.state (g.D.Disk.view l.initial.self.disk) l.self.state (g.D.Disk.view l.self.disk);
-  lasts : Lasts g.D.Disk.tells l.initial.self.state l.self.state (g.D.Disk.view l.initial.self.disk) (g.D.Disk.view l.self.disk);
+  want : l.self.state.want ≡ l.initial.self.state.want;
+  lasts : Lasts g.D.Disk.tells g.D.Disk.view l.initial.self l.self;
   still : (l.initial.self.state.dead ≢ None) ⊎ IsIdle l.initial.self.state → l.self ≡ l.initial.self;
 }
 

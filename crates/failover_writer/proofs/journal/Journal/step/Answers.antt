@@ -8,11 +8,12 @@ use Rattle.failover_writer.specs.Ranges.{Stands, KeepsRecords}
 use Rattle.failover_writer.specs.Stepping.{was_dead, idle}
 use Rattle.failover_writer.specs.Answered.{AsksInTurn, StepsBy}
 use Rattle.failover_writer.specs.Keeping.{Passes}
+use Rattle.failover_writer.specs.Lasting.{Lasts, Survives}
 use Rattle.failover_writer.proofs.Passing.{passes_still}
-use Rattle.failover_writer.proofs.Stopped.{base_kept, run_at_moments, run_at_exit, base_at_moments, base_at_exit}
+use Rattle.failover_writer.proofs.Stopped.{survives}
 use Rattle.failover_writer.proofs.Stepped.{idle_of, waited_of, dead_of, harmed_of, smooth_of}
 use Rattle.failover_writer.proofs.Closing.{falls}
-use Rattle.failover_writer.proofs.Settling.{goal_still, goal_kept, records_are}
+use Rattle.failover_writer.proofs.Settling.{goal_kept, end_still, lasts_none, records_are}
 use Rattle.failover_writer.proofs.journal.Journal.step.Goals as goal
 
 -- Nothing is asked.
@@ -56,85 +57,62 @@ returns-clause-waited g c = waited_of c.args.self.now.state c.advance.new.self.s
 pub returns-clause-dead : goal.returns-clause-dead
 returns-clause-dead g c = dead_of c.args.self.now.state c.advance.new.self.state (g.D.Disk.view c.args.self.now.disk) (g.D.Disk.view c.advance.new.self.disk) c.advance.result (steps_by g c)
 
-pub returns-clause-harmed : goal.returns-clause-harmed
-returns-clause-harmed g c = harmed_of c.args.self.now.state c.advance.new.self.state (g.D.Disk.view c.args.self.now.disk) (g.D.Disk.view c.advance.new.self.disk) c.advance.result (steps_by g c)
-
-pub returns-clause-smooth : goal.returns-clause-smooth
-returns-clause-smooth g c = smooth_of c.args.self.now.state c.advance.new.self.state (g.D.Disk.view c.args.self.now.disk) (g.D.Disk.view c.advance.new.self.disk) c.advance.result (steps_by g c)
-
 passes : (g : _) (c : goal.After-advance g) → Passes g.D.Disk.tells c.args.self.now.state c.advance.new.self.state (g.D.Disk.view c.args.self.now.disk) (g.D.Disk.view c.advance.new.self.disk)
 passes g c =
     subst (λ (held : Held _). Passes g.D.Disk.tells held.state c.advance.new.self.state (g.D.Disk.view held.disk) (g.D.Disk.view c.advance.new.self.disk)) c.is_up.ensures.same c.advance.ensures.passes
 
-pub returns-clause-keeps_base : goal.returns-clause-keeps_base
-returns-clause-keeps_base g c base kept =
-    base_kept g.D.Disk.tells c.args.self.now.state c.advance.new.self.state (g.D.Disk.view c.args.self.now.disk) (g.D.Disk.view c.advance.new.self.disk) (passes g c) base kept
+keeps : (g : _) (c : goal.After-advance g) → KeepsRecords g.D.Disk.tells g.D.Disk.view c.args.self.now c.advance.new.self
+keeps g c = subst (λ (held : Held _). KeepsRecords g.D.Disk.tells g.D.Disk.view held c.advance.new.self) c.is_up.ensures.same c.advance.ensures.keeps
 
-keeps : (g : _) (c : goal.After-advance g) → KeepsRecords g.D.Disk.tells c.args.self.now.state (g.D.Disk.view c.args.self.now.disk) c.advance.new.self.state (g.D.Disk.view c.advance.new.self.disk)
-keeps g c =
-    subst (λ (held : Held _). KeepsRecords g.D.Disk.tells held.state (g.D.Disk.view held.disk) c.advance.new.self.state (g.D.Disk.view c.advance.new.self.disk)) c.is_up.ensures.same c.advance.ensures.keeps
+goes_on : (g : _) (c : goal.After-advance g) → GoesOn (g.D.Disk.view c.args.self.now.disk) (g.D.Disk.view c.advance.new.self.disk)
+goes_on g c = subst (λ (held : Held _). GoesOn (g.D.Disk.view held.disk) (g.D.Disk.view c.advance.new.self.disk)) c.is_up.ensures.same c.advance.ensures.goes_on
 
 -- ---- what it leaves as it was, and what is left to do
 
-pub returns-in-Some-clause-setting : goal.returns-in-Some-clause-setting
-returns-in-Some-clause-setting g c = goal_still c.args.self.now.state c.args.self.now.state refl
+pub returns-then-not-is_up-clause-want : goal.returns-then-not-is_up-clause-want
+returns-then-not-is_up-clause-want g c = ap (λ (held : Held _). held.state.want) c.if-not-is_up.ensures.same
 
-pub returns-then-not-is_up-clause-setting : goal.returns-then-not-is_up-clause-setting
-returns-then-not-is_up-clause-setting g c = goal_still c.args.self.now.state c.is_up.new.self.state (ap (λ (held : Held _). held.state) c.if-not-is_up.ensures.same)
-
-pub returns-clause-setting : goal.returns-clause-setting
-returns-clause-setting g c = goal_kept (steps_by g c).rule
+pub returns-clause-want : goal.returns-clause-want
+returns-clause-want g c = (goal_kept (steps_by g c).rule).want
 
 pub returns-clause-falls : goal.returns-clause-falls
 returns-clause-falls g c =
     let stands = subst (λ (held : Held _). Stands g.D.Disk.tells held.state (g.D.Disk.view held.disk)) c.self.view_is c.self.invariant.stands in
-    let goes = subst (λ (held : Held _). GoesOn (g.D.Disk.view held.disk) (g.D.Disk.view c.advance.new.self.disk)) c.is_up.ensures.same c.advance.ensures.goes_on in
     falls c.args.self.now.state c.advance.new.self.state (g.D.Disk.view c.args.self.now.disk) (g.D.Disk.view c.advance.new.self.disk) c.advance.result
-    (omega (arith, stands.1.want, records_are g.D.Disk.tells stands.0 c.args.self.now.state (g.D.Disk.view c.args.self.now.disk) stands.1)) stands.1.few goes (steps_by g c)
+    (omega (arith, stands.1.want, records_are g.D.Disk.tells stands.0 c.args.self.now.state (g.D.Disk.view c.args.self.now.disk) stands.1)) stands.1.few (goes_on g c) (steps_by g c)
+
+pub returns-in-Some-clause-lasts : goal.returns-in-Some-clause-lasts
+returns-in-Some-clause-lasts g c = lasts_none g.D.Disk.tells g.D.Disk.view c.args.self.now
+
+pub returns-then-not-is_up-clause-lasts : goal.returns-then-not-is_up-clause-lasts
+returns-then-not-is_up-clause-lasts g c = subst (Lasts g.D.Disk.tells g.D.Disk.view c.args.self.now) (sym c.if-not-is_up.ensures.same) (lasts_none g.D.Disk.tells g.D.Disk.view c.args.self.now)
+
+pub returns-clause-lasts : goal.returns-clause-lasts
+returns-clause-lasts g c =
+    let old = c.args.self.now in
+    let new = c.advance.new.self in
+    let by = steps_by g c in
+    record {
+      setting = end_still old.state new.state (goal_kept by.rule);
+      acked = (passes g c).acked;
+      harmed = harmed_of old.state new.state (g.D.Disk.view old.disk) (g.D.Disk.view new.disk) c.advance.result by;
+      smooth = smooth_of old.state new.state (g.D.Disk.view old.disk) (g.D.Disk.view new.disk) c.advance.result by;
+      keeps = keeps g c;
+      passes = passes g c;
+      goes_on = goes_on g c;
+    }
 
 -- ---- what a stop leaves
 
-pub returns-in-Some-clause-recovers : goal.returns-in-Some-clause-recovers
-returns-in-Some-clause-recovers g c = base_at_moments g.D.Disk.tells c.args.self.now.state c.args.self.now.state (g.D.Disk.view c.args.self.now.disk) (g.D.Disk.view c.args.self.now.disk) (passes_still g.D.Disk.tells c.args.self.now.state c.args.self.now.state (g.D.Disk.view c.args.self.now.disk) refl refl refl) (λ held stood. stood)
+pub returns-in-Some-clause-survives : goal.returns-in-Some-clause-survives
+returns-in-Some-clause-survives g c =
+    let old = c.args.self.now in
+    survives g.D.Disk.tells g.D.Disk.view old old (λ records stands. stands) (passes_still g.D.Disk.tells old.state old.state (g.D.Disk.view old.disk) refl refl refl)
 
-pub returns-in-Some-clause-recovers_at_exit : goal.returns-in-Some-clause-recovers_at_exit
-returns-in-Some-clause-recovers_at_exit g c = base_at_exit g.D.Disk.tells c.args.self.now.state c.args.self.now.state (g.D.Disk.view c.args.self.now.disk) (g.D.Disk.view c.args.self.now.disk) (passes_still g.D.Disk.tells c.args.self.now.state c.args.self.now.state (g.D.Disk.view c.args.self.now.disk) refl refl refl) (λ held stood. stood)
+pub returns-then-not-is_up-clause-survives : goal.returns-then-not-is_up-clause-survives
+returns-then-not-is_up-clause-survives g c =
+    let old = c.args.self.now in
+    subst (Survives g.D.Disk.tells g.D.Disk.view old) (sym c.if-not-is_up.ensures.same) (survives g.D.Disk.tells g.D.Disk.view old old (λ records stands. stands) (passes_still g.D.Disk.tells old.state old.state (g.D.Disk.view old.disk) refl refl refl))
 
-pub returns-in-Some-clause-run : goal.returns-in-Some-clause-run
-returns-in-Some-clause-run g c = run_at_moments g.D.Disk.tells c.args.self.now.state c.args.self.now.state (g.D.Disk.view c.args.self.now.disk) (g.D.Disk.view c.args.self.now.disk) (passes_still g.D.Disk.tells c.args.self.now.state c.args.self.now.state (g.D.Disk.view c.args.self.now.disk) refl refl refl) (λ held stood. stood)
-
-pub returns-in-Some-clause-run_at_exit : goal.returns-in-Some-clause-run_at_exit
-returns-in-Some-clause-run_at_exit g c = run_at_exit g.D.Disk.tells c.args.self.now.state c.args.self.now.state (g.D.Disk.view c.args.self.now.disk) (g.D.Disk.view c.args.self.now.disk) (passes_still g.D.Disk.tells c.args.self.now.state c.args.self.now.state (g.D.Disk.view c.args.self.now.disk) refl refl refl) (λ held stood. stood)
-
-unchanged : (g : _) (c : goal.Then-not-is_up g) → Passes g.D.Disk.tells c.args.self.now.state c.is_up.new.self.state (g.D.Disk.view c.args.self.now.disk) (g.D.Disk.view c.is_up.new.self.disk)
-unchanged g c =
-    subst (λ (held : Held _). Passes g.D.Disk.tells c.args.self.now.state held.state (g.D.Disk.view c.args.self.now.disk) (g.D.Disk.view held.disk)) (sym c.is_up.ensures.same)
-    (passes_still g.D.Disk.tells c.args.self.now.state c.args.self.now.state (g.D.Disk.view c.args.self.now.disk) refl refl refl)
-
-still_keeps : (g : _) (c : goal.Then-not-is_up g) → KeepsRecords g.D.Disk.tells c.args.self.now.state (g.D.Disk.view c.args.self.now.disk) c.is_up.new.self.state (g.D.Disk.view c.is_up.new.self.disk)
-still_keeps g c =
-    subst (λ (held : Held _). KeepsRecords g.D.Disk.tells c.args.self.now.state (g.D.Disk.view c.args.self.now.disk) held.state (g.D.Disk.view held.disk)) (sym c.is_up.ensures.same) (λ records stands. stands)
-
-pub returns-then-not-is_up-clause-recovers : goal.returns-then-not-is_up-clause-recovers
-returns-then-not-is_up-clause-recovers g c = base_at_moments g.D.Disk.tells c.args.self.now.state c.is_up.new.self.state (g.D.Disk.view c.args.self.now.disk) (g.D.Disk.view c.is_up.new.self.disk) (unchanged g c) (still_keeps g c)
-
-pub returns-then-not-is_up-clause-recovers_at_exit : goal.returns-then-not-is_up-clause-recovers_at_exit
-returns-then-not-is_up-clause-recovers_at_exit g c = base_at_exit g.D.Disk.tells c.args.self.now.state c.is_up.new.self.state (g.D.Disk.view c.args.self.now.disk) (g.D.Disk.view c.is_up.new.self.disk) (unchanged g c) (still_keeps g c)
-
-pub returns-then-not-is_up-clause-run : goal.returns-then-not-is_up-clause-run
-returns-then-not-is_up-clause-run g c = run_at_moments g.D.Disk.tells c.args.self.now.state c.is_up.new.self.state (g.D.Disk.view c.args.self.now.disk) (g.D.Disk.view c.is_up.new.self.disk) (unchanged g c) (still_keeps g c)
-
-pub returns-then-not-is_up-clause-run_at_exit : goal.returns-then-not-is_up-clause-run_at_exit
-returns-then-not-is_up-clause-run_at_exit g c = run_at_exit g.D.Disk.tells c.args.self.now.state c.is_up.new.self.state (g.D.Disk.view c.args.self.now.disk) (g.D.Disk.view c.is_up.new.self.disk) (unchanged g c) (still_keeps g c)
-
-pub returns-clause-recovers : goal.returns-clause-recovers
-returns-clause-recovers g c = base_at_moments g.D.Disk.tells c.args.self.now.state c.advance.new.self.state (g.D.Disk.view c.args.self.now.disk) (g.D.Disk.view c.advance.new.self.disk) (passes g c) (keeps g c)
-
-pub returns-clause-recovers_at_exit : goal.returns-clause-recovers_at_exit
-returns-clause-recovers_at_exit g c = base_at_exit g.D.Disk.tells c.args.self.now.state c.advance.new.self.state (g.D.Disk.view c.args.self.now.disk) (g.D.Disk.view c.advance.new.self.disk) (passes g c) (keeps g c)
-
-pub returns-clause-run : goal.returns-clause-run
-returns-clause-run g c = run_at_moments g.D.Disk.tells c.args.self.now.state c.advance.new.self.state (g.D.Disk.view c.args.self.now.disk) (g.D.Disk.view c.advance.new.self.disk) (passes g c) (keeps g c)
-
-pub returns-clause-run_at_exit : goal.returns-clause-run_at_exit
-returns-clause-run_at_exit g c = run_at_exit g.D.Disk.tells c.args.self.now.state c.advance.new.self.state (g.D.Disk.view c.args.self.now.disk) (g.D.Disk.view c.advance.new.self.disk) (passes g c) (keeps g c)
+pub returns-clause-survives : goal.returns-clause-survives
+returns-clause-survives g c = survives g.D.Disk.tells g.D.Disk.view c.args.self.now c.advance.new.self (keeps g c) (passes g c)

@@ -6,20 +6,19 @@ use Rattle.failover_writer.specs.State.{State, len, acked}
 use Rattle.wal_top.specs.Journaling.{RunsStill}
 use Rattle.wal_top.specs.Doing.{InCourse, Closes, stage_of}
 use Rattle.wal_top.proofs.Saying.{ok_is, err_is}
-use Rattle.wal_top.proofs.Running.{closed_lives, closed_leaves, runs_further}
+use Rattle.wal_top.proofs.Running.{runs_further}
 use Rattle.wal_top.proofs.Closings.{closes_stage, marked_dead, unmarked_lives}
 use Rattle.wal_top.proofs.replay.Course.close.Goals as goal
 use Rattle.wal_top.proofs.replay.Course.close.Goals.{in-Ok, in-Err-Dead, in-Err-NoMemory}
 
 pub invariant_of-self : goal.invariant_of-self
-invariant_of-self g c = c.close.ensures.setting.next ∙ c.self.invariant
+invariant_of-self g c = c.close.ensures.lasts.setting.next ∙ c.self.invariant
 
 -- the journal within keeps its run
 still : (g : _) (c : goal.Joined-close g) → RunsStill g.D.Disk.tells c.self.inside.journal.state (g.D.Disk.view c.self.inside.journal.disk) c.close.new.self.state (g.D.Disk.view c.close.new.self.disk)
 still g c start wal first own r =
     let e = c.close.ensures in
-    runs_further g.D.Disk.tells start wal first own c.self.inside.journal.state c.close.new.self.state (g.D.Disk.view c.self.inside.journal.disk) (g.D.Disk.view c.close.new.self.disk)
-    e.setting.threshold e.keeps e.keeps_base e.harmed e.smooth e.passes e.goes_on r
+    runs_further g.D.Disk.tells start wal first g.D.Disk.view own c.self.inside.journal c.close.new.self e.lasts e.survives.keeps_base r
 
 pub returns-clause-runs : goal.returns-clause-runs
 returns-clause-runs g c =
@@ -27,7 +26,6 @@ returns-clause-runs g c =
 
 pub returns-clause-closes : goal.returns-clause-closes
 returns-clause-closes g c =
-    let e = c.close.ensures in
     let old : State = c.self.inside.journal.state in
     let new : State = c.close.new.self.state in
     let before : DiskView = g.D.Disk.view c.self.inside.journal.disk in
@@ -38,7 +36,7 @@ returns-clause-closes g c =
     (record { batches = c.self.inside.history; journal = new; view = after; text = c.self.inside.text; limited = c.self.inside.limited }))) c.self.view_is
     (elim c.match-close.branch [
       | in-Ok w ↦ ok_is _ c.match-close.result false w.result-is
-          (here false (λ _. closed_lives old new before after c.close.result _ e.closes w.in-Ok.is) (unmarked_lives new (closed_leaves old new before after c.close.result _ e.closes w.in-Ok.is)) (λ _. w.in-Ok.ensures.synced) (λ _. w.in-Ok.ensures.rests))
+          (here false (λ _. w.in-Ok.ensures.lives) (unmarked_lives new w.in-Ok.ensures.idle.lives) (λ _. w.in-Ok.ensures.synced) (λ _. w.in-Ok.ensures.rests))
       | in-Err-Dead w ↦ ok_is _ c.match-close.result true w.result-is
           (here true (λ d. absurd cc) (marked_dead new w.in-Err-Dead.field-0 w.in-Err-Dead.field-0-0 w.in-Err-Dead.field-0-1 w.in-Err-Dead.field-0-is w.in-Err-Dead.ensures.dead) (λ d. absurd cc) (λ d. absurd cc))
       | in-Err-NoMemory w ↦ err_is _ c.match-close.result _ w.result-is

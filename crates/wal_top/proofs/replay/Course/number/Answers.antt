@@ -29,11 +29,11 @@ returns-in_err-numbered-clause-runs g c =
 
 pub invariant_of-self-in_err-settled : goal.invariant_of-self-in_err-settled
 invariant_of-self-in_err-settled g c =
-    next_behind c.settle.new.self.state.next c.push.new.self.state.next c.self.inside.history c.commit.new.self c.in_ok-numbered.numbered c.args.batch c.settle.ensures.setting.next c.push.ensures.pushed.next c.in_ok-numbered.ensures.numbered c.in_ok-numbered.ensures.added
+    next_behind c.settle.new.self.state.next c.push.new.self.state.next c.self.inside.history c.commit.new.self c.in_ok-numbered.numbered c.args.batch c.settle.ensures.lasts.setting.next c.push.ensures.pushed.next c.in_ok-numbered.ensures.numbered c.in_ok-numbered.ensures.added
 
 pub invariant_of-self-2 : goal.invariant_of-self-2
 invariant_of-self-2 g c =
-    next_behind c.settle.new.self.state.next c.push.new.self.state.next c.self.inside.history c.commit.new.self c.in_ok-numbered.numbered c.args.batch c.settle.ensures.setting.next c.push.ensures.pushed.next c.in_ok-numbered.ensures.numbered c.in_ok-numbered.ensures.added
+    next_behind c.settle.new.self.state.next c.push.new.self.state.next c.self.inside.history c.commit.new.self c.in_ok-numbered.numbered c.args.batch c.settle.ensures.lasts.setting.next c.push.ensures.pushed.next c.in_ok-numbered.ensures.numbered c.in_ok-numbered.ensures.added
 
 pub returns-in_err-settled-clause-runs : goal.returns-in_err-settled-clause-runs
 returns-in_err-settled-clause-runs g c start wal first own r =
@@ -42,8 +42,7 @@ returns-in_err-settled-clause-runs g c start wal first own r =
     let e = c.push.ensures in
     let s = c.settle.ensures in (
       c.in_ok-numbered.numbered ∷ [],
-      runs_further g.D.Disk.tells start wal first (own ++ c.in_ok-numbered.numbered ∷ []) c.push.new.self.state c.settle.new.self.state (g.D.Disk.view c.push.new.self.disk) (g.D.Disk.view c.settle.new.self.disk)
-          s.setting.threshold s.keeps s.keeps_base s.harmed s.smooth s.passes s.goes_on
+      runs_further g.D.Disk.tells start wal first g.D.Disk.view (own ++ c.in_ok-numbered.numbered ∷ []) c.push.new.self c.settle.new.self s.lasts s.survives.keeps_base
           (runs_pushed g.D.Disk.tells start wal first g.D.Disk.view own c.reserve.new.self c.push.new.self c.in_ok-numbered.numbered _ e.pushed e.disk e.keeps e.keeps_base reserved),
     )
 
@@ -54,8 +53,7 @@ returns-clause-runs g c start wal first own r =
     let e = c.push.ensures in
     let s = c.settle.ensures in (
       c.in_ok-numbered.numbered ∷ [],
-      runs_further g.D.Disk.tells start wal first (own ++ c.in_ok-numbered.numbered ∷ []) c.push.new.self.state c.settle.new.self.state (g.D.Disk.view c.push.new.self.disk) (g.D.Disk.view c.settle.new.self.disk)
-          s.setting.threshold s.keeps s.keeps_base s.harmed s.smooth s.passes s.goes_on
+      runs_further g.D.Disk.tells start wal first g.D.Disk.view (own ++ c.in_ok-numbered.numbered ∷ []) c.push.new.self c.settle.new.self s.lasts s.survives.keeps_base
           (runs_pushed g.D.Disk.tells start wal first g.D.Disk.view own c.reserve.new.self c.push.new.self c.in_ok-numbered.numbered _ e.pushed e.disk e.keeps e.keeps_base reserved),
     )
 
@@ -66,8 +64,7 @@ returns-clause-did g c =
     λ start wal first own r.
     let e = c.push.ensures in
     let s = c.settle.ensures in
-    runs_further g.D.Disk.tells start wal first (own ++ c.in_ok-numbered.numbered ∷ []) c.push.new.self.state c.settle.new.self.state (g.D.Disk.view c.push.new.self.disk) (g.D.Disk.view c.settle.new.self.disk)
-    s.setting.threshold s.keeps s.keeps_base s.harmed s.smooth s.passes s.goes_on
+    runs_further g.D.Disk.tells start wal first g.D.Disk.view (own ++ c.in_ok-numbered.numbered ∷ []) c.push.new.self c.settle.new.self s.lasts s.survives.keeps_base
     (runs_pushed g.D.Disk.tells start wal first g.D.Disk.view own c.reserve.new.self c.push.new.self c.in_ok-numbered.numbered _ e.pushed e.disk e.keeps e.keeps_base
     (runs_reserved g.D.Disk.tells start wal first g.D.Disk.view own c.self.inside.journal c.reserve.new.self c.reserve.new.self.state.queue.spare c.reserve.ensures.same c.reserve.ensures.keeps c.reserve.ensures.keeps_base r)) in
     let pushed = pushes_over c.self.inside.journal c.reserve.new.self c.push.new.self.state c.reserve.new.self.state.queue.spare c.in_ok-numbered.numbered false c.reserve.ensures.same c.push.ensures.pushed in
@@ -79,7 +76,7 @@ returns-clause-did g c =
       settles = subst (λ (d : _). Settles c.push.new.self.state c.settle.new.self.state (g.D.Disk.view d) (g.D.Disk.view c.settle.new.self.disk) c.settle.result)
           (c.push.ensures.disk ∙ ap (λ (h : Held _). h.disk) c.reserve.ensures.same) c.settle.ensures.settles;
       lasted = c.in_ok-settled.ensures;
-      unasked = c.settle.ensures.setting.want ∙ pushed.want;
+      unasked = c.settle.ensures.want ∙ pushed.want;
     } in
     on_ok_map c.put_commit.result c.put_commit.ensures
     (λ said. subst (λ (x : InCourse _). Commits g.D.Disk.tells c.args.batch (stage_of g.D.Disk.view x)
