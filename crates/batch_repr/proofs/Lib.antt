@@ -1,15 +1,16 @@
+pub mod Laws
 mod Examples
-pub mod NumberWriting
-pub mod Drafts
-pub mod Written
-pub mod Shortest
-pub mod Fitting
-pub mod Tools
-pub mod Numbers
-pub mod Entries
-pub mod Outcomes
-pub mod Varints
-pub mod Fields
+mod NumberWriting
+mod Drafts
+mod Written
+mod Shortest
+mod Fitting
+mod Tools
+mod Numbers
+mod Entries
+mod Outcomes
+mod Varints
+mod Fields
 mod Parting
-pub mod Agreement
+mod Agreement
 mod Pinned

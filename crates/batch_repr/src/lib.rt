@@ -14,9 +14,9 @@ mod batch;
 mod builder;
 mod decoding;
 mod fault;
-mod laws;
 mod limits;
 mod numbered;
+mod theorems;
 mod unnumbered;
 mod writing;
 
@@ -24,9 +24,9 @@ pub use batch::{Batch, Batches};
 pub use builder::BatchBuilder;
 pub use decoding::{decode, decode_shared};
 pub use fault::{BatchFault, BuildFault};
-pub use laws::{bytes_have_one_reading, fits_exactly_where_not_refused, shortest_is_written};
 pub use limits::{BATCH_MAX, KEY_MAX, NUMBER_MAX, VALUE_MAX};
 pub use numbered::Numbered;
+pub use theorems::{bytes_have_one_reading, fits_exactly_where_not_refused, shortest_is_written};
 pub use unnumbered::Unnumbered;
 
 #[cfg(test)]

@@ -6,7 +6,7 @@ use Rattle.std.proofs.lemmas.List.{drop-take, take-take, drop-drop, take_rest, t
 use Rattle.crc_chunk.specs.declared.chunk.ChunkKind.{ChunkKind}
 use Rattle.crc_chunk.specs.declared.chunk.ChunkKind.TheVariants.{Full, First, Middle, Last}
 use Rattle.crc_chunk.specs.Chunk.{chunk, ChunkAt}
-use Rattle.crc_chunk.proofs.Chunks.{fields_of, one_chunk}
+use Rattle.crc_chunk.proofs.Laws.{fields_of, one_chunk}
 use Rattle.block_record.specs.Framing.{left_in_block}
 use Rattle.block_record.specs.ReadOut.{Link, MayFollow, leaves_open, next_place, end_of, IsChain, IsLongestChain, Spelled, after_link, spelled_from, nothing, ReadsOut}
 use Rattle.block_record.proofs.Fragments.{chunk_len}

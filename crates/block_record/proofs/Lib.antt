@@ -1,9 +1,10 @@
-pub mod Fragments
-pub mod Chains
+pub mod Laws
+mod Fragments
+mod Chains
 mod Rows
-pub mod Laying
-pub mod Replay
-pub mod Beginnings
+mod Laying
+mod Replay
+mod Beginnings
 mod Joined
 mod Walked
 mod Limits

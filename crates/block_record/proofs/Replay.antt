@@ -6,8 +6,7 @@ use Rattle.std.proofs.lemmas.Bool.{ltb-true}
 use Rattle.crc_chunk.specs.declared.chunk.ChunkKind.{ChunkKind}
 use Rattle.crc_chunk.specs.declared.chunk.ChunkKind.TheVariants.{Full, First, Middle, Last}
 use Rattle.crc_chunk.specs.Chunk.{chunk, ChunkAt}
-use Rattle.crc_chunk.proofs.Places.{stands_from}
-use Rattle.crc_chunk.proofs.Chunks.{one_chunk}
+use Rattle.crc_chunk.proofs.Laws.{stands_from, one_chunk}
 use Rattle.block_record.specs.declared.records.Rec.{Rec}
 use Rattle.block_record.specs.Framing.{left_in_block, room_at, cut, blocks_for, fragments, later_chunks, chunks, padding, framed, laid}
 use Rattle.block_record.specs.ReadOut.{Link, MayFollow, leaves_open, next_place, end_of, IsChain, IsLongestChain, Spelled, ended, after_link, spelled_from, nothing, ReadsOut}

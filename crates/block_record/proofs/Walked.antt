@@ -7,7 +7,7 @@ use Rattle.std.proofs.lemmas.List.Folds.{list_any_at}
 use Rattle.crc_chunk.specs.declared.chunk.ChunkKind.{ChunkKind}
 use Rattle.crc_chunk.specs.declared.chunk.ChunkKind.TheVariants.{Full, First, Middle, Last}
 use Rattle.crc_chunk.specs.Chunk.{chunk, type_byte, ChunkAt}
-use Rattle.crc_chunk.proofs.Chunks.{FieldsAt, fields_of, byte_read}
+use Rattle.crc_chunk.proofs.Laws.{FieldsAt, fields_of, byte_read}
 use Rattle.block_record.specs.declared.records.ReadOut.{ReadOut}
 use Rattle.block_record.specs.ReadOut.{MayFollow, leaves_open, next_place, Spelled, after_link, ReadsOut}
 use Rattle.block_record.specs.Joined.{fragment, SameBehind, Joined}

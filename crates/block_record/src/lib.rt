@@ -12,13 +12,13 @@
 
 mod framer;
 mod joining;
-mod laws;
 mod reading;
 mod records;
 #[cfg(test)]
 mod tests;
+mod theorems;
 
 pub use framer::{Framer, RECORD_MAX};
-pub use laws::{first_records_are_read, laid_records_are_read, next_record_is_laid_behind};
 pub use reading::{read_out, read_out_shared};
 pub use records::{ReadOut, Rec, Records};
+pub use theorems::{first_records_are_read, laid_records_are_read, next_record_is_laid_behind};

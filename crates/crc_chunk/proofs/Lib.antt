@@ -1,8 +1,9 @@
+pub mod Laws
 mod Vectors
 mod Limits
-pub mod Steps
-pub mod Entries
-pub mod Words
-pub mod Turns
-pub mod Places
-pub mod Chunks
+mod Steps
+mod Entries
+mod Words
+mod Turns
+mod Places
+mod Chunks

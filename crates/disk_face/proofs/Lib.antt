@@ -1,8 +1,9 @@
-pub mod Moments
-pub mod Places
-pub mod Listings
-pub mod Images
-pub mod Spelling
-pub mod Passed
-pub mod Asked
+pub mod Laws
+mod Moments
+mod Places
+mod Listings
+mod Images
+mod Spelling
+mod Passed
+mod Asked
 mod Fieldless

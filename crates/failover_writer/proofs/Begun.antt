@@ -8,7 +8,7 @@ use Rattle.disk_face.specs.declared.Side.{Side}
 use Rattle.disk_face.specs.declared.SegName.{SegName}
 use Rattle.disk_face.specs.View.{Place, segment, creating, Act, Flight, Files, DiskView, files, IsFree}
 use Rattle.disk_face.specs.Calls.{GoesOn, Starts}
-use Rattle.disk_face.proofs.Places.{same_id}
+use Rattle.disk_face.proofs.Laws.{same_id}
 use Rattle.batch_repr.specs.declared.batch.Batch.{Batch}
 use Rattle.log_writer.specs.declared.goal.Goal.{Goal}
 use Rattle.log_writer.specs.Steps.{BeginsJust, next_operation}

@@ -8,12 +8,11 @@ use Rattle.disk_face.specs.declared.Side.{Side}
 use Rattle.disk_face.specs.declared.SegName.{SegName}
 use Rattle.disk_face.specs.View.{Place, segment, table, Files, Dirs, DiskView, files}
 use Rattle.disk_face.specs.Image.{IsImageOf, IsImage, IsChanceFree}
-use Rattle.disk_face.proofs.Places.{same_number}
+use Rattle.disk_face.proofs.Laws.{same_number, image_of_none}
 use native.Mathlib.Decide.{dec_le}
-use Rattle.disk_face.proofs.Images.{image_of_none}
 use Rattle.segment_merge.specs.Merging.{Merged}
 use Rattle.segment_merge.specs.Ranges as ranges
-use Rattle.segment_merge.proofs.Cover.{parts_merge}
+use Rattle.segment_merge.proofs.Laws.{parts_merge}
 use Rattle.wal_recovery.specs.Listing.{place_in}
 use Rattle.log_writer.specs.Writer.{Writer}
 use Rattle.log_writer.specs.Fits.{file_of}

@@ -7,11 +7,11 @@ use Rattle.batch_repr.specs.declared.batch.Batch.{Batch}
 use Rattle.disk_face.specs.declared.OpId.{OpId}
 use Rattle.disk_face.specs.declared.SegName.{SegName}
 use Rattle.disk_face.specs.View.{Place, Flight, DiskView}
-use Rattle.disk_face.proofs.Places.{same_place}
+use Rattle.disk_face.proofs.Laws.{same_place}
 use Rattle.log_writer.specs.declared.phase.Phase.TheVariants.{New}
 use Rattle.log_writer.specs.Writer.{Writer}
 use Rattle.log_writer.specs.Fits.{IsUnsent, Fits, SameFile, file_of}
-use Rattle.log_writer.proofs.Beside.{fits_beside}
+use Rattle.log_writer.proofs.Laws.{fits_beside}
 use Rattle.failover_writer.proofs.Segments.{place_at, index_in}
 use Rattle.failover_writer.specs.State.{State, most_synced}
 use Rattle.failover_writer.specs.Ranges.{AreJoined, IsSegmentAt, sent_to_current, StandsFor}

@@ -6,18 +6,18 @@ use Rattle.std.specs.Option.{unwrap_or}
 use Rattle.std.specs.List.{list_any}
 use Rattle.std.proofs.lemmas.List.{length-drop, take-append-le, drop-append-le, take_all}
 use Rattle.crc_chunk.specs.Chunk.{chunk, IsChunkOf}
-use Rattle.crc_chunk.proofs.Places.{stands_within}
+use Rattle.crc_chunk.proofs.Laws.{stands_within}
 use Rattle.batch_repr.specs.declared.batch.Batch.{Batch}
 use Rattle.batch_repr.specs.Batches.{end_after}
 use Rattle.block_record.specs.ReadOut.{Link, leaves_open, next_place, end_of, IsChain, ChunksStandIn}
-use Rattle.block_record.proofs.Fragments.{chunk_len}
+use Rattle.block_record.proofs.Laws.{chunk_len}
 use Rattle.disk_face.specs.declared.Side.{Side}
 use Rattle.disk_face.specs.declared.SegName.{SegName}
 use Rattle.disk_face.specs.View.{Place, segment, File, Files, Dirs}
 use Rattle.disk_face.specs.Listing.{IsSegmentName}
 use Rattle.disk_face.specs.Image.{IsImageOf, IsImage, IsChanceFree, IsRestedFile, IsRested, as_read, dirs_as_read}
-use Rattle.disk_face.proofs.Images.{image_of_created}
-use Rattle.segment_merge.proofs.Members.{none_within, within_head, within_tail, within_cases}
+use Rattle.disk_face.proofs.Laws.{image_of_created}
+use Rattle.segment_merge.proofs.Laws.{none_within, within_head, within_tail, within_cases}
 use Rattle.wal_recovery.specs.Listing.{Stored, Wal, name_in, place_in, AreByIndex, AreByNumber, IsOf, StandsIn, IsListingOf, IsNextWal}
 use Rattle.wal_recovery.specs.Recovering.{FIRST_NUMBER, log_number, HoldsBatches, HoldRow, WalsMerge, Recovers}
 use Rattle.wal_recovery.specs.Resting.{IsStable, AreSegmentsStable, IsAsOrSynced, OnlySynced}

@@ -14,16 +14,16 @@ use Rattle.disk_face.specs.declared.Side.{Side}
 use Rattle.disk_face.specs.declared.SegName.{SegName}
 use Rattle.disk_face.specs.View.{Place, segment, Dirs, DiskView, files}
 use Rattle.disk_face.specs.Image.{IsImage, IsChanceFree}
-use Rattle.disk_face.proofs.Places.{same_number, same_side}
+use Rattle.disk_face.proofs.Laws.{same_number, same_side}
 use Rattle.segment_merge.specs.Ranges as ranges
 use Rattle.segment_merge.specs.Ranges.{between, Range, AreRanges}
-use Rattle.segment_merge.proofs.Members.{none_within, within_head, within_tail, within_cases}
+use Rattle.segment_merge.proofs.Laws.{none_within, within_head, within_tail, within_cases}
 use Rattle.wal_recovery.specs.Listing.{Stored, place_in, AreByIndex, StandsIn}
 use Rattle.wal_recovery.specs.Recovering.{log_number, counted, Spell, HoldsBatches, HoldRow}
 use Rattle.log_writer.specs.Writer.{Writer}
 use Rattle.log_writer.specs.Fits.{Fits, file_of}
 use Rattle.log_writer.specs.Kept.{IsFirstOf, IsKeptAs}
-use Rattle.log_writer.proofs.Fitting.{fits_kept}
+use Rattle.log_writer.proofs.Laws.{fits_kept}
 use Rattle.failover_writer.specs.State.{most_synced}
 use Rattle.failover_writer.specs.Ranges.{side_at, AreJoined, IsSpelled}
 use Rattle.failover_writer.proofs.Segments.{index_in, place_at, place_is, index_is, not_theirs}

@@ -3,7 +3,7 @@ use Rattle.std.proofs.Common.{◌≡◌, ◌⊎◌, inl, inr, ℕ, suc, ◌≤�
 use native.Mathlib.Decide.{dec_le}
 use Rattle.disk_face.specs.View.{DiskView, files}
 use Rattle.disk_face.specs.Calls.{GoesOn}
-use Rattle.disk_face.proofs.Moments.{goes_on_from}
+use Rattle.disk_face.proofs.Laws.{goes_on_from}
 use Rattle.failover_writer.specs.State.{State}
 use Rattle.failover_writer.specs.Keeping.{Passes}
 use Rattle.failover_writer.proofs.Passing.{Holds, passes_further}

@@ -4,7 +4,7 @@ use Rattle.std.specs.Prelude.{Contains}
 use Rattle.batch_repr.specs.declared.batch.Batch.{Batch}
 use Rattle.disk_face.specs.View.{Place, Files, DiskView, files}
 use Rattle.disk_face.specs.Calls.{GoesOn}
-use Rattle.disk_face.proofs.Moments.{moments_from, moments_joined}
+use Rattle.disk_face.proofs.Laws.{moments_from, moments_joined}
 use Rattle.log_writer.specs.Writer.{Writer}
 use Rattle.log_writer.specs.Fits.{SameFile, file_of}
 use Rattle.failover_writer.specs.State.{State, acked, most_synced}

@@ -9,7 +9,7 @@ use Rattle.disk_face.specs.declared.Progress.{Progress}
 use Rattle.disk_face.specs.declared.Progress.TheVariants.{Pending, Done, Failed}
 use Rattle.disk_face.specs.Calls.{GoesOn, Polled}
 use Rattle.disk_face.specs.View.{DiskView}
-use Rattle.disk_face.proofs.Moments.{rose_later, goes_on_from}
+use Rattle.disk_face.proofs.Laws.{rose_later, goes_on_from}
 use Rattle.log_writer.specs.declared.phase.Operation.{Operation}
 use Rattle.log_writer.specs.declared.phase.Phase.TheVariants.{InFlight}
 use Rattle.log_writer.specs.Writer.{Writer}

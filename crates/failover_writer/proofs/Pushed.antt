@@ -3,14 +3,14 @@ use Rattle.std.proofs.Common.{◌≡◌, ℕ, ◌+◌, ◌<◌, ◌≤◌, Bool,
 use Rattle.std.proofs.lemmas.List.{length-append, length-drop, drop-append-le}
 use Rattle.batch_repr.specs.declared.batch.Batch.{Batch}
 use Rattle.batch_repr.specs.Batches.{count_of, end_of, end_after, IsContiguous}
-use Rattle.segment_merge.proofs.Contiguous.{contiguous_append, end_append}
+use Rattle.segment_merge.proofs.Laws.{contiguous_append, end_append}
 use Rattle.disk_face.specs.View.{DiskView}
 use Rattle.record_queue.specs.Queue as queues
 use Rattle.record_queue.specs.Queue.{Queue}
 use Rattle.log_writer.specs.Writer.{Writer}
 use Rattle.log_writer.specs.Steps.{IsQueueOf}
 use Rattle.log_writer.specs.Fits.{Fits}
-use Rattle.log_writer.proofs.Fitting.{fits_grown}
+use Rattle.log_writer.proofs.Laws.{fits_grown}
 use Rattle.failover_writer.specs.State.{State}
 use Rattle.failover_writer.specs.Ranges.{IsSpelled, StandsFor}
 use Rattle.failover_writer.proofs.Lists.{all_then}

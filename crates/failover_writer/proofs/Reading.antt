@@ -5,21 +5,21 @@ use Rattle.std.specs.Prelude.{max, count_by}
 use Rattle.std.specs.List.{AllByRecursion}
 use Rattle.std.proofs.lemmas.List.{length-drop, take-append-drop, take-append-le, drop-append-le}
 use Rattle.crc_chunk.specs.Chunk.{chunk, IsChunkOf}
-use Rattle.crc_chunk.proofs.Places.{stands_within}
-use Rattle.block_record.proofs.Fragments.{chunk_len}
+use Rattle.crc_chunk.proofs.Laws.{stands_within}
+use Rattle.block_record.proofs.Laws.{chunk_len}
 use Rattle.block_record.specs.Framing.{laid}
 use Rattle.batch_repr.specs.declared.batch.Batch.{Batch}
 use Rattle.disk_face.specs.View.{Place, segment, table, File, Files, DiskView, files}
 use Rattle.disk_face.specs.Image.{IsImageOf, IsImage, IsChanceFree, IsRestedFile, IsRested, log_of, as_read, dirs_as_read}
 use Rattle.disk_face.specs.Calls.{fresh}
-use Rattle.disk_face.proofs.Places.{same_place}
+use Rattle.disk_face.proofs.Laws.{same_place}
 use Rattle.log_writer.specs.declared.phase.Operation.TheVariants.{Create, Write, Sync}
 use Rattle.log_writer.specs.declared.phase.Phase.{Phase}
 use Rattle.log_writer.specs.declared.phase.Phase.TheVariants.{New, InFlight, Idle, Broken}
 use Rattle.log_writer.specs.Writer.{Writer}
 use Rattle.log_writer.specs.Parts.{part, texts, segment_bytes}
 use Rattle.log_writer.specs.Fits.{file_of, file_with, IsOrdered, HoldsRecords, HasFile, Fits}
-use Rattle.log_writer.proofs.Parts.{bytes_split, bytes_front}
+use Rattle.log_writer.proofs.Laws.{bytes_split, bytes_front}
 use Rattle.failover_writer.specs.State.{State, phase_is_broken, is_broken, broken_count}
 use Rattle.failover_writer.specs.Ranges.{AreJoined, StandsFor}
 use Rattle.failover_writer.specs.Keeping.{OthersStay}

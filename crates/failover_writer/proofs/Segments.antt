@@ -9,7 +9,7 @@ use Rattle.disk_face.specs.View.{Place, segment, table, DiskView}
 use Rattle.batch_repr.specs.declared.batch.Batch.{Batch}
 use Rattle.log_writer.specs.Writer.{Writer}
 use Rattle.log_writer.specs.Fits.{Fits, SameFile, file_of}
-use Rattle.log_writer.proofs.Beside.{fits_beside}
+use Rattle.log_writer.proofs.Laws.{fits_beside}
 use Rattle.failover_writer.specs.State.{most_synced}
 use Rattle.failover_writer.specs.Ranges.{side_at, IsSegmentAt, AreJoined, sent_to_current}
 

@@ -8,7 +8,7 @@ use Rattle.disk_face.specs.declared.Progress.{Progress}
 use Rattle.disk_face.specs.declared.OpId.{OpId}
 use Rattle.disk_face.specs.View.{Flight, DiskView, NothingInFlight}
 use Rattle.disk_face.specs.Calls.{GoesOn}
-use Rattle.disk_face.proofs.Moments.{goes_on_from, goes_on_further, rose_later, rose_earlier}
+use Rattle.disk_face.proofs.Laws.{goes_on_from, goes_on_further, rose_later, rose_earlier}
 use Rattle.log_writer.specs.declared.phase.Phase.{Phase}
 use Rattle.log_writer.specs.declared.phase.Phase.TheVariants.{New, InFlight, Idle, Broken}
 use Rattle.log_writer.specs.Writer.{Writer}

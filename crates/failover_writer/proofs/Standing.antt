@@ -9,7 +9,7 @@ use Rattle.disk_face.specs.Calls.{SameDisk}
 use Rattle.record_queue.specs.Queue.{Queue}
 use Rattle.log_writer.specs.Writer.{Writer}
 use Rattle.log_writer.specs.Fits.{Fits, IsUnsent, file_of}
-use Rattle.log_writer.proofs.Beside.{same_disk, fits_beside}
+use Rattle.log_writer.proofs.Laws.{same_disk, fits_beside}
 use Rattle.failover_writer.specs.State.{State}
 use Rattle.failover_writer.specs.Ranges.{AreJoined, AreUnsent, StandsFor}
 use Rattle.failover_writer.proofs.Segments.{place_at}

@@ -13,13 +13,13 @@
 
 mod fault;
 mod journal;
-mod laws;
 #[cfg(test)]
 mod tests;
+mod theorems;
 
 pub use fault::{DeadMark, JournalFault, Step};
 pub use journal::Journal;
-pub use laws::{
+pub use theorems::{
     a_journal_at_hand, a_journal_keeps_its_base, a_journal_keeps_its_run,
     a_journal_without_failures_reads_as_an_image, stable_files_open_a_journal,
 };

@@ -5,7 +5,7 @@ use Rattle.std.specs.List.{insert}
 use Rattle.std.proofs.lemmas.List.Edits.{get_or-insert_at, get_or-insert_below, get_or-insert_above, length-insert}
 use Rattle.disk_face.specs.declared.Listed.{Listed}
 use Rattle.disk_face.specs.Listing.{IsBefore, IsAscending}
-use Rattle.disk_face.proofs.Listings.{before_trans}
+use Rattle.disk_face.proofs.Laws.{before_trans}
 
 place : (k i : ℕ) → (k < i) ⊎ ((k ≡ i) ⊎ (i < k))
 place k i = elim (dec_le i k) [

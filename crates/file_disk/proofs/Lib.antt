@@ -1,3 +1,3 @@
-pub mod Polls
-pub mod Inserts
+mod Polls
+mod Inserts
 mod Filling

@@ -7,7 +7,7 @@ use Rattle.disk_face.specs.declared.Progress.{Progress}
 use Rattle.disk_face.specs.declared.Progress.TheVariants.{Done, Failed}
 use Rattle.disk_face.specs.View.{DiskView}
 use Rattle.disk_face.specs.Calls.{GoesOn, SameDisk, Ends, Polled}
-use Rattle.disk_face.proofs.Moments.{rose_later}
+use Rattle.disk_face.proofs.Laws.{rose_later}
 
 -- what ends before nothing else happens has ended
 ends_still : (id : OpId) (old mid new : DiskView) → Ends id old mid → SameDisk mid new → Ends id old new

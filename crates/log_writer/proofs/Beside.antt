@@ -3,8 +3,7 @@ use Rattle.std.proofs.Common.{◌≡◌, ◌≢◌, inl, inr, Bool, List, Option
 use Rattle.disk_face.specs.declared.OpId.{OpId}
 use Rattle.disk_face.specs.View.{Place, Flight, File, Files, DiskView, files, IsFree, AtEachMoment}
 use Rattle.disk_face.specs.Calls.{GoesOn, SameDisk, Ends, ChangesFile}
-use Rattle.disk_face.proofs.Places.{same_id}
-use Rattle.disk_face.proofs.Moments.{moments_from, moments_more, moments_stay, same_files}
+use Rattle.disk_face.proofs.Laws.{same_id, moments_from, moments_more, moments_stay, same_files}
 use Rattle.batch_repr.specs.declared.batch.Batch.{Batch}
 use Rattle.log_writer.specs.declared.phase.Phase.{Phase}
 use Rattle.log_writer.specs.declared.phase.Phase.TheVariants.{New, InFlight, Idle, Broken}

@@ -12,8 +12,7 @@ use Rattle.batch_repr.specs.declared.batch.Batch.{Batch}
 use Rattle.batch_repr.specs.Written.{written}
 use Rattle.block_record.specs.Framing.{laid}
 use Rattle.block_record.specs.ReadOut.{bytes_of, ReadsFirst, ChunksStandIn}
-use Rattle.block_record.proofs.Fragments.{chunk_len}
-use Rattle.block_record.proofs.Beginnings.{first_are_read}
+use Rattle.block_record.proofs.Laws.{chunk_len, first_are_read}
 use Rattle.log_writer.specs.Parts.{part, texts, segment_bytes}
 use Rattle.log_writer.specs.Kept.{IsFirstOf, IsKeptAs, SegmentKept, HasSynced, IsKeptFile}
 use Rattle.log_writer.proofs.Parts.{part_front, no_bytes}

@@ -1,8 +1,9 @@
-pub mod Parts
-pub mod Kept
-pub mod Beside
-pub mod Fitting
-pub mod Polls
-pub mod Sending
-pub mod Begins
+pub mod Laws
+mod Parts
+mod Kept
+mod Beside
+mod Fitting
+mod Polls
+mod Sending
+mod Begins
 mod Limits

@@ -5,7 +5,7 @@ use Rattle.std.proofs.Math.Seq.{take-add}
 use Rattle.batch_repr.specs.declared.batch.Batch.{Batch}
 use Rattle.batch_repr.specs.Written.{written}
 use Rattle.block_record.specs.Framing.{framed, laid}
-use Rattle.block_record.proofs.Laying.{framed_in_block, laid-append}
+use Rattle.block_record.proofs.Laws.{framed_in_block, laid-append}
 use Rattle.log_writer.specs.Parts.{part, texts, segment_bytes}
 
 -- Records laid from a place are laid as from its place in its block.

@@ -6,7 +6,7 @@ use Rattle.disk_face.specs.declared.Progress.{Progress}
 use Rattle.disk_face.specs.declared.Progress.TheVariants.{Pending, Done, Failed}
 use Rattle.disk_face.specs.View.{Place, Act, creating, writing, syncing, Flight, File, Files, DiskView, files, IsFree, AtEachMoment}
 use Rattle.disk_face.specs.Calls.{GoesOn, Ends, Polled, AfterDone, AfterFailed}
-use Rattle.disk_face.proofs.Places.{same_id}
+use Rattle.disk_face.proofs.Laws.{same_id}
 use Rattle.batch_repr.specs.declared.batch.Batch.{Batch}
 use Rattle.log_writer.specs.declared.phase.Operation.{Operation}
 use Rattle.log_writer.specs.declared.phase.Operation.TheVariants.{Create, Write, Sync}

@@ -5,7 +5,7 @@ use Rattle.std.proofs.Math.Seq.{take-suc}
 use Rattle.batch_repr.specs.declared.batch.Batch.{Batch}
 use Rattle.batch_repr.specs.Written.{written}
 use Rattle.block_record.specs.Framing.{Standing, framed, laid}
-use Rattle.block_record.proofs.Laying.{framed_in_block, laid-append}
+use Rattle.block_record.proofs.Laws.{framed_in_block, laid-append}
 use Rattle.std.proofs.lemmas.Option.{slice_get_within, get_or_from_slice_get}
 use Rattle.record_queue.specs.Queue.{Queue, IsRecordOf}
 use Rattle.log_writer.specs.Writer.{Writer}

@@ -17,17 +17,17 @@
 
 mod beginning;
 mod goal;
-mod laws;
 mod phase;
 mod polling;
 #[cfg(test)]
 mod tests;
+mod theorems;
 mod writer;
 
 pub use goal::Goal;
-pub use laws::{
+pub use polling::WAITING_MAX;
+pub use theorems::{
     a_fitting_writer_has_its_file, a_fitting_writer_keeps_its_segment, a_synced_file_is_kept,
     fits_as_records_come, fits_beside_other_operations,
 };
-pub use polling::WAITING_MAX;
 pub use writer::LogWriter;

@@ -4,7 +4,7 @@ use Rattle.std.proofs.lemmas.List.{drop-take, take-take, drop-drop, take_rest, t
 use Rattle.std.specs.List.{slice_range}
 use Rattle.crc_chunk.specs.declared.chunk.ChunkKind.{ChunkKind}
 use Rattle.crc_chunk.specs.Chunk.{covered, chunk, ChunkAt, IsChunkOf}
-use Rattle.crc_chunk.proofs.Chunks.{fields_of, one_chunk}
+use Rattle.crc_chunk.proofs.Laws.{fields_of, one_chunk}
 
 chunk_bytes : (kind : ChunkKind) (log : ℕ) (payload : List ℕ) → length (chunk kind log payload) ≡ 11 + length payload
 unfolding chunk covered

@@ -5,7 +5,7 @@ use Rattle.std.specs.Option.{option_to_list}
 use Rattle.disk_face.specs.View.{Place, segment, File}
 use Rattle.disk_face.specs.Tables.{whole}
 use Rattle.disk_face.specs.Listing.{IsBefore}
-use Rattle.disk_face.proofs.Listings.{not_before_itself}
+use Rattle.disk_face.proofs.Laws.{not_before_itself}
 use Rattle.mem_disk.specs.declared.parts.MemFile.{MemFile}
 use Rattle.mem_disk.specs.declared.picks.FilePick.{FilePick}
 use Rattle.mem_disk.specs.Finite.{is_at_only}

@@ -7,8 +7,7 @@ use Rattle.disk_face.specs.declared.SegName.{SegName}
 use Rattle.disk_face.specs.View.{Place, segment, table, File, Files, Dirs}
 use Rattle.disk_face.specs.Image.{Begins, IsImageOf, IsImage, IsRestedFile, IsRested, as_read, dirs_as_read}
 use Rattle.disk_face.specs.Tables.{whole}
-use Rattle.disk_face.proofs.Places.{same_place}
-use Rattle.disk_face.proofs.Images.{image_of_none}
+use Rattle.disk_face.proofs.Laws.{same_place, image_of_none}
 use Rattle.mem_disk.specs.declared.parts.MemFile.{MemFile}
 use Rattle.mem_disk.specs.declared.picks.FilePick.{FilePick}
 use Rattle.mem_disk.specs.Finite.{is_at_only, no_table}

@@ -1,11 +1,11 @@
-pub mod Orders
-pub mod Held
-pub mod Puts
-pub mod Past
-pub mod Flights
-pub mod Calls
-pub mod ListedFiles
-pub mod Blocks
-pub mod Crashes
-pub mod Chances
-pub mod Images
+mod Orders
+mod Held
+mod Puts
+mod Past
+mod Flights
+mod Calls
+mod ListedFiles
+mod Blocks
+mod Crashes
+mod Chances
+mod Images

@@ -9,7 +9,7 @@ use Rattle.disk_face.specs.declared.SegName.{SegName}
 use Rattle.disk_face.specs.declared.Listed.{Listed}
 use Rattle.disk_face.specs.View.{Place, segment, File}
 use Rattle.disk_face.specs.Listing.{IsBefore, IsAscending, AreSegmentNames, IsSegmentName, HasLength, IsListing}
-use Rattle.disk_face.proofs.Listings.{not_before_itself, Contains-head, Contains-later, Contains-cons}
+use Rattle.disk_face.proofs.Laws.{not_before_itself, Contains-head, Contains-later, Contains-cons}
 use Rattle.mem_disk.specs.declared.parts.MemFile.{MemFile}
 use Rattle.mem_disk.specs.Finite.{side_eq_self, side_eq_only, both_left, both_right, is_at_self, is_at_only}
 use Rattle.mem_disk.specs.Mem.{side_eq, is_at, file_of, held, IsOrdered, is_named, listed_of}

@@ -4,7 +4,7 @@ use Rattle.disk_face.specs.declared.Side.{Side}
 use Rattle.disk_face.specs.declared.SegName.{SegName}
 use Rattle.disk_face.specs.View.{Place, segment}
 use Rattle.disk_face.specs.Listing.{IsBefore}
-use Rattle.disk_face.proofs.Listings.{before_trans, before_or_after}
+use Rattle.disk_face.proofs.Laws.{before_trans, before_or_after}
 use Rattle.mem_disk.specs.declared.parts.MemFile.{MemFile}
 use Rattle.mem_disk.specs.Finite.{side_eq_self, side_eq_only, both_left, both_right, is_at_self}
 use Rattle.mem_disk.specs.Mem.{side_eq, is_at, file_of, held, is_before, goes_before, put, IsOrdered, ChangesAt}

@@ -14,17 +14,17 @@ mod chance;
 mod counts;
 mod crash;
 mod files;
-mod laws;
 mod listing;
 mod memory;
 mod ops;
 mod order;
 mod parts;
 mod picks;
+mod theorems;
 
-pub use laws::each_image_has_a_pick;
 pub use memory::{MemDisk, Planned};
 pub use picks::{CrashPick, FilePick, FilePicks};
+pub use theorems::each_image_has_a_pick;
 
 #[cfg(test)]
 mod tests;

@@ -1,15 +1,16 @@
-pub mod Members
-pub mod Contiguous
-pub mod Ascending
-pub mod Search
-pub mod Unique
-pub mod Cover
-pub mod Pass
-pub mod Places
-pub mod Refused
-pub mod OneRefusal
-pub mod Answered
-pub mod OneLenient
-pub mod LenientPass
-pub mod LenientRefusals
-pub mod LenientRows
+pub mod Laws
+mod Members
+mod Contiguous
+mod Ascending
+mod Search
+mod Unique
+mod Cover
+mod Pass
+mod Places
+mod Refused
+mod OneRefusal
+mod Answered
+mod OneLenient
+mod LenientPass
+mod LenientRefusals
+mod LenientRows

@@ -11,18 +11,18 @@
 
 mod fault;
 mod kept;
-mod laws;
 mod lenient;
 mod merging;
 mod numbers;
 mod same;
 mod segment;
+mod theorems;
 
 pub use fault::MergeFault;
-pub use laws::{rows_have_one_answer, rows_with_gaps_have_one_answer};
 pub use lenient::{LenientMerge, merge_lenient};
 pub use merging::merge;
 pub use segment::{SegmentRead, Segments};
+pub use theorems::{rows_have_one_answer, rows_with_gaps_have_one_answer};
 
 #[cfg(test)]
 mod tests;

@@ -1,4 +1,4 @@
 mod Examples
-pub mod Runs
-pub mod Changing
-pub mod Keeping
+mod Runs
+mod Changing
+mod Keeping

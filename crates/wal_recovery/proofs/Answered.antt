@@ -5,7 +5,7 @@ use Rattle.batch_repr.specs.declared.batch.Batch.{Batch}
 use Rattle.disk_face.specs.View.{Dirs, Files, DiskView, files}
 use Rattle.disk_face.specs.Image.{dirs_as_read}
 use Rattle.disk_face.specs.Calls.{SameDisk}
-use Rattle.disk_face.proofs.Moments.{same_files}
+use Rattle.disk_face.proofs.Laws.{same_files}
 use Rattle.wal_recovery.specs.declared.listing.Found.{Found}
 use Rattle.wal_recovery.specs.declared.reports.Mode.{Mode}
 use Rattle.wal_recovery.specs.declared.reports.Mode.TheVariants.{Strict, Lenient}

@@ -11,7 +11,7 @@ use Rattle.disk_face.specs.declared.OpId.{OpId}
 use Rattle.disk_face.specs.declared.Listed.{Listed}
 use Rattle.disk_face.specs.View.{was_listed, was_read, was_started, was_polled, DiskView, Makes, side_eq}
 use Rattle.disk_face.specs.Asked.{name_eq, listings, length_listed, length_among}
-use Rattle.disk_face.proofs.Asked.{makes_none, makes_further, listings-append, bytes_asked-append, length_listed-append}
+use Rattle.disk_face.proofs.Laws.{makes_none, makes_further, listings-append, bytes_asked-append, length_listed-append}
 use Rattle.wal_recovery.specs.declared.listing.Found.{Found}
 use Rattle.wal_recovery.specs.declared.wals.FoundWal.{FoundWal}
 use Rattle.wal_recovery.specs.Rows.{item_of, Takes, Weaves, Groups}

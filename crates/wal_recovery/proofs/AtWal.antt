@@ -4,7 +4,7 @@ use Rattle.std.proofs.lemmas.List.{map_more}
 use Rattle.std.proofs.lemmas.List.Elements.{Contains-append_right}
 use Rattle.batch_repr.specs.declared.batch.Batch.{Batch}
 use Rattle.batch_repr.specs.Batches.{end_after}
-use Rattle.segment_merge.proofs.Members.{within_head}
+use Rattle.segment_merge.proofs.Laws.{within_head}
 use Rattle.disk_face.specs.View.{Files}
 use Rattle.disk_face.specs.Image.{dirs_as_read}
 use Rattle.wal_recovery.specs.declared.fault.RecoverFault.{RecoverFault}

@@ -3,9 +3,8 @@ use Rattle.std.proofs.Common.{◌≡◌, ◌≢◌, ◌⊎◌, inl, inr, ℕ, su
 use Rattle.disk_face.specs.View.{Files}
 use Rattle.disk_face.specs.Image.{dirs_as_read}
 use Rattle.disk_face.specs.Listing.{IsBefore}
-use Rattle.disk_face.proofs.Listings.{Contains-head, Contains-later, Contains-cons}
-use Rattle.disk_face.proofs.Places.{same_number}
-use Rattle.segment_merge.proofs.Members.{none_within}
+use Rattle.disk_face.proofs.Laws.{Contains-head, Contains-later, Contains-cons, same_number}
+use Rattle.segment_merge.proofs.Laws.{none_within}
 use Rattle.wal_recovery.specs.declared.listing.Found.{Found}
 use Rattle.wal_recovery.specs.declared.wals.FoundWal.{FoundWal}
 use Rattle.wal_recovery.specs.Listing.{Stored, Wal, AreByIndex, AreByNumber, IsOf, IsListingOf}

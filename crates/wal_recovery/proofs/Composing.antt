@@ -4,8 +4,7 @@ use Rattle.std.specs.Prelude.{Contains, ◌≢◌}
 use Rattle.std.proofs.lemmas.List.{append-nil, append_assoc}
 use Rattle.batch_repr.specs.declared.batch.Batch.{Batch}
 use Rattle.batch_repr.specs.Batches.{end_after}
-use Rattle.segment_merge.proofs.Members.{none_within, within_head, within_cases}
-use Rattle.segment_merge.proofs.Contiguous.{end_append}
+use Rattle.segment_merge.proofs.Laws.{none_within, within_head, within_cases, end_append}
 use Rattle.wal_recovery.specs.Listing.{Stored, Wal, AreByNumber}
 use Rattle.wal_recovery.specs.Recovering.{WalMerges, WalsMerge}
 

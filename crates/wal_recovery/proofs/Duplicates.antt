@@ -3,7 +3,7 @@ use Rattle.std.proofs.Common.{◌≡◌, ◌⊎◌, inl, inr, ℕ, suc, ◌≤�
 use Rattle.std.specs.Prelude.{Contains}
 use Rattle.disk_face.specs.declared.Side.TheVariants.{Primary, Secondary}
 use Rattle.disk_face.specs.View.{Dirs}
-use Rattle.segment_merge.proofs.Members.{none_within, within_cases}
+use Rattle.segment_merge.proofs.Laws.{none_within, within_cases}
 use Rattle.wal_recovery.specs.declared.fault.RecoverFault.TheVariants as faults
 use Rattle.wal_recovery.specs.Listing.{Stored, Wal, AreByIndex, AreByNumber, IsOf, IsListingOf, IsTwice, IsDuplicate}
 use Rattle.wal_recovery.proofs.OneAnswer.{by_low, of_low}

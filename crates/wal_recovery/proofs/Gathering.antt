@@ -5,7 +5,7 @@ use Rattle.batch_repr.specs.declared.batch.Batch.{Batch}
 use Rattle.segment_merge.specs.Rows.{batches_in}
 use Rattle.segment_merge.specs.Merging.{Merged}
 use Rattle.disk_face.specs.View.{Files}
-use Rattle.disk_face.proofs.Listings.{Contains-head, Contains-later}
+use Rattle.disk_face.proofs.Laws.{Contains-head, Contains-later}
 use Rattle.wal_recovery.specs.declared.listing.Found.{Found}
 use Rattle.wal_recovery.specs.declared.reports.SegReport.{SegReport}
 use Rattle.wal_recovery.specs.declared.wals.FoundWal.{FoundWal}

@@ -4,7 +4,7 @@ use Rattle.std.specs.Prelude.{slice_get}
 use Rattle.std.proofs.lemmas.List.{length_push, take_more}
 use Rattle.batch_repr.specs.declared.batch.Batch.{Batch}
 use Rattle.batch_repr.specs.Batches.{end_of, end_after}
-use Rattle.segment_merge.proofs.Contiguous.{end_append}
+use Rattle.segment_merge.proofs.Laws.{end_append}
 use Rattle.wal_recovery.specs.declared.listing.Found.{Found}
 use Rattle.wal_recovery.specs.Rows.{IsNextBehind}
 use Rattle.wal_recovery.proofs.Tools.{some_is}

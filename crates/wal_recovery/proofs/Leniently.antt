@@ -11,7 +11,7 @@ use Rattle.segment_merge.specs.Rows.{IsNumbered, IsNumberedSegment, batches_in}
 use Rattle.segment_merge.specs.Lenient.{MergedLenient, AreMergedOf, IsLenientConflict}
 use Rattle.segment_merge.specs.Lenient as lenient
 use Rattle.segment_merge.specs.Returned.{MemoryOr}
-use Rattle.segment_merge.proofs.LenientRows.{merged_none}
+use Rattle.segment_merge.proofs.Laws.{merged_none}
 use Rattle.disk_face.specs.View.{Files}
 use Rattle.disk_face.specs.Image.{dirs_as_read}
 use Rattle.wal_recovery.specs.declared.fault.RecoverFault.{RecoverFault}

@@ -1,28 +1,29 @@
-pub mod Tools
-pub mod Weaving
-pub mod Listed
-pub mod Grouping
-pub mod Filling
-pub mod Syncs
-pub mod Spelled
-pub mod Lasts
-pub mod OneReading
-pub mod Composing
-pub mod OneAnswer
-pub mod Gathering
-pub mod Adding
-pub mod Strictly
-pub mod WalsListed
-pub mod Duplicates
-pub mod OneBad
-pub mod OneRefusal
-pub mod Leniently
-pub mod OneLenient
-pub mod Answered
-pub mod NextWals
-pub mod Rested
-pub mod OneWal
-pub mod AtWal
-pub mod ByWal
-pub mod Limits
-pub mod Asking
+pub mod Laws
+mod Tools
+mod Weaving
+mod Listed
+mod Grouping
+mod Filling
+mod Syncs
+mod Spelled
+mod Lasts
+mod OneReading
+mod Composing
+mod OneAnswer
+mod Gathering
+mod Adding
+mod Strictly
+mod WalsListed
+mod Duplicates
+mod OneBad
+mod OneRefusal
+mod Leniently
+mod OneLenient
+mod Answered
+mod NextWals
+mod Rested
+mod OneWal
+mod AtWal
+mod ByWal
+mod Limits
+mod Asking

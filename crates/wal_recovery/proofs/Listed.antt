@@ -8,8 +8,8 @@ use Rattle.disk_face.specs.declared.Listed.{Listed}
 use Rattle.disk_face.specs.View.{segment, File, Files}
 use Rattle.disk_face.specs.Image.{as_read, dirs_as_read}
 use Rattle.disk_face.specs.Listing.{IsBefore, IsAscending, IsSegmentName, AreSegmentNames, IsListing}
-use Rattle.disk_face.proofs.Listings.{Contains-head, Contains-cons}
-use Rattle.segment_merge.proofs.Members.{none_within}
+use Rattle.disk_face.proofs.Laws.{Contains-head, Contains-cons}
+use Rattle.segment_merge.proofs.Laws.{none_within}
 use Rattle.wal_recovery.specs.declared.listing.Found.{Found}
 use Rattle.wal_recovery.specs.Listing.{IsTwice, IsDuplicate, name_in}
 use Rattle.wal_recovery.specs.declared.fault.RecoverFault.{RecoverFault}

@@ -3,8 +3,8 @@ use Rattle.std.proofs.Common.{◌≡◌, inl, inr, ℕ, suc, ◌≤◌, Bool, Li
 use Rattle.std.specs.Prelude.{IfOk}
 use Rattle.disk_face.specs.View.{Files}
 use Rattle.disk_face.specs.Image.{dirs_as_read}
-use Rattle.disk_face.proofs.Listings.{Contains-head, Contains-later, Contains-cons}
-use Rattle.segment_merge.proofs.Members.{none_within}
+use Rattle.disk_face.proofs.Laws.{Contains-head, Contains-later, Contains-cons}
+use Rattle.segment_merge.proofs.Laws.{none_within}
 use Rattle.wal_recovery.specs.declared.listing.Found.{Found}
 use Rattle.wal_recovery.specs.declared.fault.RecoverFault.{RecoverFault}
 use Rattle.wal_recovery.specs.declared.reports.Recovered.{Recovered}

@@ -8,9 +8,8 @@ use Rattle.batch_repr.specs.Spelling.{SpellsBatch}
 use Rattle.block_record.specs.declared.records.Rec.{Rec}
 use Rattle.block_record.specs.ReadOut.{ReadsOut}
 use Rattle.disk_face.specs.View.{Dirs}
-use Rattle.segment_merge.proofs.Members.{none_within, within_head, within_tail, within_cases}
+use Rattle.segment_merge.proofs.Laws.{none_within, within_head, within_tail, within_cases, one_merged}
 use Rattle.segment_merge.specs.Merging.{Merged}
-use Rattle.segment_merge.proofs.Unique.{one_merged}
 use Rattle.wal_recovery.specs.Listing.{Stored, Wal, AreByIndex, AreByNumber, IsOf, IsListingOf}
 use Rattle.wal_recovery.specs.Recovering.{log_number, takes_number, Spell, HoldsBatches, HoldRow, WalsMerge, Recovers, FIRST_NUMBER}
 use Rattle.wal_recovery.proofs.Composing.{listed_some}

@@ -4,10 +4,10 @@ use Rattle.batch_repr.specs.declared.batch.Batch.{Batch}
 use Rattle.batch_repr.specs.declared.fault.BatchFault.{BatchFault}
 use Rattle.batch_repr.specs.Spelling.{SpellsBatch}
 use Rattle.batch_repr.specs.Reading.{IsFirstFault}
-use Rattle.batch_repr.proofs.Agreement.{spelled_reads, reads_no_fault, one_fault}
+use Rattle.batch_repr.proofs.Laws.{spelled_reads, reads_no_fault, one_fault}
 use Rattle.block_record.specs.declared.records.Rec.{Rec}
 use Rattle.block_record.specs.ReadOut.{ReadsOut}
-use Rattle.segment_merge.proofs.Places.{Places, sooner, one, later, places}
+use Rattle.segment_merge.proofs.Laws.{Places, sooner, one, later, places}
 use Rattle.wal_recovery.specs.Listing.{Stored}
 use Rattle.wal_recovery.specs.Recovering.{Spell, HoldsBatches, HoldRow}
 use Rattle.wal_recovery.specs.Refused.{IsBadRecord, IsBadBatch}

@@ -6,9 +6,7 @@ use Rattle.segment_merge.specs.declared.segment.SegmentRead.{SegmentRead}
 use Rattle.segment_merge.specs.declared.fault.MergeFault.TheVariants as merges
 use Rattle.segment_merge.specs.Rows.{batches_in}
 use Rattle.segment_merge.specs.Lenient.{MergedLenient, IsLenientConflict}
-use Rattle.segment_merge.proofs.OneLenient.{one_lenient}
-use Rattle.segment_merge.proofs.LenientRefusals.{merged_or_conflict, one_conflict}
-use Rattle.segment_merge.proofs.Places.{Places, sooner, one, later, places}
+use Rattle.segment_merge.proofs.Laws.{one_lenient, merged_or_conflict, one_conflict, Places, sooner, one, later, places}
 use Rattle.disk_face.specs.View.{Dirs}
 use Rattle.wal_recovery.specs.declared.fault.RecoverFault.{RecoverFault}
 use Rattle.wal_recovery.specs.declared.fault.RecoverFault.TheVariants as faults

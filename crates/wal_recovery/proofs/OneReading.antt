@@ -3,8 +3,8 @@ use Rattle.std.proofs.Common.{◌≡◌, ℕ, Bool, false, List, [], ◌∷◌, 
 use Rattle.std.specs.List.{list_any}
 use Rattle.batch_repr.specs.declared.batch.Batch.{Batch}
 use Rattle.batch_repr.specs.Spelling.{SpellsBatch}
-use Rattle.batch_repr.proofs.Agreement.{spelled_reads, same_batch}
-use Rattle.crc_chunk.proofs.Chunks.{one_chunk}
+use Rattle.batch_repr.proofs.Laws.{spelled_reads, same_batch}
+use Rattle.crc_chunk.proofs.Laws.{one_chunk}
 use Rattle.block_record.specs.declared.records.Rec.{Rec}
 use Rattle.block_record.specs.ReadOut.{Link, next_place, end_of, leaves_open, IsChain, spelled_from, nothing, ReadsOut}
 

@@ -11,7 +11,7 @@ use Rattle.segment_merge.specs.Rows.{batches_in}
 use Rattle.segment_merge.specs.Merging.{Merged}
 use Rattle.segment_merge.specs.Refusals.{IsGap, IsConflict, IsRefused}
 use Rattle.segment_merge.specs.Returned.{MemoryOr}
-use Rattle.segment_merge.proofs.Members.{within_head}
+use Rattle.segment_merge.proofs.Laws.{within_head}
 use Rattle.disk_face.specs.View.{Files, DiskView}
 use Rattle.wal_recovery.specs.declared.fault.RecoverFault.{RecoverFault}
 use Rattle.wal_recovery.specs.declared.fault.RecoverFault.TheVariants as faults

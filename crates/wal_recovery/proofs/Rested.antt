@@ -4,7 +4,7 @@ use Rattle.std.proofs.lemmas.List.Elements.{Contains-get_or}
 use Rattle.disk_face.specs.View.{Place, segment, syncing, File, Files, DiskView, files, AtEachMoment}
 use Rattle.disk_face.specs.Image.{IsSound, IsRested, IsRestedFile}
 use Rattle.disk_face.specs.Calls.{SameDisk, MayStart}
-use Rattle.disk_face.proofs.Moments.{same_files}
+use Rattle.disk_face.proofs.Laws.{same_files}
 use Rattle.wal_recovery.specs.declared.listing.Found.{Found}
 use Rattle.wal_recovery.specs.Rows.{place_of, IsRowOf}
 use Rattle.wal_recovery.specs.Resting.{IsStable, AreSegmentsStable, AddsNoImage, IsSynced, IsAsOrSynced, OnlySynced}

@@ -10,7 +10,7 @@ use Rattle.segment_merge.specs.declared.segment.SegmentRead.{SegmentRead}
 use Rattle.segment_merge.specs.Rows.{IsNumbered, IsNumberedSegment, IsRow, batches_in}
 use Rattle.segment_merge.specs.Merging.{all_of, Merged}
 use Rattle.segment_merge.specs.Lenient.{MergedLenient}
-use Rattle.segment_merge.proofs.Members.{none_within, within_cases}
+use Rattle.segment_merge.proofs.Laws.{none_within, within_cases}
 use Rattle.wal_recovery.specs.declared.reports.SegReport.{SegReport}
 use Rattle.wal_recovery.specs.Listing.{Wal, AreByIndex, AreByNumber}
 use Rattle.wal_recovery.specs.Reports.{ReportOn, ReportOnAll}

@@ -8,9 +8,7 @@ use Rattle.disk_face.specs.declared.Side.{Side}
 use Rattle.disk_face.specs.View.{Place, segment, table, syncing, Flight, File, Files, DiskView, files, NothingInFlight, AtEachMoment}
 use Rattle.disk_face.specs.Image.{IsSound, IsSoundFile, IsImageOf}
 use Rattle.disk_face.specs.Calls.{GoesOn, MayStart, Starts, ChangesFile, AfterDone, AfterFailed}
-use Rattle.disk_face.proofs.Places.{same_place, same_id}
-use Rattle.disk_face.proofs.Images.{sync_image}
-use Rattle.disk_face.proofs.Moments.{same_files, moments_from, moments_more, moments_stay, moments_joined}
+use Rattle.disk_face.proofs.Laws.{same_place, same_id, sync_image, same_files, moments_from, moments_more, moments_stay, moments_joined}
 use Rattle.wal_recovery.specs.declared.listing.Found.{Found}
 use Rattle.wal_recovery.specs.Rows.{place_of}
 use Rattle.wal_recovery.specs.Resting.{AddsNoImage, IsSynced, IsAsOrSynced, OnlySynced, IsEnd, EndsBy}

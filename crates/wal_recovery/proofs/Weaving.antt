@@ -5,8 +5,8 @@ use Rattle.disk_face.specs.declared.Side.TheVariants.{Primary, Secondary}
 use Rattle.disk_face.specs.declared.SegName.{SegName}
 use Rattle.disk_face.specs.declared.Listed.{Listed}
 use Rattle.disk_face.specs.Listing.{IsBefore, IsAscending}
-use Rattle.disk_face.proofs.Listings.{before_trans, not_before_itself, AllPairs-head, AllPairs-tail, Contains-head, Contains-later, Contains-cons}
-use Rattle.segment_merge.proofs.Members.{none_within}
+use Rattle.disk_face.proofs.Laws.{before_trans, not_before_itself, AllPairs-head, AllPairs-tail, Contains-head, Contains-later, Contains-cons}
+use Rattle.segment_merge.proofs.Laws.{none_within}
 use Rattle.wal_recovery.specs.declared.listing.Found.{Found}
 use Rattle.wal_recovery.specs.Rows.{item_of, Ascends, IsBeforeHead, Takes, Weaves}
 

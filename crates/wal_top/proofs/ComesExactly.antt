@@ -10,9 +10,7 @@ use Rattle.wal_recovery.specs.declared.fault.RecoverFault.{RecoverFault}
 use Rattle.wal_recovery.specs.Recovering.{Recovers, RecoversLenient}
 use Rattle.wal_recovery.specs.Refused.{IsRefused, IsLenientlyRefused}
 use Rattle.wal_recovery.specs.Answers.{IsRefusedBy}
-use Rattle.wal_recovery.proofs.OneAnswer.{recovers_once}
-use Rattle.wal_recovery.proofs.OneRefusal.{recovered_or_refused}
-use Rattle.wal_recovery.proofs.OneLenient.{lenient_or_refused}
+use Rattle.wal_recovery.proofs.Laws.{recovers_once, recovered_or_refused, lenient_or_refused}
 use Rattle.wal_top.specs.declared.replaying.TheConstants.{LAST_WAL}
 use Rattle.wal_top.specs.declared.script.Act.{Act}
 use Rattle.wal_top.specs.declared.replies.JournalEnd.{JournalEnd}

@@ -6,12 +6,12 @@ use Rattle.disk_face.specs.declared.Side.{Side}
 use Rattle.disk_face.specs.View.{Place, segment, DiskView, File, Files, files}
 use Rattle.disk_face.specs.Image.{IsSound, IsRested, as_read, dirs_as_read}
 use Rattle.disk_face.specs.Calls.{GoesOn}
-use Rattle.disk_face.proofs.Moments.{rose_later}
+use Rattle.disk_face.proofs.Laws.{rose_later}
 use Rattle.log_writer.specs.Fits.{IsUnsent}
 use Rattle.failover_writer.specs.Ranges.{side_at, AreUnsent}
 use Rattle.failover_writer.specs.Answered.{FaultsRose}
 use Rattle.failover_writer.specs.Keeping.{RecoversTo}
-use Rattle.failover_writer.proofs.Opening.{read_synced, rested_synced, recovered_opens}
+use Rattle.failover_writer.proofs.Laws.{read_synced, rested_synced, recovered_opens}
 use Rattle.wal_recovery.specs.Listing.{Stored, StandsIn, name_in, IsNextWal}
 use Rattle.wal_recovery.specs.Recovering.{Recovers}
 use Rattle.wal_recovery.specs.Resting.{AreSegmentsStable, IsAsOrSynced, OnlySynced}

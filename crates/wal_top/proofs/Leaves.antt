@@ -2,7 +2,7 @@
 use Rattle.std.proofs.Common.{◌+◌, ℕ, Bool, List, Option, IsTrue, inl, refl}
 use Rattle.disk_face.specs.View.{DiskView, files, NothingInFlight}
 use Rattle.disk_face.specs.Calls.{GoesOn, SameDisk}
-use Rattle.disk_face.proofs.Moments.{goes_on_from, same_from, moments_from}
+use Rattle.disk_face.proofs.Laws.{goes_on_from, same_from, moments_from}
 use Rattle.wal_recovery.specs.Listing.{IsNextWal}
 use Rattle.wal_recovery.specs.Resting.{AddsNoImage}
 use Rattle.wal_top.specs.declared.reading.TheConstants.{SCRIPT_MAX}

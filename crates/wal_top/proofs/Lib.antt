@@ -1,24 +1,24 @@
 mod Examples
-pub mod Limits
-pub mod OneScript
-pub mod Running
-pub mod Closings
-pub mod Telling
-pub mod Saying
-pub mod Coming
-pub mod HasToSay
-pub mod Says
-pub mod ComesExactly
-pub mod TellsScript
-pub mod Leaves
+mod Limits
+mod OneScript
+mod Running
+mod Closings
+mod Telling
+mod Saying
+mod Coming
+mod HasToSay
+mod Says
+mod ComesExactly
+mod TellsScript
+mod Leaves
 mod Letting
-pub mod Counting
-pub mod Going
-pub mod Taking
-pub mod LinesSoFar
-pub mod Answering
-pub mod Numbering
-pub mod Deciding
-pub mod Cuts
-pub mod OneWord
-pub mod WrittenSoFar
+mod Counting
+mod Going
+mod Taking
+mod LinesSoFar
+mod Answering
+mod Numbering
+mod Deciding
+mod Cuts
+mod OneWord
+mod WrittenSoFar

@@ -9,7 +9,7 @@ use Rattle.batch_repr.specs.declared.batch.Batch.{Batch}
 use Rattle.disk_face.specs.declared.SegName.{SegName}
 use Rattle.disk_face.specs.View.{Place, DiskView, files, NothingInFlight}
 use Rattle.disk_face.specs.Calls.{GoesOn}
-use Rattle.disk_face.proofs.Moments.{goes_on_further, rose_later, rose_earlier}
+use Rattle.disk_face.proofs.Laws.{goes_on_further, rose_later, rose_earlier}
 use Rattle.log_writer.specs.Writer.{Writer}
 use Rattle.log_writer.specs.Fits.{file_of}
 use Rattle.failover_writer.specs.declared.fault.DeadMark.{DeadMark}
@@ -20,10 +20,7 @@ use Rattle.failover_writer.specs.Moves.{Pushes}
 use Rattle.failover_writer.specs.Keeping.{IsElsewhere, KeepsBase, KeepsBases}
 use Rattle.failover_writer.specs.Lasting.{Lasts}
 use Rattle.failover_writer.specs.Sound.{IsSound}
-use Rattle.failover_writer.proofs.Segments.{not_theirs, synced_within}
-use Rattle.failover_writer.proofs.Kept.{run_kept_now}
-use Rattle.failover_writer.proofs.Reading.{reads_as_image}
-use Rattle.failover_writer.proofs.OverBase.{base_recovers, none_of_opening}
+use Rattle.failover_writer.proofs.Laws.{not_theirs, synced_within, run_kept_now, reads_as_image, base_recovers, none_of_opening}
 use Rattle.wal_top.specs.declared.replies.JournalEnd.{JournalEnd}
 use Rattle.wal_top.specs.Log.{PollsLeft, EndsAs}
 use Rattle.wal_top.specs.Journaling.{Runs, RunsOn, RunsStill, OthersSame, HasEnded}

@@ -15,7 +15,7 @@ use Rattle.wal_top.specs.declared.script.Act.{Act}
 use Rattle.wal_top.specs.declared.replies.JournalEnd.{JournalEnd}
 use Rattle.wal_top.specs.declared.status.Status.{Status}
 use Rattle.wal_top.specs.Log.{PollsLeft, EndsAs}
-use Rattle.failover_writer.proofs.Standing.{same_stands}
+use Rattle.failover_writer.proofs.Laws.{same_stands}
 use Rattle.wal_top.specs.Journaling.{Runs, OthersSame, ReadsAsImage, HasEnded}
 use Rattle.wal_top.specs.Doing.{ReplaysOver}
 use Rattle.wal_top.proofs.Running.{others_same}

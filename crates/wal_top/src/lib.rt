@@ -13,7 +13,6 @@
 
 mod gate;
 mod history;
-mod laws;
 mod pieces;
 mod reading;
 mod replay;
@@ -23,17 +22,18 @@ mod said;
 mod script;
 mod showing;
 mod status;
+mod theorems;
 mod top;
 mod words;
 mod writing;
 
 pub use gate::{Gate, GatePoint, NoGate};
-pub use laws::a_script_asks_for_one_list_of_acts;
 pub use reading::SCRIPT_MAX;
 pub use replay::THRESHOLD;
 pub use replaying::LAST_WAL;
 pub use script::Act;
 pub use status::{Ran, Status};
+pub use theorems::a_script_asks_for_one_list_of_acts;
 pub use top::run;
 
 #[cfg(test)]

@@ -1,7 +1,7 @@
 use Rattle.std.proofs.Common.{◌≡◌, ◌+◌, [], ◌∷◌, ◌++◌, List, Err, take, sym, subst, rules}
 use Rattle.std.specs.Prelude.{IfErr, Result}
 use Rattle.batch_repr.specs.declared.batch.Batch.{Batch}
-use Rattle.batch_repr.proofs.Tools.{ok_of}
+use Rattle.batch_repr.proofs.Laws.{ok_of}
 use Rattle.wal_recovery.specs.declared.decoding.DecodeFault.{DecodeFault}
 use Rattle.wal_recovery.specs.Recovering.{Spell}
 use Rattle.wal_recovery.specs.Refused.{IsBadRecord}

@@ -1,5 +1,5 @@
 use Rattle.std.proofs.Common.{◌≡◌, [], ◌∷◌, ◌++◌, List, refl, sym, subst}
-use Rattle.batch_repr.proofs.Tools.{ok_of}
+use Rattle.batch_repr.proofs.Laws.{ok_of}
 use Rattle.wal_recovery.specs.declared.listing.Found.{Found}
 use Rattle.wal_recovery.specs.Rows.{Weaves}
 use Rattle.wal_recovery.proofs.Weaving.{weaves_more}

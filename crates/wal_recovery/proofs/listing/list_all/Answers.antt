@@ -4,7 +4,7 @@ use Rattle.disk_face.specs.declared.Listed.{Listed}
 use Rattle.disk_face.specs.View.{Files, files}
 use Rattle.disk_face.specs.Image.{dirs_as_read}
 use Rattle.disk_face.specs.Listing.{IsAscending, AreSegmentNames, IsListing, IsSegmentName}
-use Rattle.disk_face.proofs.Moments.{same_files}
+use Rattle.disk_face.proofs.Laws.{same_files}
 use Rattle.wal_recovery.specs.declared.listing.Found.{Found}
 use Rattle.wal_recovery.specs.Answers.{DiskMemoryOr}
 use Rattle.wal_recovery.specs.Rows.{Ascends, IsRowOf, Weaves, RefusesTwice, MeetsOrMemory}

@@ -7,7 +7,7 @@ use Rattle.segment_merge.specs.Rows.{IsNumbered}
 use Rattle.segment_merge.specs.Lenient.{MergedLenient}
 use Rattle.disk_face.specs.View.{Files, files}
 use Rattle.disk_face.specs.Image.{dirs_as_read}
-use Rattle.disk_face.proofs.Moments.{goes_on_from, goes_on_further, same_from, same_further, same_files}
+use Rattle.disk_face.proofs.Laws.{goes_on_from, goes_on_further, same_from, same_further, same_files}
 use Rattle.wal_recovery.specs.declared.fault.RecoverFault.{RecoverFault}
 use Rattle.wal_recovery.specs.declared.merging.Merged.{Merged}
 use Rattle.wal_recovery.specs.declared.wals.FoundWal.{FoundWal}

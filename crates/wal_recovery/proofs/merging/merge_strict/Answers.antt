@@ -3,10 +3,10 @@ use Rattle.std.proofs.Common.{◌≡◌, ℕ, map, List, length, take_all, ◌++
 use Rattle.std.specs.Prelude.{IfErr, Result}
 use Rattle.batch_repr.specs.Batches.{end_after, IsContiguous}
 use Rattle.segment_merge.specs.Rows.{IsNumbered}
-use Rattle.segment_merge.proofs.Contiguous.{end_append, contiguous_append}
+use Rattle.segment_merge.proofs.Laws.{end_append, contiguous_append}
 use Rattle.disk_face.specs.View.{Files, files}
 use Rattle.disk_face.specs.Image.{dirs_as_read}
-use Rattle.disk_face.proofs.Moments.{goes_on_from, goes_on_further, same_from, same_further, same_files}
+use Rattle.disk_face.proofs.Laws.{goes_on_from, goes_on_further, same_from, same_further, same_files}
 use Rattle.wal_recovery.specs.declared.fault.RecoverFault.{RecoverFault}
 use Rattle.wal_recovery.specs.declared.merging.Merged.{Merged}
 use Rattle.wal_recovery.specs.declared.wals.FoundWal.{FoundWal}

@@ -1,7 +1,7 @@
 use Rattle.std.proofs.Common.{◌≡◌, ℕ, [], ◌∷◌, ◌++◌, List, Err, IsTrue, sym, subst, ap, ◌∙◌, rules}
 use Rattle.std.specs.Prelude.{IfErr, Result}
 use Rattle.batch_repr.specs.declared.batch.Batch.{Batch}
-use Rattle.batch_repr.proofs.Tools.{ok_of}
+use Rattle.batch_repr.proofs.Laws.{ok_of}
 use Rattle.disk_face.specs.View.{files}
 use Rattle.wal_recovery.specs.declared.fault.RecoverFault.{RecoverFault}
 use Rattle.wal_recovery.specs.Recovering.{counted}

@@ -2,7 +2,7 @@ use Rattle.std.proofs.Common.{◌≡◌, [], List, Err, IsTrue, sym, subst, rule
 use Rattle.std.specs.Prelude.{IfErr, Result}
 use Rattle.segment_merge.specs.declared.segment.SegmentRead.{SegmentRead}
 use Rattle.disk_face.specs.View.{files}
-use Rattle.disk_face.proofs.Moments.{goes_on_from, goes_on_further, same_from, same_further, same_files}
+use Rattle.disk_face.proofs.Laws.{goes_on_from, goes_on_further, same_from, same_further, same_files}
 use Rattle.wal_recovery.specs.declared.fault.RecoverFault.{RecoverFault}
 use Rattle.wal_recovery.specs.declared.listing.Found.{Found}
 use Rattle.wal_recovery.specs.Answers.{DiskMemoryOr}

@@ -2,7 +2,7 @@
 use Rattle.std.proofs.Common.{◌≡◌, List, Result, Err, IsTrue, sym, subst, rules, arith}
 use Rattle.disk_face.specs.View.{files}
 use Rattle.disk_face.specs.Image.{dirs_as_read, IsRested}
-use Rattle.disk_face.proofs.Moments.{same_files}
+use Rattle.disk_face.proofs.Laws.{same_files}
 use Rattle.wal_recovery.specs.declared.fault.RecoverFault.{RecoverFault}
 use Rattle.wal_recovery.specs.declared.listing.Found.{Found}
 use Rattle.wal_recovery.specs.declared.reports.Mode.TheVariants.{Strict, Lenient}

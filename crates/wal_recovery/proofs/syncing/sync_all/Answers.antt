@@ -1,6 +1,6 @@
 use Rattle.std.proofs.Common.{All, List, subst, arith, take_all}
 use Rattle.disk_face.specs.View.{files}
-use Rattle.disk_face.proofs.Moments.{goes_on_further}
+use Rattle.disk_face.proofs.Laws.{goes_on_further}
 use Rattle.wal_recovery.specs.declared.listing.Found.{Found}
 use Rattle.wal_recovery.specs.Rows.{place_of}
 use Rattle.wal_recovery.specs.Resting.{IsSynced}

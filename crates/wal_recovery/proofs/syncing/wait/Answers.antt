@@ -1,4 +1,4 @@
-use Rattle.disk_face.proofs.Moments.{goes_on_further, same_further}
+use Rattle.disk_face.proofs.Laws.{goes_on_further, same_further}
 use Rattle.wal_recovery.proofs.Asking.{reads_nothing, polls_one}
 use Rattle.wal_recovery.proofs.syncing.wait.Goals as goal
 

@@ -1,5 +1,5 @@
 use Rattle.std.proofs.Common.{◌≡◌, [], ◌∷◌, ◌++◌, List, refl, sym, subst}
-use Rattle.batch_repr.proofs.Tools.{ok_of}
+use Rattle.batch_repr.proofs.Laws.{ok_of}
 use Rattle.wal_recovery.specs.declared.wals.FoundWal.{FoundWal}
 use Rattle.wal_recovery.specs.Rows.{Groups, IsGroup}
 use Rattle.wal_recovery.proofs.Grouping.{groups_more, group_is}

@@ -1,6 +1,6 @@
 -- What was read decides what is said, and nothing but the journal is left.
 use Rattle.std.proofs.Common.{List, ℕ, Err, inl, refl, ap, subst}
-use Rattle.disk_face.proofs.Moments.{goes_on_from}
+use Rattle.disk_face.proofs.Laws.{goes_on_from}
 use Rattle.wal_top.specs.Call.{Call, call_of, seen}
 use Rattle.wal_top.specs.Outcomes.{HasToSay, too_long}
 use Rattle.wal_top.specs.Parts.{SaysOfScript}

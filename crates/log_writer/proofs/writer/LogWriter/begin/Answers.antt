@@ -1,7 +1,7 @@
 -- Where nothing is started the one moment is that of before. Else the writer is as it was with the operation in flight.
 use Rattle.std.proofs.Common.{sym, subst, ◌∙◌}
 use Rattle.disk_face.specs.View.{DiskView, AtEachMoment}
-use Rattle.disk_face.proofs.Moments.{moments_from}
+use Rattle.disk_face.proofs.Laws.{moments_from}
 use Rattle.log_writer.specs.declared.phase.Phase.TheVariants.{InFlight}
 use Rattle.log_writer.specs.Writer.{Writer}
 use Rattle.log_writer.specs.Fits.{Fits, file_of}

@@ -3,7 +3,7 @@ use Rattle.mem_disk.specs.declared.parts.Undo.{Undo}
 use Rattle.disk_face.specs.View.{DiskView}
 use Rattle.disk_face.specs.Calls.{GoesOn, flight_of, place_of, bytes_of, after_start}
 use Rattle.disk_face.specs.View.{by_side}
-use Rattle.disk_face.proofs.Moments.{goes_on_from}
+use Rattle.disk_face.proofs.Laws.{goes_on_from}
 use Rattle.mem_disk.specs.Mem.{held, mem_view}
 use Rattle.mem_disk.proofs.Flights.{live_le}
 use Rattle.mem_disk.proofs.Calls.{goes_on_moment, changes_moment, view_same, on_err, started_back, may_now}

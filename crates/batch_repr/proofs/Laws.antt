@@ -1,0 +1,3 @@
+-- What the crates above cite of these proofs, and all that they may.
+pub use Rattle.batch_repr.proofs.Agreement.{one_fault, reads_no_fault, same_batch, spelled_reads}
+pub use Rattle.batch_repr.proofs.Tools.{ok_of}

@@ -1,5 +1,0 @@
-use Rattle.block_record.proofs.Beginnings.{first_are_read}
-use Rattle.block_record.proofs.laws.first_records_are_read.Goals as goal
-
-pub returns : goal.returns
-returns c = first_are_read

@@ -1,5 +1,0 @@
-use Rattle.block_record.proofs.Laying.{one_more}
-use Rattle.block_record.proofs.laws.next_record_is_laid_behind.Goals as goal
-
-pub returns : goal.returns
-returns c = one_more

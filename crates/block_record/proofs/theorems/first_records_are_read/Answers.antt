@@ -1,0 +1,5 @@
+use Rattle.block_record.proofs.Beginnings.{first_are_read}
+use Rattle.block_record.proofs.theorems.first_records_are_read.Goals as goal
+
+pub returns : goal.returns
+returns c = first_are_read

@@ -1,5 +1,0 @@
-use Rattle.failover_writer.proofs.Kept.{run_kept_now}
-use Rattle.failover_writer.proofs.laws.a_journal_keeps_its_run.Goals as goal
-
-pub returns : goal.returns
-returns c = run_kept_now

@@ -1,5 +1,0 @@
-use Rattle.failover_writer.proofs.Opening.{stable_opens}
-use Rattle.failover_writer.proofs.laws.stable_files_open_a_journal.Goals as goal
-
-pub returns : goal.returns
-returns c = stable_opens

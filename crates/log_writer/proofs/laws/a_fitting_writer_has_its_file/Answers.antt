@@ -1,5 +1,0 @@
-use Rattle.log_writer.proofs.Fitting.{fits_file}
-use Rattle.log_writer.proofs.laws.a_fitting_writer_has_its_file.Goals as goal
-
-pub returns : goal.returns
-returns c = fits_file

@@ -1,5 +1,0 @@
-use Rattle.log_writer.proofs.Fitting.{fits_grown}
-use Rattle.log_writer.proofs.laws.fits_as_records_come.Goals as goal
-
-pub returns : goal.returns
-returns c = fits_grown
