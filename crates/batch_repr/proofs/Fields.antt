@@ -11,7 +11,7 @@ use Rattle.batch_repr.specs.declared.fault.VarintFault.TheVariants.{Ended, Wrong
 use Rattle.batch_repr.specs.Spelling.{SpellsNumber, SpellsString, SpellsEntry}
 use Rattle.batch_repr.specs.declared.limits.TheConstants.{KEY_MAX, VALUE_MAX}
 use Rattle.batch_repr.specs.Limits.{IsWithinLimits}
-use Rattle.batch_repr.specs.Reading.{IsBytes, ◌>>=◌, number_at, text_from, string_at, set_at, delete_at, note_at, entry_at, place_of}
+use Rattle.batch_repr.specs.Reading.{IsBytes, ◌>>=◌, number_at, text_from, string_at, set_at, delete_at, note_at, entry_at, offset_of}
 use Rattle.batch_repr.proofs.Tools.{bind_ok, guard_ok, chosen, ok_is, IsBytes-rest, IsBytes-back}
 use Rattle.batch_repr.proofs.Varints.{number_takes, number_again}
 
@@ -41,7 +41,7 @@ from_text entry at limit bytes (Ok n) text rest fits e h =
 
 pub string_takes : (whole entry limit : ℕ) (bytes text rest : List ℕ) → IsBytes bytes → string_at whole entry limit bytes ≡ Ok (text, rest) → TakesString bytes limit text rest
 unfolding string_at
-string_takes whole entry limit bytes text rest fits e = from_text entry (place_of whole bytes) limit bytes (number_at bytes) text rest fits refl e
+string_takes whole entry limit bytes text rest fits e = from_text entry (offset_of whole bytes) limit bytes (number_at bytes) text rest fits refl e
 
 pub string_again : (whole entry limit : ℕ) (front text rest : List ℕ) → SpellsString front text → length text ≤ limit → string_at whole entry limit (front ++ rest) ≡ Ok (text, rest)
 unfolding string_at
@@ -95,7 +95,7 @@ pub entry_takes : (whole : ℕ) (bytes : List ℕ) (entry : Entry) (rest : List 
 unfolding entry_at
 entry_takes whole [] entry rest fits e = absurd cc
 entry_takes whole (kind ∷ bytes) entry rest fits e =
-    let at = place_of whole (kind ∷ bytes) in
+    let at = offset_of whole (kind ∷ bytes) in
     let more : IsBytes bytes = IsBytes-rest kind bytes fits in
     let third : Result (Entry × List ℕ) BatchFault = cond (eqb kind 3) (note_at whole at bytes) (Err (faults.UnknownKind at kind)) in
     let second : Result (Entry × List ℕ) BatchFault = cond (eqb kind 1) (set_at whole at bytes) third in
@@ -115,11 +115,11 @@ unfolding entry_at set_at delete_at note_at
 entry_again whole front (Set key value) rest s within =
     let tail : List ℕ = s.0 ++ (s.1 ++ rest) in
     let regrouped : front ++ rest ≡ 1 ∷ tail = ap (λ (x : List ℕ). x ++ rest) s.4 ∙ ap (λ (x : List ℕ). 1 ∷ x) (append_assoc s.0 s.1 rest) in
-    let at = place_of whole (1 ∷ tail) in
+    let at = offset_of whole (1 ∷ tail) in
     ap (entry_at whole) regrouped ∙ rw (string_again whole at KEY_MAX s.0 key (s.1 ++ rest) s.2 within.0, string_again whole at VALUE_MAX s.1 value rest s.3 within.1) refl
 entry_again whole front (Delete key) rest s within =
     let regrouped : front ++ rest ≡ 0 ∷ (s.0 ++ rest) = ap (λ (x : List ℕ). x ++ rest) s.2 in
-    ap (entry_at whole) regrouped ∙ rw (string_again whole (place_of whole (0 ∷ (s.0 ++ rest))) KEY_MAX s.0 key rest s.1 within) refl
+    ap (entry_at whole) regrouped ∙ rw (string_again whole (offset_of whole (0 ∷ (s.0 ++ rest))) KEY_MAX s.0 key rest s.1 within) refl
 entry_again whole front (Note note) rest s within =
     let regrouped : front ++ rest ≡ 3 ∷ (s.0 ++ rest) = ap (λ (x : List ℕ). x ++ rest) s.2 in
-    ap (entry_at whole) regrouped ∙ rw (string_again whole (place_of whole (3 ∷ (s.0 ++ rest))) VALUE_MAX s.0 note rest s.1 within) refl
+    ap (entry_at whole) regrouped ∙ rw (string_again whole (offset_of whole (3 ∷ (s.0 ++ rest))) VALUE_MAX s.0 note rest s.1 within) refl

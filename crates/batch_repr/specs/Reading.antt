@@ -28,8 +28,8 @@ unfoldable pub number_at : List ℕ → Result (ℕ × List ℕ) VarintFault
 number_at bytes = varint_at 5 bytes >>= λ n. if nat_lt n.0 (2 ^ 32) then Ok n else Err Wrong
 
 -- the place of what is left of so many bytes
-abbrev pub place_of : ℕ → List ℕ → ℕ
-place_of whole rest = whole - length rest
+abbrev pub offset_of : ℕ → List ℕ → ℕ
+offset_of whole rest = whole - length rest
 
 -- Each of them is a byte.
 abbrev pub IsBytes : List ℕ → Type 0
@@ -50,7 +50,7 @@ text_from entry at limit (Ok n) =
 
 -- A string of the entry at a place, of at most so many bytes, and what follows it.
 unfoldable pub string_at : ℕ → ℕ → ℕ → List ℕ → Result (List ℕ × List ℕ) BatchFault
-string_at whole entry limit bytes = text_from entry (place_of whole bytes) limit (number_at bytes)
+string_at whole entry limit bytes = text_from entry (offset_of whole bytes) limit (number_at bytes)
 
 -- What stands behind the kind byte of a Set at a place: its key, then its value.
 unfoldable pub set_at : ℕ → ℕ → List ℕ → Result (Entry × List ℕ) BatchFault
@@ -69,7 +69,7 @@ note_at whole entry bytes = string_at whole entry VALUE_MAX bytes >>= λ note. O
 unfoldable pub entry_at : ℕ → List ℕ → Result (Entry × List ℕ) BatchFault
 entry_at whole [] = Err (faults.ShortEntry whole)
 entry_at whole (kind ∷ bytes) =
-    let at = place_of whole (kind ∷ bytes) in
+    let at = offset_of whole (kind ∷ bytes) in
     if kind == 0 then delete_at whole at bytes
     else if kind == 1 then set_at whole at bytes
     else if kind == 3 then note_at whole at bytes

@@ -6,7 +6,7 @@ use Rattle.crc_chunk.specs.declared.chunk.ChunkKind.TheVariants.{Full, First, Mi
 use Rattle.crc_chunk.specs.Chunk.{ChunkAt}
 use Rattle.block_record.specs.declared.records.Rec.{Rec}
 use Rattle.block_record.specs.Framing.{framed, laid}
-use Rattle.block_record.specs.ReadOut.{Link, next_place, end_of, IsChain, Spelled, ended, after_link, spelled_from, nothing, bytes_of, ReadsOut, ReadsFirst}
+use Rattle.block_record.specs.ReadOut.{Link, next_place, chunk_end, IsChain, Spelled, ended, after_link, spelled_from, nothing, bytes_of, ReadsOut, ReadsFirst}
 use Rattle.block_record.proofs.Fragments.{room_behind}
 use Rattle.block_record.proofs.Laying.{laid-append}
 use Rattle.block_record.proofs.Chains.{within_segment}
@@ -23,8 +23,8 @@ grows : (at : ℕ) (so_far : Spelled) (links : List Link) → (extra : List Rec)
 grows at so_far [] = ([], sym (append-nil so_far.records))
 grows at so_far (link ∷ links) =
     let step : (extra : List Rec) × ((after_link (next_place at) so_far link).records ≡ so_far.records ++ extra) = one_more (next_place at) so_far link.kind link.payload in
-    let later : (extra : List Rec) × ((spelled_from (end_of (next_place at) link) (after_link (next_place at) so_far link) links).records ≡ (after_link (next_place at) so_far link).records ++ extra) =
-    grows (end_of (next_place at) link) (after_link (next_place at) so_far link) links in
+    let later : (extra : List Rec) × ((spelled_from (chunk_end (next_place at) link) (after_link (next_place at) so_far link) links).records ≡ (after_link (next_place at) so_far link).records ++ extra) =
+    grows (chunk_end (next_place at) link) (after_link (next_place at) so_far link) links in
     (step.0 ++ later.0, later.1 ∙ ap (λ (t : List Rec). t ++ later.0) step.1 ∙ append_assoc so_far.records step.0 later.0)
 
 -- The chain spells the first of these records, and nothing else.
@@ -55,7 +55,7 @@ laid_first (part ∷ records) bytes log at place so_far links stands room e h =
 chain_in : (bytes whole : List ℕ) (log at : ℕ) (is_open : Bool) (links : List Link) → ((at : ℕ) (kind : ChunkKind) (payload : List ℕ) → ChunkAt bytes at log kind payload → ChunkAt whole at log kind payload)
     → IsChain bytes log at is_open links → IsChain whole log at is_open links
 chain_in bytes whole log at is_open [] all h = tt
-chain_in bytes whole log at is_open (link ∷ links) all h = (h.0, all (next_place at) link.kind link.payload h.1, chain_in bytes whole log (end_of (next_place at) link) _ links all h.2)
+chain_in bytes whole log at is_open (link ∷ links) all h = (h.0, all (next_place at) link.kind link.payload h.1, chain_in bytes whole log (chunk_end (next_place at) link) _ links all h.2)
 
 -- Bytes that begin as the others do begin with what these begin with, if that is short enough.
 begins : (bytes whole some more : List ℕ) (within : ℕ) → take within bytes ≡ take within whole → whole ≡ some ++ more → length some ≤ within → bytes ≡ some ++ drop (length some) bytes

@@ -8,7 +8,7 @@ use Rattle.crc_chunk.specs.declared.chunk.ChunkKind.TheVariants.{Full, First, Mi
 use Rattle.crc_chunk.specs.Chunk.{chunk, ChunkAt}
 use Rattle.crc_chunk.proofs.Laws.{fields_of, one_chunk}
 use Rattle.block_record.specs.Framing.{left_in_block}
-use Rattle.block_record.specs.ReadOut.{Link, MayFollow, leaves_open, next_place, end_of, IsChain, IsLongestChain, Spelled, after_link, spelled_from, nothing, ReadsOut}
+use Rattle.block_record.specs.ReadOut.{Link, MayFollow, leaves_open, next_place, chunk_end, IsChain, IsLongestChain, Spelled, after_link, spelled_from, nothing, ReadsOut}
 use Rattle.block_record.proofs.Fragments.{chunk_len}
 
 -- A block, cut out where the segment may end before it or in it.
@@ -62,7 +62,7 @@ within_segment h = (fields_of h.stands).fits
 
 -- A longest chain behind a chunk that may follow is one with that chunk in front.
 one_longer : {bytes : List ℕ} {log at : ℕ} {is_open : Bool} (link : Link) (links : List Link) → MayFollow is_open link.kind → ChunkAt bytes (next_place at) log link.kind link.payload
-    → IsLongestChain bytes log (end_of (next_place at) link) (leaves_open link.kind) links → IsLongestChain bytes log at is_open (link ∷ links)
+    → IsLongestChain bytes log (chunk_end (next_place at) link) (leaves_open link.kind) links → IsLongestChain bytes log at is_open (link ∷ links)
 one_longer {bytes} {log} {at} {is_open} link links follows stands h = record { chain = (follows, stands, h.chain); longest = most }
   where
     most : (others : List Link) → IsChain bytes log at is_open others → length others ≤ suc (length links)
@@ -71,8 +71,8 @@ one_longer {bytes} {log} {at} {is_open} link links follows stands h = record { c
         let same : (other.kind ≡ link.kind) × (other.payload ≡ link.payload) = one_chunk c.1 stands in
         let moved : IsChain bytes log (next_place at + 11 + length link.payload) (leaves_open other.kind) others =
         subst (λ (payload : List ℕ). IsChain bytes log (next_place at + 11 + length payload) (leaves_open other.kind) others) same.1 c.2 in
-        let rest : IsChain bytes log (end_of (next_place at) link) (leaves_open link.kind) others =
-        subst (λ (kind : ChunkKind). IsChain bytes log (end_of (next_place at) link) (leaves_open kind) others) same.0 moved in
+        let rest : IsChain bytes log (chunk_end (next_place at) link) (leaves_open link.kind) others =
+        subst (λ (kind : ChunkKind). IsChain bytes log (chunk_end (next_place at) link) (leaves_open kind) others) same.0 moved in
         omega (arith, h.longest others rest)
 
 -- Whatever the longest chain from here on is, the segment's is one that spells it behind what is spelled so far.
@@ -85,7 +85,7 @@ left_first bytes log = record { done = λ links h. (links, h, refl) }
 
 pub left_next : {bytes : List ℕ} {log at : ℕ} {is_open : Bool} {so_far : Spelled} (link : Link) → LeftToRead bytes log at is_open so_far
     → MayFollow is_open link.kind → ChunkAt bytes (next_place at) log link.kind link.payload
-    → LeftToRead bytes log (end_of (next_place at) link) (leaves_open link.kind) (after_link (next_place at) so_far link)
+    → LeftToRead bytes log (chunk_end (next_place at) link) (leaves_open link.kind) (after_link (next_place at) so_far link)
 left_next link l follows stands = record { done = λ links h. l.done (link ∷ links) (one_longer link links follows stands h) }
 
 -- Where no chunk may follow, all is read.

@@ -7,7 +7,7 @@ use Rattle.std.proofs.lemmas.List.Elements.{All-nil, All-cons, All-head, All-tai
 use Rattle.std.proofs.lemmas.Slice.{between_is}
 use Rattle.block_record.specs.declared.records.Rec.{Rec}
 use Rattle.block_record.specs.declared.joining.Place.{Place}
-use Rattle.block_record.specs.Joined.{rec_in, rec_behind, spelled_in, fragment, EndsBy, StandsBetween, AreApart, IsApart}
+use Rattle.block_record.specs.Joined.{rec_in, rec_behind, spelled_in, fragment, EndsWithin, StandsBetween, AreApart, IsApart}
 
 -- A part of what stays is the same.
 pub kept_part : (old new : List ℕ) (limit from to : ℕ) → to ≤ limit → take limit new ≡ take limit old → slice_range new from to ≡ slice_range old from to
@@ -16,12 +16,12 @@ kept_part old new limit from to le e =
     between_is new from to ∙ ap (drop from) front ∙ sym (between_is old from to)
 
 -- Records that lie in what stays are the same.
-pub kept_records : (old new : List ℕ) (limit : ℕ) (places : List Place) → take limit new ≡ take limit old → All (EndsBy limit) places → map (rec_in new) places ≡ map (rec_in old) places
+pub kept_records : (old new : List ℕ) (limit : ℕ) (places : List Place) → take limit new ≡ take limit old → All (EndsWithin limit) places → map (rec_in new) places ≡ map (rec_in old) places
 kept_records old new limit [] e h = refl
 kept_records old new limit (place ∷ places) e h =
-    let below : EndsBy limit place = All-head (EndsBy limit) place places h in
+    let below : EndsWithin limit place = All-head (EndsWithin limit) place places h in
     let one : rec_in new place ≡ rec_in old place = ap (λ (bytes : List ℕ). record { at = place.at; bytes = bytes }) (kept_part old new limit place.from place.to below.below e) in
-    rw (one, kept_records old new limit places e (All-tail (EndsBy limit) place places h)) refl
+    rw (one, kept_records old new limit places e (All-tail (EndsWithin limit) place places h)) refl
 
 -- Places between two lie between two that are further apart.
 pub apart_wider : (start end low high : ℕ) (places : List Place) → low ≤ start → end ≤ high → AreApart start end places → AreApart low high places
@@ -43,9 +43,9 @@ all_stand start end low high (place ∷ places) l h (one, apart) =
     All-cons (StandsBetween low high) place places (record { above = omega (arith, one.above); order = one.order; below = omega (arith, one.below) })
     (all_stand place.to end low high places (omega (arith, one.above, one.order)) h apart)
 
-pub all_end : (start end : ℕ) (places : List Place) → AreApart start end places → All (EndsBy end) places
-all_end start end [] apart = All-nil (EndsBy end)
-all_end start end (place ∷ places) (one, apart) = All-cons (EndsBy end) place places (record { order = one.order; below = one.below }) (all_end place.to end places apart)
+pub all_end : (start end : ℕ) (places : List Place) → AreApart start end places → All (EndsWithin end) places
+all_end start end [] apart = All-nil (EndsWithin end)
+all_end start end (place ∷ places) (one, apart) = All-cons (EndsWithin end) place places (record { order = one.order; below = one.below }) (all_end place.to end places apart)
 
 apart_ordered : (start end : ℕ) (places : List Place) → AreApart start end places → start ≤ end
 apart_ordered start end [] apart = apart

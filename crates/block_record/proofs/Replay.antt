@@ -9,7 +9,7 @@ use Rattle.crc_chunk.specs.Chunk.{chunk, ChunkAt}
 use Rattle.crc_chunk.proofs.Laws.{stands_from, one_chunk}
 use Rattle.block_record.specs.declared.records.Rec.{Rec}
 use Rattle.block_record.specs.Framing.{left_in_block, room_at, cut, blocks_for, fragments, later_chunks, chunks, padding, framed, laid}
-use Rattle.block_record.specs.ReadOut.{Link, MayFollow, leaves_open, next_place, end_of, IsChain, IsLongestChain, Spelled, ended, after_link, spelled_from, nothing, ReadsOut}
+use Rattle.block_record.specs.ReadOut.{Link, MayFollow, leaves_open, next_place, chunk_end, IsChain, IsLongestChain, Spelled, ended, after_link, spelled_from, nothing, ReadsOut}
 use Rattle.block_record.proofs.Fragments.{chunk_len, no_blocks, room_behind}
 
 -- A chain, or one that is surely the longest.
@@ -40,7 +40,7 @@ head_of : (bytes : List ℕ) (log at : ℕ) (is_open : Bool) (sure : Bool) (firs
 head_of bytes log at is_open true first links h = (h.chain.0, h.chain.1)
 head_of bytes log at is_open false first links h = (h.0, h.1)
 
-tail_of : (bytes : List ℕ) (log at : ℕ) (is_open : Bool) (sure : Bool) (first : Link) (links : List Link) → Reads sure bytes log at is_open (first ∷ links) → Reads sure bytes log (end_of (next_place at) first) (leaves_open first.kind) links
+tail_of : (bytes : List ℕ) (log at : ℕ) (is_open : Bool) (sure : Bool) (first : Link) (links : List Link) → Reads sure bytes log at is_open (first ∷ links) → Reads sure bytes log (chunk_end (next_place at) first) (leaves_open first.kind) links
 tail_of bytes log at is_open true first links h = record { chain = h.chain.2; longest = λ others c. omega (arith, h.longest (first ∷ others) (h.chain.0, h.chain.1, c)) }
 tail_of bytes log at is_open false first links h = h.2
 

@@ -28,7 +28,7 @@ abbrev pub rec_behind : ℕ → List ℕ → Place → Rec
 rec_behind cut bytes place = record { at = place.at; bytes = slice_range bytes (place.from - cut) (place.to - cut) }
 
 -- The place begins before it ends, and ends by here.
-pub record EndsBy (end : ℕ) (place : Place) : Type 0 where
+pub record EndsWithin (end : ℕ) (place : Place) : Type 0 where
   pub order : place.from ≤ place.to
   pub below : place.to ≤ end
 
@@ -46,7 +46,7 @@ AreApart start end (place ∷ places) = StandsBetween start end place × AreApar
 -- Each whole record lies behind the one before it, the rest behind them, and that within the bytes.
 pub record IsApart (bytes : List ℕ) (whole : List Place) (rest : Place) : Type 0 where
   pub before : AreApart 0 rest.from whole
-  pub within : EndsBy (length bytes) rest
+  pub within : EndsWithin (length bytes) rest
 
 -- The bytes from this place on are as they were, and there are as many bytes as before.
 pub record SameBehind (end : ℕ) (old new : List ℕ) : Type 0 where

@@ -31,14 +31,14 @@ abbrev pub next_place : ℕ → ℕ
 next_place at = if nat_lt (left_in_block at) 11 then at + left_in_block at else at
 
 -- the place behind a chunk that stands here
-abbrev pub end_of : ℕ → Link → ℕ
-end_of start link = start + 11 + length link.payload
+abbrev pub chunk_end : ℕ → Link → ℕ
+chunk_end start link = start + 11 + length link.payload
 
 -- The chunks stand one after another from a place on, and each kind may follow.
 abbrev pub IsChain : List ℕ → ℕ → ℕ → Bool → List Link → Type 0
 IsChain bytes log at is_open [] = Unit {0}
 IsChain bytes log at is_open (link ∷ links) =
-    MayFollow is_open link.kind × ChunkAt bytes (next_place at) log link.kind link.payload × IsChain bytes log (end_of (next_place at) link) (leaves_open link.kind) links
+    MayFollow is_open link.kind × ChunkAt bytes (next_place at) log link.kind link.payload × IsChain bytes log (chunk_end (next_place at) link) (leaves_open link.kind) links
 
 -- No chain from this place on is longer.
 pub record IsLongestChain (bytes : List ℕ) (log at : ℕ) (is_open : Bool) (links : List Link) : Type 0 where
@@ -70,15 +70,15 @@ after_link start so_far link = go link.kind
     begun = record { at = start; bytes = link.payload }
 
     go : ChunkKind → Spelled
-    go Full = ended so_far (end_of start link) begun
+    go Full = ended so_far (chunk_end start link) begun
     go First = record so_far { rest = begun }
     go Middle = record so_far { rest = more }
-    go Last = ended so_far (end_of start link) more
+    go Last = ended so_far (chunk_end start link) more
 
 -- with the chunks of a chain more
 abbrev pub spelled_from : ℕ → Spelled → List Link → Spelled
 spelled_from at so_far [] = so_far
-spelled_from at so_far (link ∷ links) = spelled_from (end_of (next_place at) link) (after_link (next_place at) so_far link) links
+spelled_from at so_far (link ∷ links) = spelled_from (chunk_end (next_place at) link) (after_link (next_place at) so_far link) links
 
 -- what a segment has spelled before its first chunk
 abbrev pub nothing : Spelled

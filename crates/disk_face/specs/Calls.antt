@@ -26,10 +26,10 @@ abbrev pub place_of : DiskOp → Place
 place_of op = (flight_of op).place
 
 -- the bytes that an operation sends to its file
-abbrev pub bytes_of : DiskOp → List ℕ
-bytes_of (Create side name) = []
-bytes_of (Write side name bytes) = bytes.now
-bytes_of (Sync side name) = []
+abbrev pub bytes_sent_by : DiskOp → List ℕ
+bytes_sent_by (Create side name) = []
+bytes_sent_by (Write side name bytes) = bytes.now
+bytes_sent_by (Sync side name) = []
 
 -- a file of which a creation was started, and nothing else
 abbrev pub fresh : File

@@ -7,7 +7,7 @@ ghost use Rattle.disk_face.specs.View.{DiskView, Place, segment, File, files, wa
 ghost use Rattle.disk_face.specs.Image.{IsSound};
 ghost use Rattle.disk_face.specs.Listing.{IsAscending, AreSegmentNames, IsListing};
 ghost use Rattle.disk_face.specs.Asked.{answered};
-ghost use Rattle.disk_face.specs.Calls.{side_of, flight_of, place_of, bytes_of, MayStart, after_start, GoesOn, SameDisk, Starts, ChangesFile, Polled, FillsFrom, Stalls};
+ghost use Rattle.disk_face.specs.Calls.{side_of, flight_of, place_of, bytes_sent_by, MayStart, after_start, GoesOn, SameDisk, Starts, ChangesFile, Polled, FillsFrom, Stalls};
 
 use crate::{DiskErr, DiskOp, Names, OpId, Progress, SegName, Side};
 use wal_base::NoMemory;
@@ -55,7 +55,7 @@ pub trait Disk {
         requires may { IsTrue tells → MayStart (flight_of op).act (files (view self.old) (place_of op)) }
         ensures goes_on { GoesOn (view self.old) (view self.new) }
         ensures starts { IfOk result (λ id. Starts (flight_of op.entry) (side_of op.entry) id (view self.old) (view self.new)) }
-        ensures file { IfOk result (λ id. IsTrue tells → ChangesFile (place_of op.entry) (λ f g. g ≡ after_start (flight_of op.entry).act (bytes_of op.entry) f) (view self.old) (view self.new)) }
+        ensures file { IfOk result (λ id. IsTrue tells → ChangesFile (place_of op.entry) (λ f g. g ≡ after_start (flight_of op.entry).act (bytes_sent_by op.entry) f) (view self.old) (view self.new)) }
         ensures stalls { (view self.new).polls_left ≡ (view self.old).polls_left }
         ensures noted { IfOk result (λ id. (view self.new).calls ≡ was_started id ∷ (view self.old).calls) }
         ensures err { OnErr result (view self.new ≡ view self.old) };

@@ -5,7 +5,7 @@ ghost use Rattle.disk_face.specs.declared.Side.{Side};
 ghost use Rattle.disk_face.specs.View.{DiskView, File, segment, files, was_listed, was_read, was_started, was_polled, IsFree};
 ghost use Rattle.disk_face.specs.Listing.{IsAscending, AreSegmentNames, IsListing};
 ghost use Rattle.disk_face.specs.Asked.{answered};
-ghost use Rattle.disk_face.specs.Calls.{side_of, flight_of, place_of, bytes_of, MayStart, after_start, GoesOn, SameDisk, Starts, ChangesFile, Polled, FillsFrom, Stalls};
+ghost use Rattle.disk_face.specs.Calls.{side_of, flight_of, place_of, bytes_sent_by, MayStart, after_start, GoesOn, SameDisk, Starts, ChangesFile, Polled, FillsFrom, Stalls};
 ghost use Rattle.disk_face.specs.Script.{stalled, TellsOf, RaisesOwnPolls, AnswersItself, PassesPollOn};
 ghost use Rattle.wal_base.specs.Faults.{Rose};
 
@@ -129,7 +129,7 @@ impl<D: Disk> Disk for ScriptDisk<D> {
         requires may { IsTrue D.tells → MayStart (flight_of op).act (files (⟦<ScriptDisk<D> as Disk>⟧.view self.old) (place_of op)) }
         ensures goes_on { GoesOn (⟦<ScriptDisk<D> as Disk>⟧.view self.old) (⟦<ScriptDisk<D> as Disk>⟧.view self.new) }
         ensures starts { IfOk result (λ id. Starts (flight_of op.entry) (side_of op.entry) id (⟦<ScriptDisk<D> as Disk>⟧.view self.old) (⟦<ScriptDisk<D> as Disk>⟧.view self.new)) }
-        ensures file { IfOk result (λ id. IsTrue D.tells → ChangesFile (place_of op.entry) (λ f g. g ≡ after_start (flight_of op.entry).act (bytes_of op.entry) f) (⟦<ScriptDisk<D> as Disk>⟧.view self.old) (⟦<ScriptDisk<D> as Disk>⟧.view self.new)) }
+        ensures file { IfOk result (λ id. IsTrue D.tells → ChangesFile (place_of op.entry) (λ f g. g ≡ after_start (flight_of op.entry).act (bytes_sent_by op.entry) f) (⟦<ScriptDisk<D> as Disk>⟧.view self.old) (⟦<ScriptDisk<D> as Disk>⟧.view self.new)) }
         ensures stalls { (⟦<ScriptDisk<D> as Disk>⟧.view self.new).polls_left ≡ (⟦<ScriptDisk<D> as Disk>⟧.view self.old).polls_left }
         ensures noted { IfOk result (λ id. (⟦<ScriptDisk<D> as Disk>⟧.view self.new).calls ≡ was_started id ∷ (⟦<ScriptDisk<D> as Disk>⟧.view self.old).calls) }
         ensures err { OnErr result (⟦<ScriptDisk<D> as Disk>⟧.view self.new ≡ ⟦<ScriptDisk<D> as Disk>⟧.view self.old) }

@@ -16,7 +16,7 @@ use Rattle.log_writer.specs.declared.phase.Operation.TheVariants.{Create}
 use Rattle.log_writer.specs.declared.phase.Phase.{Phase}
 use Rattle.log_writer.specs.declared.phase.Phase.TheVariants.{New, InFlight}
 use Rattle.log_writer.specs.Writer.{Writer}
-use Rattle.log_writer.specs.Fits.{Fits, IsUnsent, SameFile, file_of}
+use Rattle.log_writer.specs.Fits.{Fits, IsUnsent, SameFile, place_of_writer}
 use Rattle.failover_writer.specs.State.{State, acked, is_broken}
 use Rattle.failover_writer.specs.Ranges.{side_at, IsSegmentAt, StandsFor}
 use Rattle.failover_writer.specs.Inside.{IsInOrder}
@@ -31,7 +31,7 @@ use Rattle.failover_writer.proofs.Segments.{place_at, index_in, place_is, apart_
 pub next_free : (tells : Bool) (records : List Batch) (state : State) (v : DiskView) → StandsFor tells records state v → IsFree v (place_at state.wal (length state.segments))
 next_free tells records state v stands id f flies at =
     not_theirs state.segments (place_at state.wal (length state.segments)) (apart_from state.wal 0 0 state.segments (place_at state.wal (length state.segments)) (omega arith) stands.joined)
-    (subst (Contains (map file_of state.segments)) at (stands.alone id f flies))
+    (subst (Contains (map place_of_writer state.segments)) at (stands.alone id f flies))
 
 pub acked_within : (tells : Bool) (records : List Batch) (state : State) (v : DiskView) → StandsFor tells records state v → acked state ≤ length records
 acked_within tells records state v stands = synced_within tells records v 0 state.segments (omega arith) stands.fit
@@ -53,11 +53,11 @@ next_fits tells state v side name from w side_is name_is from_is few fits record
 -- What a new writer begins is its creation.
 pub begins_first : (state : State) (side : Side) (name : SegName) (log from len : ℕ) (goal : Goal) (started : Bool) (w new : Writer) (before after : DiskView) → side ≡ side_at (length state.segments)
     → name ≡ record { wal = state.wal; index = length state.segments } → from ≡ acked state → w ≡ new_writer side name log from → BeginsJust (next_operation w.phase w.written goal) len started w new before after
-    → (id : OpId) × begun state id new × Starts (record { place = file_of new; act = creating }) side id before after × (file_of new ≡ file_of w)
+    → (id : OpId) × begun state id new × Starts (record { place = place_of_writer new; act = creating }) side id before after × (place_of_writer new ≡ place_of_writer w)
 begins_first state side name log from len goal started w new before after side_is name_is from_is made begins =
     let begins_new = (subst (λ (u : Writer). BeginsJust (next_operation u.phase u.written goal) len started u new before after) made begins).1 in
     let moved = begins_new.moved in
-    let place : file_of new ≡ segment side name = ap file_of moved in (
+    let place : place_of_writer new ≡ segment side name = ap place_of_writer moved in (
       begins_new.id,
       (
         ap (λ (u : Writer). u.side) moved ∙ side_is,
@@ -70,7 +70,7 @@ begins_first state side name log from len goal started w new before after side_i
         ap (λ (u : Writer). u.phase) moved,
       ),
       subst (λ (p : Place). Starts (record { place = p; act = creating }) side begins_new.id before after) (sym place) begins_new.starts,
-      place ∙ sym (ap file_of made),
+      place ∙ sym (ap place_of_writer made),
     )
 
 -- Where one operation more is in flight, on this file, each is on theirs or on it.
@@ -82,14 +82,14 @@ alone_with flight side id old new theirs starts here alone q f flies = elim (sam
 ]
 
 module _ (tells : Bool) (state : State) (old new : DiskView) (id : OpId) (w : Writer) (side : Side) (act : Act) (few : length state.segments < 10) (is : begun state id w)
-    (starts : Starts (record { place = file_of w; act = act }) side id old new) (others : (place : Place) → place ≢ file_of w → SameFile tells place old new) where
+    (starts : Starts (record { place = place_of_writer w; act = act }) side id old new) (others : (place : Place) → place ≢ place_of_writer w → SameFile tells place old new) where
   abbrev after : State
   after = record state { segments = state.segments ++ w ∷ [] }
 
   its_segment : IsSegmentAt state.wal (length state.segments) w
   its_segment = record { side = is.0; name = is.1; begun = λ e. let clash : InFlight Create id ≡ New = sym is.7 ∙ e in cc }
 
-  its_place : file_of w ≡ place_at state.wal (length state.segments)
+  its_place : place_of_writer w ≡ place_at state.wal (length state.segments)
   its_place = place_is state.wal (length state.segments) w its_segment
 
   acked_same : acked after ≡ acked state
@@ -107,10 +107,10 @@ module _ (tells : Bool) (state : State) (old new : DiskView) (id : OpId) (w : Wr
     few = omega (arith, few, length-append state.segments (w ∷ []));
     joined = joined_push state.wal 0 0 state.segments w stands.joined (subst (λ (n : ℕ). IsSegmentAt state.wal n w) (omega arith) its_segment) (omega (arith, is.2));
     fit = all_push (λ (u : Writer). Fits tells records u new) state.segments w
-        (fit_beside tells records (file_of w) old new state.segments others (apart_from state.wal 0 0 state.segments (file_of w) (omega (arith, ap index_in its_place)) stands.joined) stands.fit) fits;
-    alone = alone_with (record { place = file_of w; act = act }) side id old new (map file_of after.segments) starts
-        (subst (λ (l : List Place). Contains l (file_of w)) (sym (map-append file_of state.segments (w ∷ []))) (Contains-push (map file_of state.segments) (file_of w)))
-        (λ q f flies. subst (λ (l : List Place). Contains l f.place) (sym (map-append file_of state.segments (w ∷ []))) (Contains-append_left (map file_of state.segments) (file_of w ∷ []) f.place (stands.alone q f flies)));
+        (fit_beside tells records (place_of_writer w) old new state.segments others (apart_from state.wal 0 0 state.segments (place_of_writer w) (omega (arith, ap index_in its_place)) stands.joined) stands.fit) fits;
+    alone = alone_with (record { place = place_of_writer w; act = act }) side id old new (map place_of_writer after.segments) starts
+        (subst (λ (l : List Place). Contains l (place_of_writer w)) (sym (map-append place_of_writer state.segments (w ∷ []))) (Contains-push (map place_of_writer state.segments) (place_of_writer w)))
+        (λ q f flies. subst (λ (l : List Place). Contains l f.place) (sym (map-append place_of_writer state.segments (w ∷ []))) (Contains-append_left (map place_of_writer state.segments) (place_of_writer w ∷ []) f.place (stands.alone q f flies)));
     fresh = λ told index low high.
         subst IsUnsent (sym ((others (place_at state.wal index) (λ e. omega (arith, low, length-append state.segments (w ∷ []), ap index_in e, ap index_in its_place))).file told))
         (stands.fresh told index (omega (arith, low, length-append state.segments (w ∷ []))) high);
@@ -132,16 +132,16 @@ module _ (tells : Bool) (state : State) (old new : DiskView) (id : OpId) (w : Wr
 
   -- ---- the moments
 
-  has_place : Contains (map file_of after.segments) (file_of w)
-  has_place = subst (λ (l : List Place). Contains l (file_of w)) (sym (map-append file_of state.segments (w ∷ []))) (Contains-push (map file_of state.segments) (file_of w))
+  has_place : Contains (map place_of_writer after.segments) (place_of_writer w)
+  has_place = subst (λ (l : List Place). Contains l (place_of_writer w)) (sym (map-append place_of_writer state.segments (w ∷ []))) (Contains-push (map place_of_writer state.segments) (place_of_writer w))
 
-  has_places : (p : Place) → Contains (map file_of state.segments) p → Contains (map file_of after.segments) p
-  has_places p there = subst (λ (l : List Place). Contains l p) (sym (map-append file_of state.segments (w ∷ []))) (Contains-append_left (map file_of state.segments) (file_of w ∷ []) p there)
+  has_places : (p : Place) → Contains (map place_of_writer state.segments) p → Contains (map place_of_writer after.segments) p
+  has_places p there = subst (λ (l : List Place). Contains l p) (sym (map-append place_of_writer state.segments (w ∷ []))) (Contains-append_left (map place_of_writer state.segments) (place_of_writer w ∷ []) p there)
 
   -- Each file but those of the segments is as it was.
   opened_then : (opening : Files) → IsTrue tells → OthersStay opening state (files old) → OthersStay opening after (files new)
   opened_then opening told stay p out =
-      let apart : p ≢ file_of w = λ e. out (subst (Contains (map file_of after.segments)) (sym e) has_place) in
+      let apart : p ≢ place_of_writer w = λ e. out (subst (Contains (map place_of_writer after.segments)) (sym e) has_place) in
       (others p apart).file told ∙ stay p (λ there. out (has_places p there))
 
   pub begun_passes : GoesOn old new → (IsTrue tells → new.clock ≤ suc old.clock) → ((records : List Batch) → StandsFor tells records state old → Fits tells records w new) → Passes tells state after old new

@@ -213,7 +213,7 @@ stays_none polled within few verdict none wants rests = go verdict.current.phase
         ]
 
 -- Something is begun or started where there is work and nothing is busy.
-goes_lower : (polled new : State) → polled.want ≤ len polled → length polled.segments ≤ 10 → stepping.GoesOn polled new → (work new < work polled) ⊎ ((new ≡ polled) × (HasWork polled → NoneBusy polled.segments → ⊥))
+goes_lower : (polled new : State) → polled.want ≤ len polled → length polled.segments ≤ 10 → stepping.ActsAfterPolls polled new → (work new < work polled) ⊎ ((new ≡ polled) × (HasWork polled → NoneBusy polled.segments → ⊥))
 goes_lower polled new within few (first _ none behind begins) = inl (begins_lowers polled new (omega (arith, ap length none)) begins)
 goes_lower polled new within few (none_to_begin none not_behind) = inr (refl, λ more _. not_behind more.0)
 goes_lower polled new within few (switches _ verdict begins) = inl (begins_lowers polled new verdict.says.0 begins)
@@ -239,7 +239,7 @@ polls_came before after None (Some Done) told also = inr (inl (inr tt))
 polls_came before after None (Some Failed) told also = inr (inl (inr tt))
 polls_came before after None None told also = inr (inr (refl, refl))
 
-gone_falls : (old polled started new : State) (before after : DiskView) (one other : Option Progress) → old.want ≤ len old → length old.segments ≤ 10 → GoesOn before after → IsUp old → Polls old one other polled → stepping.GoesOn polled started
+gone_falls : (old polled started new : State) (before after : DiskView) (one other : Option Progress) → old.want ≤ len old → length old.segments ≤ 10 → GoesOn before after → IsUp old → Polls old one other polled → stepping.ActsAfterPolls polled started
     → Releases started new → IsTold before after one → IsTold before after other → measure new after < measure old before
 gone_falls old polled started new before after one other within few goes_on up polls went releases told also =
     let lower = polls_lower polls in

@@ -7,12 +7,12 @@ use Rattle.log_writer.specs.Writer.{Writer}
 use Rattle.failover_writer.specs.State.{State, broken_count}
 use Rattle.failover_writer.specs.Ranges.{side_at}
 use Rattle.failover_writer.specs.Stepping.{Verdict}
-use Rattle.failover_writer.specs.Sound.{HasGivenUp, IsSound}
+use Rattle.failover_writer.specs.Sound.{HasGivenUp, IsSoundJournal}
 use Rattle.failover_writer.proofs.Stepped.{broken_phase, dying_broken}
 use Rattle.failover_writer.proofs.Sound.{some_records}
 
 -- A journal that gives up.
-pub sound_dead : (old : State) (side : Side) (count : ℕ) → IsSound old → Verdict IsToDie old → side ≡ side_at (length old.segments - 1) → count ≡ broken_count old → IsSound (record old { dead = Some (record { side = side; faults = count }) })
+pub sound_dead : (old : State) (side : Side) (count : ℕ) → IsSoundJournal old → Verdict IsToDie old → side ≡ side_at (length old.segments - 1) → count ≡ broken_count old → IsSoundJournal (record old { dead = Some (record { side = side; faults = count }) })
 sound_dead old side count sound verdict side_is count_is = record {
   least = sound.least;
   most = sound.most;

@@ -15,7 +15,7 @@ use Rattle.segment_merge.specs.Ranges as ranges
 use Rattle.segment_merge.proofs.Laws.{parts_merge}
 use Rattle.wal_recovery.specs.Listing.{place_in}
 use Rattle.log_writer.specs.Writer.{Writer}
-use Rattle.log_writer.specs.Fits.{file_of}
+use Rattle.log_writer.specs.Fits.{place_of_writer}
 use Rattle.failover_writer.specs.State.{State, acked}
 use Rattle.failover_writer.specs.Ranges.{AreJoined, StandsFor}
 use Rattle.failover_writer.specs.Keeping.{IsElsewhere, IsRunOver, KeepsRun, HasNoSegment, OthersStay, IsOpenedOn, StoodAt}
@@ -84,7 +84,7 @@ own_or_not wal (table upto) = inr tt
 -- ---- the other files
 
 -- A place of another WAL is none of theirs.
-apart_elsewhere : (wal index synced : ℕ) (ws : List Writer) (p : Place) → IsNotOwn wal p → index + length ws ≤ 1000 → AreJoined wal index synced ws → AllByRecursion (λ (w : Writer). file_of w ≢ p) ws
+apart_elsewhere : (wal index synced : ℕ) (ws : List Writer) (p : Place) → IsNotOwn wal p → index + length ws ≤ 1000 → AreJoined wal index synced ws → AllByRecursion (λ (w : Writer). place_of_writer w ≢ p) ws
 unfolding AreJoined IsNotOwn IsOwn
 apart_elsewhere wal index synced [] p elsewhere few joined = tt
 apart_elsewhere wal index synced (w ∷ ws) p elsewhere few joined = (
@@ -97,7 +97,7 @@ module _ (opening : Files) (state : State) (now : Files) (opened : IsOpenedOn op
   now_elsewhere p elsewhere = opened.others p (not_theirs state.segments p (apart_elsewhere state.wal 0 0 state.segments p elsewhere (omega (arith, few)) joined))
 
   -- No other segment of the journal's WAL stands.
-  none_beside : (side : Side) (n : ℕ) → 0 ≤ n → n ≤ 999 → (Contains (map file_of state.segments) (place_in state.wal side n) → ⊥) → dirs (place_in state.wal side n) ≡ None
+  none_beside : (side : Side) (n : ℕ) → 0 ≤ n → n ≤ 999 → (Contains (map place_of_writer state.segments) (place_in state.wal side n) → ⊥) → dirs (place_in state.wal side n) ≡ None
   none_beside side n low high not_there =
       let gone : now (place_in state.wal side n) ≡ None = opened.others (place_in state.wal side n) not_there ∙ opened.absent side (record { wal = state.wal; index = n }) (named, high) refl in
       image_of_none (place_in state.wal side n) (dirs (place_in state.wal side n)) (subst (λ f. IsImageOf (place_in state.wal side n) f (dirs (place_in state.wal side n))) gone (image (place_in state.wal side n)))
@@ -132,7 +132,7 @@ run_kept_now tells records opening state v told stands opened dirs image chance_
   merges = record {
     segments = row.segments;
     are = record { order = row.by; same = λ stored. (λ h. ((row.same stored).0 h).1, λ h. (row.same stored).1 (omega arith, h)) };
-    merges = record { row = map (ranges.part records) row.held; holds = row.holds; merges = merged.3 };
+    merges = record { row = map (ranges.records_in records) row.held; holds = row.holds; merges = merged.3 };
   };
   others = without state.wal dirs;
   image = others_image opening state (files v) opened stands.named stands.few stands.joined dirs image;
@@ -145,7 +145,7 @@ run_kept_now tells records opening state v told stands opened dirs image chance_
         own_row state.wal stands.named records (are_records state.base records stands.numbered stands.spelled) dirs 0 0 state.segments (omega (arith, stands.few)) stands.joined
         (all_kept tells records v dirs told image chance_free state.wal 0 0 state.segments stands.joined stands.fit) (none_beside opening state (files v) opened stands.named stands.few stands.joined dirs image)
 
-    merged : (e : ℕ) × (ranges.most_synced 0 row.held ≤ e) × (e ≤ length records) × Merged state.base (map (ranges.part records) row.held) (take e records)
+    merged : (e : ℕ) × (ranges.most_synced 0 row.held ≤ e) × (e ≤ length records) × Merged state.base (map (ranges.records_in records) row.held) (take e records)
     merged = parts_merge state.base records stands.numbered row.held row.are
 
 -- With fewer acked it is so too.

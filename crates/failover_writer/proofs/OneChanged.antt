@@ -10,7 +10,7 @@ use Rattle.disk_face.specs.View.{Place, Flight, DiskView}
 use Rattle.disk_face.proofs.Laws.{same_place}
 use Rattle.log_writer.specs.declared.phase.Phase.TheVariants.{New}
 use Rattle.log_writer.specs.Writer.{Writer}
-use Rattle.log_writer.specs.Fits.{IsUnsent, Fits, SameFile, file_of}
+use Rattle.log_writer.specs.Fits.{IsUnsent, Fits, SameFile, place_of_writer}
 use Rattle.log_writer.proofs.Laws.{fits_beside}
 use Rattle.failover_writer.proofs.Segments.{place_at, index_in}
 use Rattle.failover_writer.specs.State.{State, most_synced}
@@ -25,7 +25,7 @@ pub record SameSegment (old new : Writer) : Type 0 where
   pub synced : old.synced ≤ new.synced
   pub begun : new.phase ≢ New
 
-pub same_file : (old new : Writer) → SameSegment old new → file_of new ≡ file_of old
+pub same_file : (old new : Writer) → SameSegment old new → place_of_writer new ≡ place_of_writer old
 same_file old new same = let s = same.side in let n = same.name in cc
 
 -- ---- what is synced
@@ -86,11 +86,11 @@ unfolding AreJoined
 index_from wal index synced [] w back joined = ap (λ (n : SegName). n.index) joined.0.name ∙ omega arith
 index_from wal index synced (u ∷ front) w back joined = index_from wal (suc index) (max synced u.synced) front w back joined.2 ∙ omega arith
 
-pub other_index : (w u : Writer) → w.name.index ≢ u.name.index → file_of w ≢ file_of u
+pub other_index : (w u : Writer) → w.name.index ≢ u.name.index → place_of_writer w ≢ place_of_writer u
 other_index w u differ same = differ (let names : w.name ≡ u.name = cc in ap (λ (n : SegName). n.index) names)
 
 -- What holds of each segment of another file and of the changed one holds of all.
-module _ (P Q : Writer → Type 0) (old new : Writer) (elsewhere : (w : Writer) → file_of w ≢ file_of old → P w → Q w) where
+module _ (P Q : Writer → Type 0) (old new : Writer) (elsewhere : (w : Writer) → place_of_writer w ≢ place_of_writer old → P w → Q w) where
   -- no segment behind has this index
   others_behind : (wal index synced : ℕ) (writers : List Writer) → old.name.index < index → AreJoined wal index synced writers → AllByRecursion P writers → AllByRecursion Q writers
   unfolding AreJoined
@@ -111,17 +111,17 @@ module _ (P Q : Writer → Type 0) (old new : Writer) (elsewhere : (w : Writer) 
 
 -- ---- the whole
 
-pub files_changed : (front : List Writer) (old new : Writer) (back : List Writer) → file_of new ≡ file_of old → map file_of (front ++ new ∷ back) ≡ map file_of (front ++ old ∷ back)
-files_changed [] old new back same = ap (λ (p : Place). p ∷ map file_of back) same
-files_changed (w ∷ front) old new back same = ap (λ (ps : List Place). file_of w ∷ ps) (files_changed front old new back same)
+pub files_changed : (front : List Writer) (old new : Writer) (back : List Writer) → place_of_writer new ≡ place_of_writer old → map place_of_writer (front ++ new ∷ back) ≡ map place_of_writer (front ++ old ∷ back)
+files_changed [] old new back same = ap (λ (p : Place). p ∷ map place_of_writer back) same
+files_changed (w ∷ front) old new back same = ap (λ (ps : List Place). place_of_writer w ∷ ps) (files_changed front old new back same)
 
-pub file_within : (front : List Writer) (w : Writer) (back : List Writer) → Contains (map file_of (front ++ w ∷ back)) (file_of w)
+pub file_within : (front : List Writer) (w : Writer) (back : List Writer) → Contains (map place_of_writer (front ++ w ∷ back)) (place_of_writer w)
 file_within [] w back = (0, omega arith, refl)
 file_within (u ∷ front) w back = let later = file_within front w back in (suc later.0, omega (arith, later.1), later.2)
 
 -- The journal stands for the same records where one segment goes on and every other file stays as it was.
 pub stands_changed : (tells : Bool) (records : List Batch) (state : State) (before after : DiskView) (front : List Writer) (old new : Writer) (back : List Writer) → state.segments ≡ front ++ old ∷ back → SameSegment old new
-    → (Fits tells records old before → Fits tells records new after) → ((place : Place) → place ≢ file_of old → SameFile tells place before after) → StandsFor tells records state before
+    → (Fits tells records old before → Fits tells records new after) → ((place : Place) → place ≢ place_of_writer old → SameFile tells place before after) → StandsFor tells records state before
     → StandsFor tells records (record state { segments = front ++ new ∷ back }) after
 stands_changed tells records state before after front old new back are same fits others stands = record {
   named = stands.named;
@@ -138,9 +138,9 @@ stands_changed tells records state before after front old new back are same fits
   few = let few : length (front ++ old ∷ back) ≤ 10 = subst (λ (ws : List Writer). length ws ≤ 10) are stands.few in omega (arith, few, length-append front (old ∷ back), length-append front (new ∷ back));
   joined = joined_changed state.wal 0 0 front old new back same joined;
   fit =
-      all_changed (λ (w : Writer). Fits tells records w before) (λ (w : Writer). Fits tells records w after) old new (λ w elsewhere fit. fits_beside tells records w before after fit (others (file_of w) elsewhere)) state.wal 0 0 front back
+      all_changed (λ (w : Writer). Fits tells records w before) (λ (w : Writer). Fits tells records w after) old new (λ w elsewhere fit. fits_beside tells records w before after fit (others (place_of_writer w) elsewhere)) state.wal 0 0 front back
       joined (subst (λ (ws : List Writer). AllByRecursion (λ (w : Writer). Fits tells records w before) ws) are stands.fit) fits;
-  alone = λ id f flies. subst (λ (ps : List Place). Contains ps f.place) (sym (files_changed front old new back (same_file old new same))) (alone id f flies (same_place f.place (file_of old)));
+  alone = λ id f flies. subst (λ (ps : List Place). Contains ps f.place) (sym (files_changed front old new back (same_file old new same))) (alone id f flies (same_place f.place (place_of_writer old)));
   fresh = λ told index low high.
       subst IsUnsent (sym ((others (place_at state.wal index) (λ e. omega (arith, low, length-append front (new ∷ back), ap index_in e, index_from state.wal 0 0 front old back joined))).file told))
       (stands.fresh told index (omega (arith, low, ap (λ (ws : List Writer). length ws) are, length-append front (new ∷ back), length-append front (old ∷ back))) high);
@@ -149,6 +149,6 @@ stands_changed tells records state before after front old new back are same fits
     joined : AreJoined state.wal 0 0 (front ++ old ∷ back)
     joined = subst (λ (ws : List Writer). AreJoined state.wal 0 0 ws) are stands.joined
 
-    alone : (id : OpId) (f : Flight) → after.in_flight id ≡ Some f → (f.place ≡ file_of old) ⊎ (f.place ≢ file_of old) → Contains (map file_of (front ++ old ∷ back)) f.place
-    alone id f flies (inl here) = subst (λ (p : Place). Contains (map file_of (front ++ old ∷ back)) p) (sym here) (file_within front old back)
-    alone id f flies (inr elsewhere) = subst (λ (ws : List Writer). Contains (map file_of ws) f.place) are (stands.alone id f ((others f.place elsewhere).no_more id f refl flies))
+    alone : (id : OpId) (f : Flight) → after.in_flight id ≡ Some f → (f.place ≡ place_of_writer old) ⊎ (f.place ≢ place_of_writer old) → Contains (map place_of_writer (front ++ old ∷ back)) f.place
+    alone id f flies (inl here) = subst (λ (p : Place). Contains (map place_of_writer (front ++ old ∷ back)) p) (sym here) (file_within front old back)
+    alone id f flies (inr elsewhere) = subst (λ (ws : List Writer). Contains (map place_of_writer ws) f.place) are (stands.alone id f ((others f.place elsewhere).no_more id f refl flies))

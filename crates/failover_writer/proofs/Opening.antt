@@ -9,7 +9,7 @@ use Rattle.crc_chunk.specs.Chunk.{chunk, IsChunkOf}
 use Rattle.crc_chunk.proofs.Laws.{stands_within}
 use Rattle.batch_repr.specs.declared.batch.Batch.{Batch}
 use Rattle.batch_repr.specs.Batches.{end_after}
-use Rattle.block_record.specs.ReadOut.{Link, leaves_open, next_place, end_of, IsChain, ChunksStandIn}
+use Rattle.block_record.specs.ReadOut.{Link, leaves_open, next_place, chunk_end, IsChain, ChunksStandIn}
 use Rattle.block_record.proofs.Laws.{chunk_len}
 use Rattle.disk_face.specs.declared.Side.{Side}
 use Rattle.disk_face.specs.declared.SegName.{SegName}
@@ -29,7 +29,7 @@ use Rattle.failover_writer.specs.Keeping.{IsOpening}
 chain_stands : (log : ℕ) (bytes others : List ℕ) → ChunksStandIn others log bytes → (at : ℕ) (is_open : Bool) (links : List Link) → IsChain bytes log at is_open links → IsChain others log at is_open links
 chain_stands log bytes others stand at is_open [] chain = tt
 chain_stands log bytes others stand at is_open (link ∷ links) chain =
-    (chain.0, stand (next_place at) link.kind link.payload chain.1, chain_stands log bytes others stand (end_of (next_place at) link) (leaves_open link.kind) links chain.2)
+    (chain.0, stand (next_place at) link.kind link.payload chain.1, chain_stands log bytes others stand (chunk_end (next_place at) link) (leaves_open link.kind) links chain.2)
 
 -- Bytes in which the same chunks stand hold the same batches.
 holds_same : (log : ℕ) (bytes others : List ℕ) (batches : List Batch) → ChunksStandIn others log bytes → ChunksStandIn bytes log others → HoldsBatches log bytes batches → HoldsBatches log others batches

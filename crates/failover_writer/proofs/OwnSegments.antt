@@ -19,9 +19,9 @@ use Rattle.segment_merge.specs.Ranges as ranges
 use Rattle.segment_merge.specs.Ranges.{between, Range, AreRanges}
 use Rattle.segment_merge.proofs.Laws.{none_within, within_head, within_tail, within_cases}
 use Rattle.wal_recovery.specs.Listing.{Stored, place_in, AreByIndex, StandsIn}
-use Rattle.wal_recovery.specs.Recovering.{log_number, counted, Spell, HoldsBatches, HoldRow}
+use Rattle.wal_recovery.specs.Recovering.{log_number, taking_numbers, Spell, HoldsBatches, HoldRow}
 use Rattle.log_writer.specs.Writer.{Writer}
-use Rattle.log_writer.specs.Fits.{Fits, file_of}
+use Rattle.log_writer.specs.Fits.{Fits, place_of_writer}
 use Rattle.log_writer.specs.Kept.{IsFirstOf, IsKeptAs}
 use Rattle.log_writer.proofs.Laws.{fits_kept}
 use Rattle.failover_writer.specs.State.{most_synced}
@@ -51,7 +51,7 @@ all_drop P zero xs all = all
 all_drop P (suc n) [] all = tt
 all_drop P (suc n) (x ∷ xs) all = all_drop P n xs all.1
 
-all_counted : (batches : List Batch) → AllByRecursion IsRecord batches → counted batches ≡ batches
+all_counted : (batches : List Batch) → AllByRecursion IsRecord batches → taking_numbers batches ≡ batches
 all_counted [] are = refl
 all_counted (batch ∷ batches) are = rw (lt-ltb 0 (count_of batch.entries) are.0.some) (ap (λ (bs : List Batch). batch ∷ bs) (all_counted batches are.1))
 
@@ -100,7 +100,7 @@ kept_holds log content from synced records are low kept = (
 -- What an image has of the segment of a writer.
 pub record IsKeptIn (wal : ℕ) (records : List Batch) (dirs : Dirs) (w : Writer) : Type 0 where
   pub begins : w.from ≤ w.synced
-  pub kept : IsKeptAs (log_number wal) w.from w.synced records (dirs (file_of w))
+  pub kept : IsKeptAs (log_number wal) w.from w.synced records (dirs (place_of_writer w))
 
 pub all_kept : (tells : Bool) (records : List Batch) (v : DiskView) (dirs : Dirs) → IsTrue tells → IsImage (files v) dirs → IsChanceFree IsChunkOf (files v) dirs → (wal index synced : ℕ) (ws : List Writer)
     → AreJoined wal index synced ws → AllByRecursion (λ (w : Writer). Fits tells records w v) ws → AllByRecursion (IsKeptIn wal records dirs) ws
@@ -108,13 +108,13 @@ unfolding AreJoined
 all_kept tells records v dirs told image chance_free wal index synced [] joined fit = tt
 all_kept tells records v dirs told image chance_free wal index synced (w ∷ ws) joined fit =
     let log_is : w.log ≡ log_number wal = fit.0.ordered.log ∙ ap (λ (name : SegName). log_number name.wal) joined.0.name in
-    let kept : IsKeptAs w.log w.from w.synced records (dirs (file_of w)) = fits_kept tells records w v fit.0 told dirs image chance_free in (
-      record { begins = fit.0.ordered.from; kept = subst (λ (log : ℕ). IsKeptAs log w.from w.synced records (dirs (file_of w))) log_is kept },
+    let kept : IsKeptAs w.log w.from w.synced records (dirs (place_of_writer w)) = fits_kept tells records w v fit.0 told dirs image chance_free in (
+      record { begins = fit.0.ordered.from; kept = subst (λ (log : ℕ). IsKeptAs log w.from w.synced records (dirs (place_of_writer w))) log_is kept },
       all_kept tells records v dirs told image chance_free wal (suc index) (max synced w.synced) ws joined.2 fit.1,
     )
 
 -- A place of a lower index is none of theirs.
-pub apart_below : (wal index synced : ℕ) (ws : List Writer) (place : Place) → index_in place < index → AreJoined wal index synced ws → AllByRecursion (λ (w : Writer). file_of w ≢ place) ws
+pub apart_below : (wal index synced : ℕ) (ws : List Writer) (place : Place) → index_in place < index → AreJoined wal index synced ws → AllByRecursion (λ (w : Writer). place_of_writer w ≢ place) ws
 unfolding AreJoined
 apart_below wal index synced [] place low joined = tt
 apart_below wal index synced (w ∷ ws) place low joined =
@@ -141,18 +141,18 @@ pub record OwnRow (wal : ℕ) (records : List Batch) (dirs : Dirs) (index synced
   pub are : AreRanges (length records) synced held
   pub kept : most_synced synced ws ≤ ranges.most_synced synced held
   pub by : AreByIndex index segments
-  pub holds : HoldRow (log_number wal) segments (map (ranges.part records) held)
+  pub holds : HoldRow (log_number wal) segments (map (ranges.records_in records) held)
   pub same : (stored : Stored) → Contains segments stored ↔ ((index ≤ stored.index) × StandsIn dirs wal stored)
 
 module _ (wal : ℕ) (named : wal ≤ 999999999999) (records : List Batch) (are : AllByRecursion IsRecord records) (dirs : Dirs) where
   -- No other segment of the WAL stands from this index on.
   abbrev pub NoneBeside : ℕ → List Writer → Type 0
-  NoneBeside index ws = (side : Side) (n : ℕ) → index ≤ n → n ≤ 999 → (Contains (map file_of ws) (place_in wal side n) → ⊥) → dirs (place_in wal side n) ≡ None
+  NoneBeside index ws = (side : Side) (n : ℕ) → index ≤ n → n ≤ 999 → (Contains (map place_of_writer ws) (place_in wal side n) → ⊥) → dirs (place_in wal side n) ≡ None
 
   none_behind : (index synced : ℕ) (w : Writer) (ws : List Writer) → AreJoined wal index synced (w ∷ ws) → NoneBeside index (w ∷ ws) → NoneBeside (suc index) ws
   unfolding AreJoined
   none_behind index synced w ws joined none side n le few not_there =
-      none side n (omega (arith, le)) few (λ there. elim (within_cases (file_of w) (map file_of ws) (place_in wal side n) there) [
+      none side n (omega (arith, le)) few (λ there. elim (within_cases (place_of_writer w) (map place_of_writer ws) (place_in wal side n) there) [
         | inl e ↦ omega (arith, le, index_is wal index w joined.0, ap index_in e)
         | inr later ↦ not_there later
       ])

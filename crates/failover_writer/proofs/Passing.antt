@@ -6,7 +6,7 @@ use Rattle.disk_face.specs.View.{Place, Files, DiskView, files}
 use Rattle.disk_face.specs.Calls.{GoesOn}
 use Rattle.disk_face.proofs.Laws.{moments_from, moments_joined}
 use Rattle.log_writer.specs.Writer.{Writer}
-use Rattle.log_writer.specs.Fits.{SameFile, file_of}
+use Rattle.log_writer.specs.Fits.{SameFile, place_of_writer}
 use Rattle.failover_writer.specs.State.{State, acked, most_synced}
 use Rattle.failover_writer.specs.Ranges.{StandsFor}
 use Rattle.failover_writer.specs.Keeping.{OthersStay, StoodAt, Passes}
@@ -35,7 +35,7 @@ stood_earlier tells records opening old mid now wal base le stood = record {
 }
 
 others_as : (opening : Files) (old new : State) (now : Files) → new.segments ≡ old.segments → OthersStay opening old now → OthersStay opening new now
-others_as opening old new now segments others p none = others p (λ has. none (subst (λ (ws : List Writer). Contains (map file_of ws) p) (sym segments) has))
+others_as opening old new now segments others p none = others p (λ has. none (subst (λ (ws : List Writer). Contains (map place_of_writer ws) p) (sym segments) has))
 
 -- Nothing but the queue, or what is asked for, changed.
 pub passes_still : (tells : Bool) (old new : State) (v : DiskView) → new.wal ≡ old.wal → new.base ≡ old.base → new.segments ≡ old.segments → Passes tells old new v v
@@ -79,12 +79,12 @@ passes_once tells old new before after wal base le keeps goes opened two = recor
     either records opening now first last (inr is) = subst (StoodAt tells records opening old) (sym is) last
 
 -- The files of the opening go on where one segment changes and every other file stays.
-pub opened_changed : (tells : Bool) (opening : Files) (state : State) (before after : DiskView) (front : List Writer) (old new : Writer) (back : List Writer) → state.segments ≡ front ++ old ∷ back → file_of new ≡ file_of old
-    → ((place : Place) → place ≢ file_of old → SameFile tells place before after) → IsTrue tells → OthersStay opening state (files before) → OthersStay opening (record state { segments = front ++ new ∷ back }) (files after)
+pub opened_changed : (tells : Bool) (opening : Files) (state : State) (before after : DiskView) (front : List Writer) (old new : Writer) (back : List Writer) → state.segments ≡ front ++ old ∷ back → place_of_writer new ≡ place_of_writer old
+    → ((place : Place) → place ≢ place_of_writer old → SameFile tells place before after) → IsTrue tells → OthersStay opening state (files before) → OthersStay opening (record state { segments = front ++ new ∷ back }) (files after)
 opened_changed tells opening state before after front old new back are same others told stay p none =
-    let not_here : p ≢ file_of old = λ e. none (subst (λ (ps : List Place). Contains ps p) (sym (files_changed front old new back same)) (subst (λ (q : Place). Contains (map file_of (front ++ old ∷ back)) q) (sym e) (file_within front old back))) in
+    let not_here : p ≢ place_of_writer old = λ e. none (subst (λ (ps : List Place). Contains ps p) (sym (files_changed front old new back same)) (subst (λ (q : Place). Contains (map place_of_writer (front ++ old ∷ back)) q) (sym e) (file_within front old back))) in
     (others p not_here).file told
-    ∙ stay p (λ has. none (subst (λ (ps : List Place). Contains ps p) (sym (files_changed front old new back same)) (subst (λ (ws : List Writer). Contains (map file_of ws) p) are has)))
+    ∙ stay p (λ has. none (subst (λ (ps : List Place). Contains ps p) (sym (files_changed front old new back same)) (subst (λ (ws : List Writer). Contains (map place_of_writer ws) p) are has)))
 
 -- Neither the journal nor its disk changed.
 pub passes_same : (tells : Bool) (old new : State) (before after : DiskView) → new ≡ old → after ≡ before → Passes tells old new before after

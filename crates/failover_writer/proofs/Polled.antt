@@ -18,7 +18,7 @@ use Rattle.log_writer.specs.declared.phase.Operation.{Operation}
 use Rattle.log_writer.specs.declared.phase.Phase.{Phase}
 use Rattle.log_writer.specs.declared.phase.Phase.TheVariants.{New, InFlight, Idle, Broken}
 use Rattle.log_writer.specs.Writer.{Writer}
-use Rattle.log_writer.specs.Fits.{Fits, SameFile, IsBusy, HasFlight, file_of}
+use Rattle.log_writer.specs.Fits.{Fits, SameFile, IsBusy, HasFlight, place_of_writer}
 use Rattle.log_writer.specs.Steps.{after_answer}
 use Rattle.failover_writer.specs.Remaining.{polls_left}
 use Rattle.log_writer.specs.Steps.{TakesPoll, pending_polls}
@@ -149,7 +149,7 @@ answered_at state seen index old new answer same busy read answered synced =
     (flight.0, flight.1, record { at = stood ∙ ap (λ (w : Writer). Some w) (sym here); phase = flight.2; answered = answered flight.0 flight.1 flight.2; synced = synced })
 
 pub stands_polled : (tells : Bool) (records : List Batch) (state : State) (before after : DiskView) (index : ℕ) (old new : Writer) (operation : Operation) (id : OpId) (answer : Progress)
-    → IsAnswered state.segments index old new operation id answer → (Fits tells records old before → Fits tells records new after) → ((place : Place) → place ≢ file_of old → SameFile tells place before after)
+    → IsAnswered state.segments index old new operation id answer → (Fits tells records old before → Fits tells records new after) → ((place : Place) → place ≢ place_of_writer old → SameFile tells place before after)
     → StandsFor tells records state before → StandsFor tells records (record state { segments = set state.segments index new }) after
 stands_polled tells records state before after index old new operation id answer is fits others stands =
     subst (λ (ws : List Writer). StandsFor tells records (record state { segments = ws }) after) (sym (split_new state.segments index old new operation id answer is))
@@ -157,7 +157,7 @@ stands_polled tells records state before after index old new operation id answer
     (segment_same state.segments index old new operation id answer is) fits others stands)
 
 pub order_polled : (tells : Bool) (state : State) (before after : DiskView) (index : ℕ) (old new : Writer) (operation : Operation) (id : OpId) (answer : Progress) (acked_so_far rested_to failures acked_now failures_now : ℕ)
-    → IsAnswered state.segments index old new operation id answer → ((records : List Batch) → Fits tells records old before → Fits tells records new after) → ((place : Place) → place ≢ file_of old → SameFile tells place before after)
+    → IsAnswered state.segments index old new operation id answer → ((records : List Batch) → Fits tells records old before → Fits tells records new after) → ((place : Place) → place ≢ place_of_writer old → SameFile tells place before after)
     → state.dead ≡ None → IsInOrder tells state before acked_so_far rested_to failures → acked_now ≡ max acked_so_far new.synced → failures_now ≡ count_by is_broken (set state.segments index new)
     → IsInOrder tells (record state { segments = set state.segments index new }) after acked_now rested_to failures_now
 order_polled tells state before after index old new operation id answer acked_so_far rested_to failures acked_now failures_now is fits others lives order acked_is failed_is = record {
@@ -212,8 +212,8 @@ polled_clock : (tells : Bool) (records : List Batch) (w : Writer) (operation : O
     → IsTrue tells → after.clock ≤ suc before.clock
 polled_clock tells records w operation id answer before after fits phase polled told = go answer polled
   where
-    flies : HasFlight (InFlight operation id) (file_of w) before
-    flies = subst (λ (p : Phase). HasFlight p (file_of w) before) phase fits.flight
+    flies : HasFlight (InFlight operation id) (place_of_writer w) before
+    flies = subst (λ (p : Phase). HasFlight p (place_of_writer w) before) phase fits.flight
 
     go : (a : Progress) → Polled tells id before after a → after.clock ≤ suc before.clock
     go Pending same = omega (arith, same.same.clock)
@@ -227,7 +227,7 @@ fits_at tells records state v index w at stands =
 
 pub passes_polled : (tells : Bool) (state seen : State) (before seen_before after : DiskView) (index : ℕ) (old new : Writer) (operation : Operation) (id : OpId) (answer : Progress) → state ≡ seen → before ≡ seen_before
     → IsAnswered state.segments index old new operation id answer → (records : List Batch) × StandsFor tells records state before → ((records : List Batch) → Fits tells records old before → Fits tells records new after)
-    → ((place : Place) → place ≢ file_of old → SameFile tells place before after) → Polled tells id before after answer → GoesOn before after
+    → ((place : Place) → place ≢ place_of_writer old → SameFile tells place before after) → Polled tells id before after answer → GoesOn before after
     → Passes tells seen (record state { segments = set state.segments index new }) seen_before after
 passes_polled tells state seen before seen_before after index old new operation id answer same same_disk is held fits others polled goes =
     subst (λ (s : State). Passes tells s (record state { segments = set state.segments index new }) seen_before after) same

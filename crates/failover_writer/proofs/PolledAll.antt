@@ -17,7 +17,7 @@ use Rattle.log_writer.specs.Fits.{IsBusy}
 use Rattle.log_writer.specs.Steps.{after_answer}
 use Rattle.failover_writer.specs.Remaining.{polls_left}
 use Rattle.failover_writer.specs.Answered.{AsksToPoll, pending_count}
-use Rattle.failover_writer.specs.State.{State, Held}
+use Rattle.failover_writer.specs.State.{State, JournalView}
 use Rattle.failover_writer.specs.Keeping.{Passes}
 use Rattle.failover_writer.specs.Stepping.{NoneBusy, PollsFirst, Polls}
 use Rattle.failover_writer.specs.Stepping as stepping
@@ -245,32 +245,32 @@ part_still : (tells : Bool) (state : State) (v : DiskView) → GoesPart tells st
 part_still tells state v = record { keeps = λ records stands. stands; passes = passes_still tells state state v refl refl refl; goes = goes_on_from v }
 
 module _ {D : Type 0} (tells : Bool) (view : D → DiskView) where
-  pub early_not : (old now : Held D) (early : Bool) → now ≡ old → early ≡ false → NoneBusy (take (length old.state.segments - 1) old.state.segments) → GoesEarly tells old.state now.state (view old.disk) (view now.disk) early
+  pub early_not : (old now : JournalView D) (early : Bool) → now ≡ old → early ≡ false → NoneBusy (take (length old.state.segments - 1) old.state.segments) → GoesEarly tells old.state now.state (view old.disk) (view now.disk) early
   early_not old now early same is none =
-      subst (λ (h : Held D). GoesEarly tells old.state h.state (view old.disk) (view h.disk) early) (sym same) (subst (λ (b : Bool). GoesEarly tells old.state old.state (view old.disk) (view old.disk) b) (sym is)
+      subst (λ (h : JournalView D). GoesEarly tells old.state h.state (view old.disk) (view h.disk) early) (sym same) (subst (λ (b : Bool). GoesEarly tells old.state old.state (view old.disk) (view old.disk) b) (sym is)
       (record { polls = early_none old.state (view old.disk) none; part = part_still tells old.state (view old.disk) }))
 
-  pub early_made : (old seen now then : Held D) (early pending : Bool) (index : ℕ) → seen ≡ old → now ≡ then → early ≡ pending → IsFirstBusy index old.state
+  pub early_made : (old seen now then : JournalView D) (early pending : Bool) (index : ℕ) → seen ≡ old → now ≡ then → early ≡ pending → IsFirstBusy index old.state
       → PollsAt tells index seen.state then.state (view seen.disk) (view then.disk) pending → GoesPart tells seen.state then.state (view seen.disk) (view then.disk)
       → GoesEarly tells old.state now.state (view old.disk) (view now.disk) early
   early_made old seen now then early pending index same same_now is first polls part =
-      subst (λ (h : Held D). GoesEarly tells h.state now.state (view h.disk) (view now.disk) early) same
-      (subst (λ (h : Held D). GoesEarly tells seen.state h.state (view seen.disk) (view h.disk) early) (sym same_now)
+      subst (λ (h : JournalView D). GoesEarly tells h.state now.state (view h.disk) (view now.disk) early) same
+      (subst (λ (h : JournalView D). GoesEarly tells seen.state h.state (view seen.disk) (view h.disk) early) (sym same_now)
       (subst (λ (b : Bool). GoesEarly tells seen.state then.state (view seen.disk) (view then.disk) b) (sym is)
-      (record { polls = early_one tells seen.state then.state (view seen.disk) (view then.disk) index pending (subst (λ (h : Held D). IsFirstBusy index h.state) (sym same) first) polls; part = part })))
+      (record { polls = early_one tells seen.state then.state (view seen.disk) (view then.disk) index pending (subst (λ (h : JournalView D). IsFirstBusy index h.state) (sym same) first) polls; part = part })))
 
-  pub late_not : (old mid now : Held D) (early late : Bool) → GoesEarly tells old.state mid.state (view old.disk) (view mid.disk) early → now ≡ mid → late ≡ false
+  pub late_not : (old mid now : JournalView D) (early late : Bool) → GoesEarly tells old.state mid.state (view old.disk) (view mid.disk) early → now ≡ mid → late ≡ false
       → NoneBusy (drop (length mid.state.segments - 1) mid.state.segments) → GoesBoth tells old.state now.state (view old.disk) (view now.disk) (early || late)
   late_not old mid now early late went same is none =
-      subst (λ (h : Held D). GoesBoth tells old.state h.state (view old.disk) (view h.disk) (early || late)) (sym same)
+      subst (λ (h : JournalView D). GoesBoth tells old.state h.state (view old.disk) (view h.disk) (early || late)) (sym same)
       (subst (λ (b : Bool). GoesBoth tells old.state mid.state (view old.disk) (view mid.disk) (early || b)) (sym is)
       (record { polls = all_none old.state mid.state (view old.disk) (view mid.disk) early went.polls none; passes = went.part.passes }))
 
-  pub late_made : (old mid now then : Held D) (early late pending : Bool) (index : ℕ) → GoesEarly tells old.state mid.state (view old.disk) (view mid.disk) early → now ≡ then → late ≡ pending
+  pub late_made : (old mid now then : JournalView D) (early late pending : Bool) (index : ℕ) → GoesEarly tells old.state mid.state (view old.disk) (view mid.disk) early → now ≡ then → late ≡ pending
       → suc index ≡ length mid.state.segments → PollsAt tells index mid.state then.state (view mid.disk) (view then.disk) pending → GoesPart tells mid.state then.state (view mid.disk) (view then.disk)
       → GoesBoth tells old.state now.state (view old.disk) (view now.disk) (early || late)
   late_made old mid now then early late pending index went same is at polls part =
-      subst (λ (h : Held D). GoesBoth tells old.state h.state (view old.disk) (view h.disk) (early || late)) (sym same)
+      subst (λ (h : JournalView D). GoesBoth tells old.state h.state (view old.disk) (view h.disk) (early || late)) (sym same)
       (subst (λ (b : Bool). GoesBoth tells old.state then.state (view old.disk) (view then.disk) (early || b)) (sym is)
       (record {
         polls = all_one tells old.state mid.state then.state (view old.disk) (view mid.disk) (view then.disk) index early pending went.polls at polls went.part.goes part.goes;

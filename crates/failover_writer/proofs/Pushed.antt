@@ -17,7 +17,7 @@ use Rattle.failover_writer.proofs.Lists.{all_then}
 use Rattle.failover_writer.proofs.Segments.{all_push}
 
 -- The queue ends where the records do.
-pub queue_end : (records : List Batch) (queue : Queue) → IsQueueOf records queue → queues.end_of queue ≡ length records
+pub queue_end : (records : List Batch) (queue : Queue) → IsQueueOf records queue → queues.queue_end queue ≡ length records
 queue_end records queue is = let held = ap (λ (bs : List Batch). length bs) is.holds in omega (arith, held, length-drop queue.start records, is.start)
 
 pub queue_pushed : (records : List Batch) (added : Batch) (old new : Queue) → IsQueueOf records old → new.start ≡ old.start → new.records ≡ old.records ++ added ∷ [] → IsQueueOf (records ++ added ∷ []) new

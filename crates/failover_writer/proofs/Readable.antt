@@ -10,7 +10,7 @@ use Rattle.crc_chunk.specs.Chunk.{type_byte, covered, chunk, ChunkAt}
 use Rattle.crc_chunk.proofs.Laws.{stands_back, fields_of, one_chunk}
 use Rattle.disk_face.proofs.Laws.{same_number}
 use Rattle.block_record.specs.declared.records.Rec.{Rec}
-use Rattle.block_record.specs.ReadOut.{Link, MayFollow, leaves_open, next_place, end_of, Spelled, after_link, nothing, ReadsOut}
+use Rattle.block_record.specs.ReadOut.{Link, MayFollow, leaves_open, next_place, chunk_end, Spelled, after_link, nothing, ReadsOut}
 use Rattle.block_record.proofs.Laws.{within_segment, LeftToRead, left_first, left_next, all_read, not_before}
 
 same_bytes : (a b : List ℕ) → (a ≡ b) ⊎ (a ≢ b)
@@ -114,7 +114,7 @@ module _ (bytes : List ℕ) (log : ℕ) where
       | inr never ↦ ended_here at is_open so_far left (λ other more may there. never (subst (MayFollow is_open) (one_chunk there here).0 may))
       | inl may ↦
           let link : Link = record { kind = kind; payload = payload } in
-          read_on fuel (end_of (next_place at) link) (leaves_open kind) (after_link (next_place at) so_far link) (left_next link left may here) (omega (arith, short, not_before at))
+          read_on fuel (chunk_end (next_place at) link) (leaves_open kind) (after_link (next_place at) so_far link) (left_next link left may here) (omega (arith, short, not_before at))
     ]
   ]
 

@@ -18,7 +18,7 @@ use Rattle.log_writer.specs.declared.phase.Phase.{Phase}
 use Rattle.log_writer.specs.declared.phase.Phase.TheVariants.{New, InFlight, Idle, Broken}
 use Rattle.log_writer.specs.Writer.{Writer}
 use Rattle.log_writer.specs.Parts.{part, texts, segment_bytes}
-use Rattle.log_writer.specs.Fits.{file_of, file_with, IsOrdered, HoldsRecords, HasFile, Fits}
+use Rattle.log_writer.specs.Fits.{place_of_writer, file_with, IsOrdered, HoldsRecords, HasFile, Fits}
 use Rattle.log_writer.proofs.Laws.{bytes_split, bytes_front}
 use Rattle.failover_writer.specs.State.{State, phase_is_broken, is_broken, broken_count}
 use Rattle.failover_writer.specs.Ranges.{AreJoined, StandsFor}
@@ -60,8 +60,8 @@ chunk_in_front front more at log size here =
 
 -- ---- one segment
 
-fresh_reads : (w : Writer) (f : Option File) → f ≡ Some fresh → ReadsAsImage (file_of w) f
-fresh_reads w f is = subst (ReadsAsImage (file_of w)) (sym is) (record { image = λ e. absurd cc; was_sent = λ g bytes at size same read here. absurd cc })
+fresh_reads : (w : Writer) (f : Option File) → f ≡ Some fresh → ReadsAsImage (place_of_writer w) f
+fresh_reads w f is = subst (ReadsAsImage (place_of_writer w)) (sym is) (record { image = λ e. absurd cc; was_sent = λ g bytes at size same read here. absurd cc })
 
 module _ (records : List Batch) (w : Writer) (ordered : IsOrdered records w) where
   -- the bytes of its records up to this one
@@ -72,7 +72,7 @@ module _ (records : List Batch) (w : Writer) (ordered : IsOrdered records w) whe
   abbrev behind : ℕ → ℕ → List ℕ
   behind mid to = laid w.log (length (upto mid)) (texts (part mid to records))
 
-  written_reads : ReadsAsImage (file_of w) (Some (file_with records w (upto w.written)))
+  written_reads : ReadsAsImage (place_of_writer w) (Some (file_with records w (upto w.written)))
   written_reads = record {
     image = λ made. (
       behind w.synced w.written,
@@ -84,7 +84,7 @@ module _ (records : List Batch) (w : Writer) (ordered : IsOrdered records w) whe
         let sent_is : upto w.sent ≡ g.sent = ap (λ (o : Option File). sent_of o) is in
         let split : upto w.sent ≡ upto w.written ++ behind w.written w.sent = bytes_split w.log w.from w.written w.sent records (omega (arith, ordered.from, ordered.synced)) ordered.written in
         subst (λ (l : List ℕ). take size (drop at l) ≡ take size (drop at g.sent)) bytes_are
-        (chunk_in_front (upto w.written) (behind w.written w.sent) at (log_of (file_of w)) size (subst (λ (l : List ℕ). IsChunkOf l at (log_of (file_of w)) size) (sym bytes_are) here)
+        (chunk_in_front (upto w.written) (behind w.written w.sent) at (log_of (place_of_writer w)) size (subst (λ (l : List ℕ). IsChunkOf l at (log_of (place_of_writer w)) size) (sym bytes_are) here)
         ∙ ap (λ (l : List ℕ). take size (drop at l)) (sym split ∙ sent_is));
   }
     where
@@ -92,10 +92,10 @@ module _ (records : List Batch) (w : Writer) (ordered : IsOrdered records w) whe
       sent_of None = []
       sent_of (Some f) = f.sent
 
-  held_reads : (f : Option File) → HoldsRecords records w f → ReadsAsImage (file_of w) f
-  held_reads f holds = subst (ReadsAsImage (file_of w)) (sym holds) written_reads
+  held_reads : (f : Option File) → HoldsRecords records w f → ReadsAsImage (place_of_writer w) f
+  held_reads f holds = subst (ReadsAsImage (place_of_writer w)) (sym holds) written_reads
 
-  phase_reads : (phase : Phase) (f : Option File) → phase ≢ New → phase_is_broken phase ≡ false → HasFile phase records w f → ReadsAsImage (file_of w) f
+  phase_reads : (phase : Phase) (f : Option File) → phase ≢ New → phase_is_broken phase ≡ false → HasFile phase records w f → ReadsAsImage (place_of_writer w) f
   phase_reads New f begun whole has = absurd (begun refl)
   phase_reads (InFlight Create id) f begun whole is = fresh_reads w f is
   phase_reads (InFlight Write id) f begun whole holds = held_reads f holds
@@ -110,19 +110,19 @@ none_counted true n none = absurd (omega (arith, none))
 none_counted false n none = (refl, omega (arith, none))
 
 all_read : (tells : Bool) (records : List Batch) (v : DiskView) → IsTrue tells → (wal index synced : ℕ) (ws : List Writer) → AreJoined wal index synced ws → AllByRecursion (λ (w : Writer). Fits tells records w v) ws → count_by is_broken ws ≡ 0
-    → AllByRecursion (λ (w : Writer). ReadsAsImage (file_of w) (files v (file_of w))) ws
+    → AllByRecursion (λ (w : Writer). ReadsAsImage (place_of_writer w) (files v (place_of_writer w))) ws
 unfolding AreJoined
 all_read tells records v told wal index synced [] joined fit none = tt
 all_read tells records v told wal index synced (w ∷ ws) joined fit none =
     let counted = none_counted (is_broken w) (count_by is_broken ws) (sym (count_head w ws) ∙ none) in (
-      phase_reads records w fit.0.ordered w.phase (files v (file_of w)) joined.0.begun counted.0 (fit.0.file told),
+      phase_reads records w fit.0.ordered w.phase (files v (place_of_writer w)) joined.0.begun counted.0 (fit.0.file told),
       all_read tells records v told wal (suc index) (max synced w.synced) ws joined.2 fit.1 counted.1,
     )
 
 -- What holds at the place of each holds here, or the place is none of theirs.
-holds_or_apart : (P : Place → Type 0) (ws : List Writer) (place : Place) → AllByRecursion (λ (w : Writer). P (file_of w)) ws → P place ⊎ AllByRecursion (λ (w : Writer). file_of w ≢ place) ws
+holds_or_apart : (P : Place → Type 0) (ws : List Writer) (place : Place) → AllByRecursion (λ (w : Writer). P (place_of_writer w)) ws → P place ⊎ AllByRecursion (λ (w : Writer). place_of_writer w ≢ place) ws
 holds_or_apart P [] place all = inr tt
-holds_or_apart P (w ∷ ws) place all = elim (same_place (file_of w) place) [
+holds_or_apart P (w ∷ ws) place all = elim (same_place (place_of_writer w) place) [
   | inl here ↦ inl (subst P here all.0)
   | inr other ↦ elim (holds_or_apart P ws place all.1) [ inl here ↦ inl here | inr apart ↦ inr (other, apart) ]
 ]

@@ -5,7 +5,7 @@ use Rattle.std.specs.List.{AllByRecursion}
 use Rattle.std.proofs.lemmas.List.{drop-drop}
 use Rattle.batch_repr.specs.declared.batch.Batch.{Batch}
 use Rattle.disk_face.specs.View.{DiskView}
-use Rattle.record_queue.specs.Queue.{Queue, end_of}
+use Rattle.record_queue.specs.Queue.{Queue, queue_end}
 use Rattle.log_writer.specs.Writer.{Writer}
 use Rattle.log_writer.specs.Fits.{Fits}
 use Rattle.failover_writer.specs.State.{State, acked, most_synced}
@@ -57,5 +57,5 @@ released_stands tells records old queue v stands start holds = record {
   fresh = stands.fresh;
 }
 
-pub releases_as_seen : (old seen : State) (queue : Queue) → old ≡ seen → queue.start ≡ max old.queue.start (releasable old) → end_of queue ≡ end_of old.queue → Releases seen (record old { queue = queue })
+pub releases_as_seen : (old seen : State) (queue : Queue) → old ≡ seen → queue.start ≡ max old.queue.start (releasable old) → queue_end queue ≡ queue_end old.queue → Releases seen (record old { queue = queue })
 releases_as_seen old seen queue same start end = subst (λ (state : State). Releases state (record old { queue = queue })) same (record { start = start; end = end; new_is = refl })

@@ -21,8 +21,8 @@ use Rattle.failover_writer.specs.declared.fault.Step.{Step}
 use Rattle.failover_writer.specs.declared.fault.Step.TheVariants as steps
 use Rattle.failover_writer.specs.State.{State, broken_count}
 use Rattle.failover_writer.specs.Ranges.{side_at, AreJoined, StandsFor}
-use Rattle.failover_writer.specs.Stepping.{shown, Verdict, IsToStay, GoesOn, starts, stays, Dies, IsUp, Releases, StepRule, dies, goes, short, moved_or_waited}
-use Rattle.failover_writer.specs.Answered.{AsksOnce, IsTold, StepsBy}
+use Rattle.failover_writer.specs.Stepping.{shown_to_monitor, Verdict, IsToStay, ActsAfterPolls, starts, stays, Dies, IsUp, Releases, StepRule, dies, goes, short, moved_or_waited}
+use Rattle.failover_writer.specs.Answered.{StartsAtMostOne, IsTold, StepsBy}
 use Rattle.failover_writer.specs.Remaining.{polls_left}
 use Rattle.failover_writer.specs.Moves.{MayStartNext, started, nothing, PollsAll, was_pending, EndsGoing}
 use Rattle.failover_writer.proofs.Segments.{last_is}
@@ -33,7 +33,7 @@ empty_from (w ∷ ws) e = let some = slice_get-get_or (w ∷ ws) (length (w ∷ 
 
 -- ---- the verdict
 
-pub verdict_from : (Says : MonitorView → Type 0) (state : State) (view : MonitorView) (current : Writer) → slice_get state.segments (length state.segments - 1) ≡ Some current → view ≡ shown state current → Says view
+pub verdict_from : (Says : MonitorView → Type 0) (state : State) (view : MonitorView) (current : Writer) → slice_get state.segments (length state.segments - 1) ≡ Some current → view ≡ shown_to_monitor state current → Says view
     → Verdict Says state
 verdict_from Says state view current at is says = record {
   earlier = take (length state.segments - 1) state.segments;
@@ -48,7 +48,7 @@ stays_where said view dead switch is = (
   λ leave. let clash : verdicts.Stay ≡ verdicts.Switch = sym is ∙ switch.1 leave in cc,
 )
 
-pub went_on : (state new : State) → Verdict IsToStay state → MayStartNext state new → GoesOn state new
+pub went_on : (state new : State) → Verdict IsToStay state → MayStartNext state new → ActsAfterPolls state new
 went_on state new verdict (started then behind is) = starts then verdict behind is
 went_on state new verdict (nothing none) = stays verdict none
 
@@ -73,7 +73,7 @@ told_later before between after (Some Done) onward told = tt
 told_later before between after (Some Failed) onward told = (told.0, omega (arith, told.1, onward.faults told.0))
 
 -- A step whose polls were told is one by its rule.
-steps_by : (old polled new : State) (before between after : DiskView) (waited : Bool) (answer : Result Step JournalFault) → calls.GoesOn between after → polls_left after ≡ polls_left between → AsksOnce between after → (polls : PollsAll old polled before between waited)
+steps_by : (old polled new : State) (before between after : DiskView) (waited : Bool) (answer : Result Step JournalFault) → calls.GoesOn between after → polls_left after ≡ polls_left between → StartsAtMostOne between after → (polls : PollsAll old polled before between waited)
     → StepRule old polls.one polls.other new answer → StepsBy old new before after answer
 steps_by old polled new before between after waited answer onward stalls asks polls rule = record {
   one = polls.one;
@@ -85,7 +85,7 @@ steps_by old polled new before between after waited answer onward stalls asks po
   asks = record { first_polled = polls.between; both_polled = between; first = polls.first; second = polls.second; start = asks };
 }
 
-pub rule_ended : (old polled new : State) (before between after : DiskView) (waited : Bool) (fault : JournalFault) → IsUp old → calls.GoesOn between after → polls_left after ≡ polls_left between → AsksOnce between after → PollsAll old polled before between waited → EndsGoing polled new fault
+pub rule_ended : (old polled new : State) (before between after : DiskView) (waited : Bool) (fault : JournalFault) → IsUp old → calls.GoesOn between after → polls_left after ≡ polls_left between → StartsAtMostOne between after → PollsAll old polled before between waited → EndsGoing polled new fault
     → StepsBy old new before after (Err fault)
 rule_ended old polled new before between after waited (faults.Dead side count) up onward stalls asks polls ends =
     steps_by old polled new before between after waited (Err (faults.Dead side count)) onward stalls asks polls (dies polls.one polls.other polled new side count up polls.polls ends)
@@ -112,8 +112,8 @@ answered one other waited is = go one other ∙ ap (λ (b : Bool). cond b steps.
     go (Some Failed) (Some Failed) = refl
 
 -- The release at the end of a step leaves the disk as it is.
-pub rule_went : (old polled going new : State) (before between after last : DiskView) (waited : Bool) → IsUp old → calls.GoesOn between after → polls_left after ≡ polls_left between → AsksOnce between after → last ≡ after → PollsAll old polled before between waited → GoesOn polled going → Releases going new
+pub rule_went : (old polled going new : State) (before between after last : DiskView) (waited : Bool) → IsUp old → calls.GoesOn between after → polls_left after ≡ polls_left between → StartsAtMostOne between after → last ≡ after → PollsAll old polled before between waited → ActsAfterPolls polled going → Releases going new
     → StepsBy old new before last (Ok (cond waited steps.Waited steps.Moved))
 rule_went old polled going new before between after last waited up onward stalls asks still polls went releases =
-    steps_by old polled new before between last waited (Ok (cond waited steps.Waited steps.Moved)) (subst (calls.GoesOn between) (sym still) onward) (ap polls_left still ∙ stalls) (subst (AsksOnce between) (sym still) asks) polls
+    steps_by old polled new before between last waited (Ok (cond waited steps.Waited steps.Moved)) (subst (calls.GoesOn between) (sym still) onward) (ap polls_left still ∙ stalls) (subst (StartsAtMostOne between) (sym still) asks) polls
     (subst (λ (s : Step). StepRule old polls.one polls.other new (Ok s)) (answered polls.one polls.other waited polls.pending_is) (goes polls.one polls.other polled going new up polls.polls went releases))

@@ -8,7 +8,7 @@ use Rattle.disk_face.specs.declared.Side.{Side}
 use Rattle.disk_face.specs.View.{Place, segment, table, DiskView}
 use Rattle.batch_repr.specs.declared.batch.Batch.{Batch}
 use Rattle.log_writer.specs.Writer.{Writer}
-use Rattle.log_writer.specs.Fits.{Fits, SameFile, file_of}
+use Rattle.log_writer.specs.Fits.{Fits, SameFile, place_of_writer}
 use Rattle.log_writer.proofs.Laws.{fits_beside}
 use Rattle.failover_writer.specs.State.{most_synced}
 use Rattle.failover_writer.specs.Ranges.{side_at, IsSegmentAt, AreJoined, sent_to_current}
@@ -44,14 +44,14 @@ all_from P Q R (x ∷ xs) step all also = (step x all.0 also.0, all_from P Q R x
 -- ---- places
 
 -- A segment of joined ones has the place of its index.
-pub place_is : (wal index : ℕ) (w : Writer) → IsSegmentAt wal index w → file_of w ≡ place_at wal index
+pub place_is : (wal index : ℕ) (w : Writer) → IsSegmentAt wal index w → place_of_writer w ≡ place_at wal index
 place_is wal index w is = ap (λ (s : Side). segment s w.name) is.side ∙ ap (segment (side_at index)) is.name
 
-pub index_is : (wal index : ℕ) (w : Writer) → IsSegmentAt wal index w → index_in (file_of w) ≡ index
+pub index_is : (wal index : ℕ) (w : Writer) → IsSegmentAt wal index w → index_in (place_of_writer w) ≡ index
 index_is wal index w is = ap index_in (place_is wal index w is)
 
 -- Each place of another index is none of theirs.
-pub apart_from : (wal index synced : ℕ) (ws : List Writer) (place : Place) → index + length ws ≤ index_in place → AreJoined wal index synced ws → AllByRecursion (λ (w : Writer). file_of w ≢ place) ws
+pub apart_from : (wal index synced : ℕ) (ws : List Writer) (place : Place) → index + length ws ≤ index_in place → AreJoined wal index synced ws → AllByRecursion (λ (w : Writer). place_of_writer w ≢ place) ws
 unfolding AreJoined
 apart_from wal index synced [] place high joined = tt
 apart_from wal index synced (w ∷ ws) place high joined = (
@@ -78,25 +78,25 @@ joined_push wal index synced (u ∷ ws) w joined is begins =
     (joined.0, joined.1, joined_push wal (suc index) (max synced u.synced) ws w joined.2 (subst (λ (n : ℕ). IsSegmentAt wal n w) (omega arith) is) begins)
 
 -- The last one stands apart from those before it.
-pub apart_from_last : (wal : ℕ) (ws : List Writer) (w : Writer) → AreJoined wal 0 0 (ws ++ w ∷ []) → AllByRecursion (λ (u : Writer). file_of u ≢ file_of w) ws
+pub apart_from_last : (wal : ℕ) (ws : List Writer) (w : Writer) → AreJoined wal 0 0 (ws ++ w ∷ []) → AllByRecursion (λ (u : Writer). place_of_writer u ≢ place_of_writer w) ws
 apart_from_last wal ws w joined =
-    apart_from wal 0 0 ws (file_of w) (omega (arith, index_is wal (0 + length ws) w (last_is wal 0 0 ws w joined).0)) (joined_front wal 0 0 ws (w ∷ []) joined)
+    apart_from wal 0 0 ws (place_of_writer w) (omega (arith, index_is wal (0 + length ws) w (last_is wal 0 0 ws w joined).0)) (joined_front wal 0 0 ws (w ∷ []) joined)
 
 -- A place that is none of theirs is not in the list of their places.
-pub not_theirs : (ws : List Writer) (place : Place) → AllByRecursion (λ (w : Writer). file_of w ≢ place) ws → Contains (map file_of ws) place → ⊥
+pub not_theirs : (ws : List Writer) (place : Place) → AllByRecursion (λ (w : Writer). place_of_writer w ≢ place) ws → Contains (map place_of_writer ws) place → ⊥
 not_theirs [] place apart here = omega (arith, here.1)
-not_theirs (w ∷ ws) place apart here = elim (Contains-append_cases (file_of w ∷ []) (map file_of ws) place here) [
-  | inl one ↦ elim (Contains-push_cases [] (file_of w) place one) [ inl none ↦ omega (arith, none.1) | inr e ↦ apart.0 e ]
+not_theirs (w ∷ ws) place apart here = elim (Contains-append_cases (place_of_writer w ∷ []) (map place_of_writer ws) place here) [
+  | inl one ↦ elim (Contains-push_cases [] (place_of_writer w) place one) [ inl none ↦ omega (arith, none.1) | inr e ↦ apart.0 e ]
   | inr there ↦ not_theirs ws place apart.1 there
 ]
 
 -- ---- changes beside them
 
 pub fit_beside : (tells : Bool) (records : List Batch) (place : Place) (old new : DiskView) (ws : List Writer) → ((other : Place) → other ≢ place → SameFile tells other old new)
-    → AllByRecursion (λ (w : Writer). file_of w ≢ place) ws → AllByRecursion (λ (w : Writer). Fits tells records w old) ws → AllByRecursion (λ (w : Writer). Fits tells records w new) ws
+    → AllByRecursion (λ (w : Writer). place_of_writer w ≢ place) ws → AllByRecursion (λ (w : Writer). Fits tells records w old) ws → AllByRecursion (λ (w : Writer). Fits tells records w new) ws
 fit_beside tells records place old new ws same apart fit =
-    all_from (λ (w : Writer). file_of w ≢ place) (λ (w : Writer). Fits tells records w old) (λ (w : Writer). Fits tells records w new) ws
-    (λ w ne fits. fits_beside tells records w old new fits (same (file_of w) ne)) apart fit
+    all_from (λ (w : Writer). place_of_writer w ≢ place) (λ (w : Writer). Fits tells records w old) (λ (w : Writer). Fits tells records w new) ws
+    (λ w ne fits. fits_beside tells records w old new fits (same (place_of_writer w) ne)) apart fit
 
 -- ---- numbers
 

@@ -12,14 +12,14 @@ use Rattle.disk_face.proofs.Laws.{goes_on_from, goes_on_further, rose_later, ros
 use Rattle.log_writer.specs.declared.phase.Phase.{Phase}
 use Rattle.log_writer.specs.declared.phase.Phase.TheVariants.{New, InFlight, Idle, Broken}
 use Rattle.log_writer.specs.Writer.{Writer}
-use Rattle.log_writer.specs.Fits.{Fits, HasFlight, IsBusy, file_of}
+use Rattle.log_writer.specs.Fits.{Fits, HasFlight, IsBusy, place_of_writer}
 use Rattle.failover_writer.specs.declared.fault.DeadMark.{DeadMark}
 use Rattle.failover_writer.specs.declared.fault.JournalFault.{JournalFault}
 use Rattle.failover_writer.specs.declared.fault.Step.{Step}
 use Rattle.failover_writer.specs.declared.fault.Step.TheVariants as steps
 use Rattle.failover_writer.specs.Setting.{KeepsEnd, KeepsGoal}
 use Rattle.disk_face.specs.declared.Side.{Side}
-use Rattle.failover_writer.specs.State.{State, Held, len, acked}
+use Rattle.failover_writer.specs.State.{State, JournalView, len, acked}
 use Rattle.failover_writer.specs.Ranges.{StandsFor, Stands}
 use Rattle.failover_writer.specs.Stepping as stepping
 use Rattle.failover_writer.specs.Stepping.{NoneBusy, WantsMore, Polls, first, none_to_begin, switches, starts, stays, Dies, Releases, StepRule, was_dead, idle, dies, goes, short}
@@ -59,7 +59,7 @@ goal_beside old new segments is = let same = goal_still (record old { segments =
 goal_polled : {old polled : State} {one other : Option Progress} → Polls old one other polled → KeepsGoal old polled
 goal_polled {old = old} {polled = polled} polls = goal_beside old polled polled.segments (polls_lower polls).same
 
-goal_went : (polled new : State) → stepping.GoesOn polled new → KeepsGoal polled new
+goal_went : (polled new : State) → stepping.ActsAfterPolls polled new → KeepsGoal polled new
 goal_went polled new (first _ none behind begins) = goal_beside polled new _ begins.new_is
 goal_went polled new (none_to_begin none not_behind) = goal_still polled polled refl
 goal_went polled new (switches _ verdict begins) = goal_beside polled new _ begins.new_is
@@ -123,7 +123,7 @@ fell_after before between after one fell = (fell.0, omega (arith, fell.1, one.po
 
 module _ {Disk : Type 0} (tells : Bool) (view : Disk → DiskView) where
   -- A call that changes nothing but what is asked for.
-  pub lasts_beside : (old : Held Disk) (want : ℕ) → ((records : List Batch) → StandsFor tells records old.state (view old.disk) → StandsFor tells records (record old.state { want = want }) (view old.disk))
+  pub lasts_beside : (old : JournalView Disk) (want : ℕ) → ((records : List Batch) → StandsFor tells records old.state (view old.disk) → StandsFor tells records (record old.state { want = want }) (view old.disk))
       → Lasts tells view old (record old { state = record old.state { want = want } })
   lasts_beside old want keeps = record {
     setting = record { wal = refl; base = refl; threshold = refl; next = refl; end = refl };
@@ -135,10 +135,10 @@ module _ {Disk : Type 0} (tells : Bool) (view : Disk → DiskView) where
     goes_on = goes_on_from (view old.disk);
   }
 
-  pub lasts_none : (old : Held Disk) → Lasts tells view old old
+  pub lasts_none : (old : JournalView Disk) → Lasts tells view old old
   lasts_none old = lasts_beside old old.state.want (λ records stands. stands)
 
-  pub lasts_further : (old mid new : Held Disk) → Lasts tells view old mid → Lasts tells view mid new → Lasts tells view old new
+  pub lasts_further : (old mid new : JournalView Disk) → Lasts tells view old mid → Lasts tells view mid new → Lasts tells view old new
   lasts_further old mid new one two = record {
     setting = end_further old.state mid.state new.state one.setting two.setting;
     acked = omega (arith, one.acked, two.acked);
@@ -161,7 +161,7 @@ module _ {Disk : Type 0} (tells : Bool) (view : Disk → DiskView) where
   }
 
   -- The last step is idle, or ends with a fault.
-  pub drained : (old mid new : Held Disk) (step : Result Step JournalFault) (answer : Result Unit JournalFault) → step ≡ last_answer answer → StepsOn old.state (view old.disk) mid.state (view mid.disk) → mid.state.want ≡ old.state.want
+  pub drained : (old mid new : JournalView Disk) (step : Result Step JournalFault) (answer : Result Unit JournalFault) → step ≡ last_answer answer → StepsOn old.state (view old.disk) mid.state (view mid.disk) → mid.state.want ≡ old.state.want
       → Lasts tells view old mid → StepsBy mid.state new.state (view mid.disk) (view new.disk) step → new.state.want ≡ mid.state.want → Lasts tells view mid new → OnOk answer (IsIdle new.state) → IfErr answer (IsMarked new.state) → Drains tells view old new answer
   drained old mid new step answer is steps want one by wanted two rests marked = record {
     mid = mid.state;
@@ -175,7 +175,7 @@ module _ {Disk : Type 0} (tells : Bool) (view : Disk → DiskView) where
   }
 
   -- The last step does not move: it is idle, has waited, or ends with a fault.
-  pub moved_to : (old mid new : Held Disk) (answer : Result Step JournalFault) → MovesOn old.state (view old.disk) mid.state (view mid.disk) → mid.state.want ≡ old.state.want → Lasts tells view old mid → StepsBy mid.state new.state (view mid.disk) (view new.disk) answer
+  pub moved_to : (old mid new : JournalView Disk) (answer : Result Step JournalFault) → MovesOn old.state (view old.disk) mid.state (view mid.disk) → mid.state.want ≡ old.state.want → Lasts tells view old mid → StepsBy mid.state new.state (view mid.disk) (view new.disk) answer
       → new.state.want ≡ mid.state.want → Lasts tells view mid new → answer ≢ Ok steps.Moved → (answer ≡ Ok steps.Idle → IsIdle new.state) → (answer ≡ Ok steps.Waited → PollsFell (view mid.disk) (view new.disk)) → IfErr answer (IsMarked new.state)
       → Moves tells view old new answer
   moved_to old mid new answer moves want one by wanted two ends rests waited marked = record {
@@ -190,7 +190,7 @@ module _ {Disk : Type 0} (tells : Bool) (view : Disk → DiskView) where
 -- ---- a closing
 
 -- a journal of which all records are to be synced
-abbrev pub asking : {Disk : Type 0} → Held Disk → Held Disk
+abbrev pub asking : {Disk : Type 0} → JournalView Disk → JournalView Disk
 asking old = record old { state = record old.state { want = len old.state } }
 
 pub records_are : (tells : Bool) (records : List Batch) (state : State) (v : DiskView) → StandsFor tells records state v → len state ≡ length records
@@ -225,10 +225,10 @@ all_acked tells records state v stands all rests = elim (dec_lt (acked state) (l
 ]
 
 -- An operation in flight is none of a writer that is not busy.
-not_its : (tells : Bool) (records : List Batch) (v : DiskView) (id : OpId) (f : Flight) (w : Writer) → v.in_flight id ≡ Some f → Fits tells records w v → (IsBusy w.phase → ⊥) → file_of w ≢ f.place
+not_its : (tells : Bool) (records : List Batch) (v : DiskView) (id : OpId) (f : Flight) (w : Writer) → v.in_flight id ≡ Some f → Fits tells records w v → (IsBusy w.phase → ⊥) → place_of_writer w ≢ f.place
 not_its tells records v id f w flies fits rests e = go w.phase fits.flight rests
   where
-    go : (phase : Phase) → HasFlight phase (file_of w) v → (IsBusy phase → ⊥) → ⊥
+    go : (phase : Phase) → HasFlight phase (place_of_writer w) v → (IsBusy phase → ⊥) → ⊥
     go New free not_busy = free id f flies (sym e)
     go (InFlight operation at) free not_busy = not_busy tt
     go Idle free not_busy = free id f flies (sym e)
@@ -241,10 +241,10 @@ none_flies tells records state v stands rests id = go (v.in_flight id) refl
     go None is = is
     go (Some f) is =
         absurd (not_theirs state.segments f.place
-        (all_from (λ (w : Writer). Fits tells records w v) (λ (w : Writer). IsBusy w.phase → ⊥) (λ (w : Writer). file_of w ≢ f.place) state.segments (λ w fits not_busy. not_its tells records v id f w is fits not_busy) stands.fit rests)
+        (all_from (λ (w : Writer). Fits tells records w v) (λ (w : Writer). IsBusy w.phase → ⊥) (λ (w : Writer). place_of_writer w ≢ f.place) state.segments (λ w fits not_busy. not_its tells records v id f w is fits not_busy) stands.fit rests)
         (stands.alone id f is))
 
-module _ {Disk : Type 0} (tells : Bool) (view : Disk → DiskView) (old new : Held Disk) (answer : Result Unit JournalFault) (drains : Drains tells view (asking old) new answer) where
+module _ {Disk : Type 0} (tells : Bool) (view : Disk → DiskView) (old new : JournalView Disk) (answer : Result Unit JournalFault) (drains : Drains tells view (asking old) new answer) where
   pub closed_lasts : Lasts tells view old new
   closed_lasts = lasts_further tells view old (asking old) new (lasts_beside tells view old (len old.state) (λ records. asking_stands tells records old.state (view old.disk))) drains.lasts
 

@@ -8,7 +8,7 @@ use Rattle.disk_face.specs.View.{Flight, DiskView, NothingInFlight}
 use Rattle.disk_face.specs.Calls.{SameDisk}
 use Rattle.record_queue.specs.Queue.{Queue}
 use Rattle.log_writer.specs.Writer.{Writer}
-use Rattle.log_writer.specs.Fits.{Fits, IsUnsent, file_of}
+use Rattle.log_writer.specs.Fits.{Fits, IsUnsent, place_of_writer}
 use Rattle.log_writer.proofs.Laws.{same_disk, fits_beside}
 use Rattle.failover_writer.specs.State.{State}
 use Rattle.failover_writer.specs.Ranges.{AreJoined, AreUnsent, StandsFor}
@@ -47,7 +47,7 @@ same_stands tells records state before after same stands = record {
   few = stands.few;
   joined = stands.joined;
   fit =
-      all_then (λ (w : Writer). Fits tells records w before) (λ (w : Writer). Fits tells records w after) (λ w fits. fits_beside tells records w before after fits (same_disk tells (file_of w) before after same))
+      all_then (λ (w : Writer). Fits tells records w before) (λ (w : Writer). Fits tells records w after) (λ w fits. fits_beside tells records w before after fits (same_disk tells (place_of_writer w) before after same))
       state.segments stands.fit;
   alone = λ id f flies. stands.alone id f (ap (λ (flights : OpId → Option Flight). flights id) (sym same.in_flight) ∙ flies);
   fresh = λ told index low high. subst IsUnsent (sym ((same_disk tells (place_at state.wal index) before after same).file told)) (stands.fresh told index low high);

@@ -15,7 +15,7 @@ use Rattle.log_writer.specs.declared.phase.Operation.TheVariants.{Create, Write,
 use Rattle.log_writer.specs.declared.phase.Phase.{Phase}
 use Rattle.log_writer.specs.declared.phase.Phase.TheVariants.{New, InFlight, Idle, Broken}
 use Rattle.log_writer.specs.Writer.{Writer}
-use Rattle.log_writer.specs.Fits.{Fits, IsUnsent, SameFile, IsBusy, file_of, act_of}
+use Rattle.log_writer.specs.Fits.{Fits, IsUnsent, SameFile, IsBusy, place_of_writer, act_of}
 use Rattle.log_writer.specs.Steps.{HoldsPart, BeginsJust, next_operation, sent_with}
 use Rattle.failover_writer.specs.State.{State, len, acked, most_synced, is_broken, phase_is_broken}
 use Rattle.failover_writer.specs.Ranges.{AreJoined, sent_to_current, StandsFor, Stands}
@@ -105,12 +105,12 @@ module _ (tells : Bool) (state : State) (old new : DiskView) (earlier : List Wri
   acked_same : KeepsPlace → acked after ≡ acked state
   acked_same keeps = omega (arith, most_synced_push 0 earlier next, most_synced_push 0 earlier current, ap (most_synced 0) is, keeps.synced)
 
-  places_same : KeepsPlace → map file_of after.segments ≡ map file_of state.segments
+  places_same : KeepsPlace → map place_of_writer after.segments ≡ map place_of_writer state.segments
   places_same keeps =
-      let here : file_of next ≡ file_of current = ap (λ (s : Side). segment s next.name) keeps.side ∙ ap (segment current.side) keeps.name in
-      map-append file_of earlier (next ∷ []) ∙ ap (λ (p : Place). map file_of earlier ++ p ∷ []) here ∙ sym (map-append file_of earlier (current ∷ [])) ∙ sym (ap (map file_of) is)
+      let here : place_of_writer next ≡ place_of_writer current = ap (λ (s : Side). segment s next.name) keeps.side ∙ ap (segment current.side) keeps.name in
+      map-append place_of_writer earlier (next ∷ []) ∙ ap (λ (p : Place). map place_of_writer earlier ++ p ∷ []) here ∙ sym (map-append place_of_writer earlier (current ∷ [])) ∙ sym (ap (map place_of_writer) is)
 
-  pub kept_stands : KeepsPlace → ((place : Place) → place ≢ file_of current → SameFile tells place old new) → ((id : OpId) (f : Flight) → new.in_flight id ≡ Some f → Contains (map file_of state.segments) f.place)
+  pub kept_stands : KeepsPlace → ((place : Place) → place ≢ place_of_writer current → SameFile tells place old new) → ((id : OpId) (f : Flight) → new.in_flight id ≡ Some f → Contains (map place_of_writer state.segments) f.place)
       → (records : List Batch) → StandsFor tells records state old → Fits tells records next new → StandsFor tells records after new
   kept_stands keeps others alone records stands fits =
       let joined = joined_was stands.joined in
@@ -127,7 +127,7 @@ module _ (tells : Bool) (state : State) (old new : DiskView) (earlier : List Wri
         joined = joined_push state.wal 0 0 earlier next (joined_front state.wal 0 0 earlier (current ∷ []) joined)
             (record { side = keeps.side ∙ last.0.side; name = keeps.name ∙ last.0.name; begun = keeps.begun }) (omega (arith, keeps.from, last.1));
         fit = all_push (λ (u : Writer). Fits tells records u new) earlier next
-            (fit_beside tells records (file_of current) old new earlier others (apart_from_last state.wal earlier current joined)
+            (fit_beside tells records (place_of_writer current) old new earlier others (apart_from_last state.wal earlier current joined)
             (all_front (λ (u : Writer). Fits tells records u old) earlier (current ∷ []) (subst (AllByRecursion (λ (u : Writer). Fits tells records u old)) is stands.fit))) fits;
         alone = λ id f flies. subst (λ (l : List Place). Contains l f.place) (sym (places_same keeps)) (alone id f flies);
         fresh = λ told index low high.
@@ -181,19 +181,19 @@ module _ (tells : Bool) (state : State) (old new : DiskView) (earlier : List Wri
         whole = λ is_broken. let clash : InFlight o begins.1.id ≡ Broken = sym (ap (λ (u : Writer). u.phase) e) ∙ is_broken in cc;
       }
 
-  has_place : Contains (map file_of state.segments) (file_of current)
-  has_place = subst (λ (l : List Place). Contains l (file_of current)) (sym (ap (map file_of) is ∙ map-append file_of earlier (current ∷ []))) (Contains-push (map file_of earlier) (file_of current))
+  has_place : Contains (map place_of_writer state.segments) (place_of_writer current)
+  has_place = subst (λ (l : List Place). Contains l (place_of_writer current)) (sym (ap (map place_of_writer) is ∙ map-append place_of_writer earlier (current ∷ []))) (Contains-push (map place_of_writer earlier) (place_of_writer current))
 
   -- Each file but those of the segments is as it was.
-  opened_then : KeepsPlace → ((place : Place) → place ≢ file_of current → SameFile tells place old new) → (opening : Files) → IsTrue tells → OthersStay opening state (files old) → OthersStay opening after (files new)
+  opened_then : KeepsPlace → ((place : Place) → place ≢ place_of_writer current → SameFile tells place old new) → (opening : Files) → IsTrue tells → OthersStay opening state (files old) → OthersStay opening after (files new)
   opened_then keeps others opening told stay p out =
-      let outside : Contains (map file_of state.segments) p → ⊥ = λ there. out (subst (λ (l : List Place). Contains l p) (sym (places_same keeps)) there) in
-      (others p (λ e. outside (subst (Contains (map file_of state.segments)) (sym e) has_place))).file told ∙ stay p outside
+      let outside : Contains (map place_of_writer state.segments) p → ⊥ = λ there. out (subst (λ (l : List Place). Contains l p) (sym (places_same keeps)) there) in
+      (others p (λ e. outside (subst (Contains (map place_of_writer state.segments)) (sym e) has_place))).file told ∙ stay p outside
 
-  pub alone_now : (o : Option Operation) (n : ℕ) (was : Bool) → BeginsJust o n was current next old new → ((id : OpId) (f : Flight) → old.in_flight id ≡ Some f → Contains (map file_of state.segments) f.place)
-      → (id : OpId) (f : Flight) → new.in_flight id ≡ Some f → Contains (map file_of state.segments) f.place
-  alone_now None n was begins alone = subst (λ (v : DiskView). (id : OpId) (f : Flight) → v.in_flight id ≡ Some f → Contains (map file_of state.segments) f.place) (sym begins.2) alone
-  alone_now (Some o) n was begins alone = alone_with (record { place = file_of current; act = act_of o }) current.side begins.1.id old new (map file_of state.segments) begins.1.starts has_place alone
+  pub alone_now : (o : Option Operation) (n : ℕ) (was : Bool) → BeginsJust o n was current next old new → ((id : OpId) (f : Flight) → old.in_flight id ≡ Some f → Contains (map place_of_writer state.segments) f.place)
+      → (id : OpId) (f : Flight) → new.in_flight id ≡ Some f → Contains (map place_of_writer state.segments) f.place
+  alone_now None n was begins alone = subst (λ (v : DiskView). (id : OpId) (f : Flight) → v.in_flight id ≡ Some f → Contains (map place_of_writer state.segments) f.place) (sym begins.2) alone
+  alone_now (Some o) n was begins alone = alone_with (record { place = place_of_writer current; act = act_of o }) current.side begins.1.id old new (map place_of_writer state.segments) begins.1.starts has_place alone
 
   module _ (goal : Goal) (was : Bool) (goal_is : goal ≡ record { len = len state; want = state.want; acked = acked state }) (begins : BeginsJust (next_operation current.phase current.written goal) goal.len was current next old new) where
     abbrev coming : Option Operation
@@ -222,7 +222,7 @@ module _ (tells : Bool) (state : State) (old new : DiskView) (earlier : List Wri
               (begins.1.moved ∙ ap (λ (n : ℕ). record current { sent = sent_with o n current.sent; place = begins.1.place; waiting = 0; phase = InFlight o begins.1.id }) (ap (λ (g : Goal). g.len) goal_is));
         })
 
-    module _ (whole : current.phase ≢ Broken) (others : (place : Place) → place ≢ file_of current → SameFile tells place old new) where
+    module _ (whole : current.phase ≢ Broken) (others : (place : Place) → place ≢ place_of_writer current → SameFile tells place old new) where
       keeps : (records : List Batch) → StandsFor tells records state old → KeepsPlace
       keeps records stands =
           let fits : Fits tells records current old = all_last (λ (u : Writer). Fits tells records u old) earlier current (subst (AllByRecursion (λ (u : Writer). Fits tells records u old)) is stands.fit) in

@@ -18,7 +18,7 @@ use Rattle.failover_writer.specs.declared.fault.JournalFault.{JournalFault}
 use Rattle.failover_writer.specs.declared.fault.Step.{Step}
 use Rattle.failover_writer.specs.declared.fault.Step.TheVariants as steps
 use Rattle.failover_writer.specs.State.{State, len, is_broken, phase_is_broken, broken_count}
-use Rattle.failover_writer.specs.Stepping.{PollsFirst, Polls, nothing_begun, asked, BeginsNext, StartsNext, Releases, moved_or_waited, Verdict, GoesOn, first, none_to_begin, switches, starts, stays, StepRule, was_dead, idle, dies, goes, short}
+use Rattle.failover_writer.specs.Stepping.{PollsFirst, Polls, nothing_begun, asked, BeginsNext, StartsNext, Releases, moved_or_waited, Verdict, ActsAfterPolls, first, none_to_begin, switches, starts, stays, StepRule, was_dead, idle, dies, goes, short}
 use Rattle.failover_writer.specs.Stepping as stepping
 use Rattle.failover_writer.specs.Answered.{IsTold, FaultsRose, PollsFell, StepsBy, IsIdle, IsMarked, IsHarmed, IsSmoothSegment, IsSmooth}
 use Rattle.failover_writer.proofs.Lists.{all_append, all_front, all_back}
@@ -171,7 +171,7 @@ starts_whole old new next = (less, ap (λ (s : State). s.dead) next.new_is)
     less = omega (arith, ap (λ (s : State). broken_count s) next.new_is, ap (λ (ws : List Writer). count_by is_broken ws) next.segments_are, count_push is_broken next.earlier next.current, count_push is_broken next.earlier (current_then old new next), whole_in_flight (current_then old new next) next.operation next.id refl)
 
 -- What is begun or started breaks nothing.
-goes_whole : {polled started : State} → GoesOn polled started → (broken_count started ≤ broken_count polled) × (started.dead ≡ polled.dead)
+goes_whole : {polled started : State} → ActsAfterPolls polled started → (broken_count started ≤ broken_count polled) × (started.dead ≡ polled.dead)
 goes_whole {polled} (first new none behind begins) = begins_whole polled new begins
 goes_whole (none_to_begin none rests) = (omega arith, refl)
 goes_whole {polled} (switches new verdict begins) = begins_whole polled new begins
@@ -275,7 +275,7 @@ never_switches state least smooth verdict =
 flight_smooth : (w : Writer) (operation : Operation) (id : OpId) → w.waiting ≡ 0 → w.phase ≡ InFlight operation id → IsSmoothSegment w
 flight_smooth w operation id waiting phase = (waiting, λ e. let clash : InFlight operation id ≡ Broken = sym phase ∙ e in cc)
 
-goes_smooth : {polled started : State} → GoesOn polled started → 1 ≤ polled.threshold → IsSmooth polled → IsSmooth started
+goes_smooth : {polled started : State} → ActsAfterPolls polled started → 1 ≤ polled.threshold → IsSmooth polled → IsSmooth started
 goes_smooth {polled} (first new none behind begins) least smooth =
     subst (λ (s : State). IsSmooth s) (sym begins.new_is) (record {
       lives = smooth.lives;

@@ -2,7 +2,7 @@
 use Rattle.std.proofs.Common.{ℕ, Bool, List, IsTrue, sym, subst}
 use Rattle.batch_repr.specs.declared.batch.Batch.{Batch}
 use Rattle.disk_face.specs.View.{Files, DiskView, files, AtEachMoment}
-use Rattle.failover_writer.specs.State.{State, Held, acked}
+use Rattle.failover_writer.specs.State.{State, JournalView, acked}
 use Rattle.failover_writer.specs.Ranges.{StandsFor, KeepsRecords}
 use Rattle.failover_writer.specs.Keeping.{KeepsRun, RecoversTo, HasNoSegment, IsOpenedOn, IsOpening, KeepsBase, Passes}
 use Rattle.failover_writer.specs.Lasting.{Survives}
@@ -44,7 +44,7 @@ module _ (tells : Bool) (old new : State) (before after : DiskView) (passes : Pa
         base_recovers old.wal old.base records base (acked new) kept.opening (files after) kept.begun (run_at_exit records kept.opening stands (opened_base base kept told) told)
 
 -- All of it follows from what passes and what is kept.
-pub survives : {Disk : Type 0} (tells : Bool) (view : Disk → DiskView) (old new : Held Disk) → KeepsRecords tells view old new → Passes tells old.state new.state (view old.disk) (view new.disk) → Survives tells view old new
+pub survives : {Disk : Type 0} (tells : Bool) (view : Disk → DiskView) (old new : JournalView Disk) → KeepsRecords tells view old new → Passes tells old.state new.state (view old.disk) (view new.disk) → Survives tells view old new
 survives tells view old new keeps passes = record {
   keeps_base = base_kept tells old.state new.state (view old.disk) (view new.disk) passes;
   recovers = base_at_moments tells old.state new.state (view old.disk) (view new.disk) passes keeps;

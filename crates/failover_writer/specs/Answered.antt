@@ -44,8 +44,8 @@ AsksToPoll None before after = Makes [] before after
 AsksToPoll (Some answer) before after = (id : OpId) × Makes (was_polled id ∷ []) before after
 
 -- It was asked once to start an operation, or for nothing.
-abbrev pub AsksOnce : DiskView → DiskView → Type 0
-AsksOnce before after = (started : Bool) × AsksToStart started before after
+abbrev pub StartsAtMostOne : DiskView → DiskView → Type 0
+StartsAtMostOne before after = (started : Bool) × AsksToStart started before after
 
 -- What a step asks of the disk, in this order: its polls, each once, and then an operation at most. Nothing else.
 pub record AsksInTurn (one other : Option Progress) (before after : DiskView) : Type 0 where
@@ -53,7 +53,7 @@ pub record AsksInTurn (one other : Option Progress) (before after : DiskView) : 
   pub both_polled : DiskView
   pub first : AsksToPoll one before first_polled
   pub second : AsksToPoll other first_polled both_polled
-  pub start : AsksOnce both_polled after
+  pub start : StartsAtMostOne both_polled after
 
 -- A step by its rule, of which the polls were answered as the disk tells. Each pending answer took one of the polls left, and
 -- nothing else took any: so no segment was polled twice while it was pending.
@@ -115,7 +115,7 @@ last_answer (Ok done) = Ok steps.Idle
 last_answer (Err fault) = Err fault
 
 -- All records are to be synced, and steps are made until one is idle or ends with a fault.
-pub record Closes (old new : State) (before after : DiskView) (answer : Result Unit JournalFault) : Type 0 where
+pub record ClosesBy (old new : State) (before after : DiskView) (answer : Result Unit JournalFault) : Type 0 where
   pub mid : State
   pub v : DiskView
   pub steps : StepsOn (record old { want = len old }) before mid v

@@ -4,7 +4,7 @@ use Rattle.disk_face.specs.View.{DiskView}
 use Rattle.failover_writer.specs.State.{State, acked, broken_count}
 use Rattle.failover_writer.specs.Ranges.{Stands}
 use Rattle.failover_writer.specs.Stepping.{NoneBusy}
-use Rattle.failover_writer.specs.Sound.{IsSound}
+use Rattle.failover_writer.specs.Sound.{IsSoundJournal}
 
 -- The numbers that a journal counts by itself are those of its segments, and it holds some records.
 pub record IsInOrder (tells : Bool) (state : State) (v : DiskView) (acked_so_far rested_to failures : ℕ) : Type 0 where
@@ -14,4 +14,4 @@ pub record IsInOrder (tells : Bool) (state : State) (v : DiskView) (acked_so_far
   pub rested : NoneBusy (take rested_to state.segments)
   pub first_busy : rested_to ≤ length state.segments - 1
   pub wal : state.wal ≤ 999999999999
-  pub sound : IsSound state
+  pub sound : IsSoundJournal state

@@ -10,8 +10,8 @@ use Rattle.disk_face.specs.Image.{IsImage, IsChanceFree}
 use Rattle.disk_face.specs.Listing.{IsSegmentName}
 use Rattle.wal_recovery.specs.Listing.{Stored, AreByIndex, StandsIn}
 use Rattle.wal_recovery.specs.Recovering.{FIRST_NUMBER, WalMerges, Recovers}
-use Rattle.log_writer.specs.Fits.{file_of}
-use Rattle.failover_writer.specs.State.{State, Held, acked}
+use Rattle.log_writer.specs.Fits.{place_of_writer}
+use Rattle.failover_writer.specs.State.{State, JournalView, acked}
 use Rattle.failover_writer.specs.Ranges.{StandsFor}
 
 -- the place is not of this WAL
@@ -64,7 +64,7 @@ HasNoSegment wal opening = (side : Side) (name : SegName) → IsSegmentName name
 
 -- No file has changed since the opening but those of the journal's segments.
 abbrev pub OthersStay : Files → State → Files → Type 0
-OthersStay opening state now = (p : Place) → (Contains (map file_of state.segments) p → ⊥) → now p ≡ opening p
+OthersStay opening state now = (p : Place) → (Contains (map place_of_writer state.segments) p → ⊥) → now p ≡ opening p
 
 -- The files on which a journal was begun had no segment of its WAL, and none has changed since but those of its segments.
 pub record IsOpenedOn (opening : Files) (state : State) (now : Files) : Type 0 where
@@ -84,7 +84,7 @@ pub record KeepsBase (tells : Bool) (base : List Batch) (state : State) (v : Dis
   pub others : IsTrue tells → OthersStay opening state (files v)
 
 -- It goes on to keep each base that it kept.
-abbrev pub KeepsBases : {Disk : Type 0} → Bool → (Disk → DiskView) → Held Disk → Held Disk → Type 0
+abbrev pub KeepsBases : {Disk : Type 0} → Bool → (Disk → DiskView) → JournalView Disk → JournalView Disk → Type 0
 KeepsBases tells view old new = (base : List Batch) → KeepsBase tells base old.state (view old.disk) → KeepsBase tells base new.state (view new.disk)
 
 -- ---- moments

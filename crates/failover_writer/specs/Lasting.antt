@@ -3,7 +3,7 @@ use Rattle.std.specs.Prelude.{◌⊎◌, ◌≤◌, Bool, List, IsTrue}
 use Rattle.batch_repr.specs.declared.batch.Batch.{Batch}
 use Rattle.disk_face.specs.View.{Files, DiskView, files, AtEachMoment}
 use Rattle.disk_face.specs.Calls.{GoesOn}
-use Rattle.failover_writer.specs.State.{Held, acked}
+use Rattle.failover_writer.specs.State.{JournalView, acked}
 use Rattle.failover_writer.specs.Setting.{KeepsEnd}
 use Rattle.failover_writer.specs.Ranges.{StandsFor, KeepsRecords}
 use Rattle.failover_writer.specs.Answered.{IsHarmed, IsSmooth, FaultsRose, PollsFell}
@@ -11,7 +11,7 @@ use Rattle.failover_writer.specs.Keeping.{KeepsRun, RecoversTo, IsOpenedOn, Keep
 
 -- What steps leave as it was, and what they tell of the disk: so much holds of one, and of several one after another. The
 -- journal is harmed only where faults rose, and stays smooth where none rose and no poll was pending.
-pub record Lasts {Disk : Type 0} (tells : Bool) (view : Disk → DiskView) (old new : Held Disk) : Type 0 where
+pub record Lasts {Disk : Type 0} (tells : Bool) (view : Disk → DiskView) (old new : JournalView Disk) : Type 0 where
   pub setting : KeepsEnd old.state new.state
   pub acked : acked old.state ≤ acked new.state
   pub harmed : IsHarmed new.state → IsHarmed old.state ⊎ FaultsRose (view old.disk) (view new.disk)
@@ -23,7 +23,7 @@ pub record Lasts {Disk : Type 0} (tells : Bool) (view : Disk → DiskView) (old 
 -- What a stop leaves of the journal, in each image that no torn chunk deceives. At each moment of the call its run is kept, and
 -- over a base that it keeps the files recover to the base and the first of its records: all those that were acked before the
 -- call, and after it all those that are acked now.
-pub record Survives {Disk : Type 0} (tells : Bool) (view : Disk → DiskView) (old new : Held Disk) : Type 0 where
+pub record Survives {Disk : Type 0} (tells : Bool) (view : Disk → DiskView) (old new : JournalView Disk) : Type 0 where
   pub keeps_base : KeepsBases tells view old new
   pub recovers : (records base : List Batch) → StandsFor tells records old.state (view old.disk) → KeepsBase tells base old.state (view old.disk) → IsTrue tells
       → AtEachMoment (view old.disk).clock (view new.disk) (RecoversTo base records (acked old.state))

@@ -13,8 +13,8 @@ use Rattle.stall_monitor.specs.declared.verdict.TheConstants.{SEGMENTS_MAX}
 use Rattle.log_writer.specs.declared.phase.Phase.TheVariants.{New}
 use Rattle.log_writer.specs.Writer.{Writer}
 use Rattle.log_writer.specs.Steps.{IsQueueOf}
-use Rattle.log_writer.specs.Fits.{Fits, IsUnsent, file_of}
-use Rattle.failover_writer.specs.State.{State, Held, acked}
+use Rattle.log_writer.specs.Fits.{Fits, IsUnsent, place_of_writer}
+use Rattle.failover_writer.specs.State.{State, JournalView, acked}
 
 -- the side of the segment of this index: the primary one where it is even
 abbrev pub side_at : ℕ → Side
@@ -61,7 +61,7 @@ pub record StandsFor (tells : Bool) (records : List Batch) (state : State) (v : 
   pub few : length state.segments ≤ SEGMENTS_MAX
   pub joined : AreJoined state.wal 0 0 state.segments
   pub fit : AllByRecursion (λ (w : Writer). Fits tells records w v) state.segments
-  pub alone : (id : OpId) (f : Flight) → v.in_flight id ≡ Some f → Contains (map file_of state.segments) f.place
+  pub alone : (id : OpId) (f : Flight) → v.in_flight id ≡ Some f → Contains (map place_of_writer state.segments) f.place
   pub fresh : IsTrue tells → AreUnsent state.wal (length state.segments) v
 
 -- The journal holds some records.
@@ -69,9 +69,9 @@ abbrev pub Stands : Bool → State → DiskView → Type 0
 Stands tells state v = (records : List Batch) × StandsFor tells records state v
 
 -- It goes on to hold each list of records that it held.
-abbrev pub KeepsRecords : {Disk : Type 0} → Bool → (Disk → DiskView) → Held Disk → Held Disk → Type 0
+abbrev pub KeepsRecords : {Disk : Type 0} → Bool → (Disk → DiskView) → JournalView Disk → JournalView Disk → Type 0
 KeepsRecords tells view old new = (records : List Batch) → StandsFor tells records old.state (view old.disk) → StandsFor tells records new.state (view new.disk)
 
 -- It goes on to hold each list of records that it held, with this record after them.
-abbrev pub AddsRecord : {Disk : Type 0} → Bool → (Disk → DiskView) → Batch → Held Disk → Held Disk → Type 0
+abbrev pub AddsRecord : {Disk : Type 0} → Bool → (Disk → DiskView) → Batch → JournalView Disk → JournalView Disk → Type 0
 AddsRecord tells view added old new = (records : List Batch) → StandsFor tells records old.state (view old.disk) → StandsFor tells (records ++ added ∷ []) new.state (view new.disk)

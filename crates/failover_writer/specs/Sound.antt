@@ -20,7 +20,7 @@ pub record HasGivenUp (state : State) (mark : DeadMark) : Type 0 where
   pub some : 1 ≤ mark.faults
 
 -- The threshold is from 1 to 1,000, a journal of no record has no segment and is not dead, and a dead one has given up.
-pub record IsSound (state : State) : Type 0 where
+pub record IsSoundJournal (state : State) : Type 0 where
   pub least : 1 ≤ state.threshold
   pub most : state.threshold ≤ THRESHOLD_MAX
   pub none : len state ≡ 0 → (state.segments ≡ []) × (state.dead ≡ None)

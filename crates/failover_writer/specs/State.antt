@@ -1,6 +1,6 @@
 -- What a journal means to contracts (docs/FORMATS.md, "The journal").
 use Rattle.std.specs.Prelude.{ℕ, ◌∷◌, max, Bool, true, false, List, [], Option, None, count_by}
-use Rattle.record_queue.specs.Queue.{Queue, end_of}
+use Rattle.record_queue.specs.Queue.{Queue, queue_end}
 use Rattle.log_writer.specs.declared.phase.Phase.{Phase}
 use Rattle.log_writer.specs.declared.phase.Phase.TheVariants.{New, InFlight, Idle, Broken}
 use Rattle.log_writer.specs.Writer.{Writer}
@@ -27,7 +27,7 @@ pub record State : Type 0 where
 
 -- how many records there are
 abbrev pub len : State → ℕ
-len state = end_of state.queue
+len state = queue_end state.queue
 
 -- the greatest end of what a segment has synced, from this number on
 unfoldable pub most_synced : ℕ → List Writer → ℕ
@@ -57,10 +57,10 @@ abbrev pub unbegun : ℕ → ℕ → ℕ → Queue → State
 unbegun wal base threshold queue = record { wal = wal; base = base; next = base; threshold = threshold; queue = queue; want = 0; segments = []; dead = None }
 
 -- a journal with its disk
-pub record Held (Disk : Type 0) : Type 0 where
+pub record JournalView (Disk : Type 0) : Type 0 where
   pub disk : Disk
   pub state : State
 
 -- with room for so many records more
-abbrev pub with_room : {Disk : Type 0} → ℕ → Held Disk → Held Disk
+abbrev pub with_room : {Disk : Type 0} → ℕ → JournalView Disk → JournalView Disk
 with_room spare old = record old { state = record old.state { queue = record old.state.queue { spare = spare } } }

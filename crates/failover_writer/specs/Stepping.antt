@@ -63,15 +63,15 @@ pub data Polls (state : State) : Option Progress → Option Progress → State �
 -- ---- what is begun or started then
 
 -- what the monitor is shown of this segment
-abbrev pub shown : State → Writer → MonitorView
-shown state current = record { opened = length state.segments; broken = is_broken current; waiting = current.waiting; threshold = state.threshold; behind = nat_lt (acked state) (len state) }
+abbrev pub shown_to_monitor : State → Writer → MonitorView
+shown_to_monitor state current = record { opened = length state.segments; broken = is_broken current; waiting = current.waiting; threshold = state.threshold; behind = nat_lt (acked state) (len state) }
 
 -- This is said of what the monitor is shown of the current segment.
 pub record Verdict (Says : MonitorView → Type 0) (state : State) : Type 0 where
   pub earlier : List Writer
   pub current : Writer
   pub segments_are : state.segments ≡ earlier ++ current ∷ []
-  pub says : Says (shown state current)
+  pub says : Says (shown_to_monitor state current)
 
 -- The monitor says neither to die nor to switch.
 abbrev pub IsToStay : MonitorView → Type 0
@@ -114,12 +114,12 @@ moved_or_waited one other = steps.Moved
 
 -- After its polls a step begins the next segment where the monitor says so, or segment 0 where there is none and the journal is
 -- behind; else it starts what comes next on the current segment, where that is at rest and the journal is behind, if anything does.
-pub data GoesOn (polled : State) : State → Type 0 where
-  first : (new : State) → polled.segments ≡ [] → IsBehind polled → BeginsNext polled new → GoesOn polled new
-  none_to_begin : polled.segments ≡ [] → (IsBehind polled → ⊥) → GoesOn polled polled
-  switches : (new : State) → Verdict IsToSwitch polled → BeginsNext polled new → GoesOn polled new
-  starts : (new : State) → Verdict IsToStay polled → IsBehind polled → StartsNext polled new → GoesOn polled new
-  stays : Verdict IsToStay polled → (IsBehind polled → (new : State) → StartsNext polled new → ⊥) → GoesOn polled polled
+pub data ActsAfterPolls (polled : State) : State → Type 0 where
+  first : (new : State) → polled.segments ≡ [] → IsBehind polled → BeginsNext polled new → ActsAfterPolls polled new
+  none_to_begin : polled.segments ≡ [] → (IsBehind polled → ⊥) → ActsAfterPolls polled polled
+  switches : (new : State) → Verdict IsToSwitch polled → BeginsNext polled new → ActsAfterPolls polled new
+  starts : (new : State) → Verdict IsToStay polled → IsBehind polled → StartsNext polled new → ActsAfterPolls polled new
+  stays : Verdict IsToStay polled → (IsBehind polled → (new : State) → StartsNext polled new → ⊥) → ActsAfterPolls polled polled
 
 -- It is not dead, and has something in flight or work.
 pub record IsUp (state : State) : Type 0 where
@@ -138,5 +138,5 @@ pub data StepRule (old : State) : Option Progress → Option Progress → State 
   was_dead : (side : Side) (count : ℕ) → old.dead ≡ Some (record { side = side; faults = count }) → StepRule old None None old (Err (faults.Dead side count))
   idle : old.dead ≡ None → NoneBusy old.segments → (HasWork old → ⊥) → StepRule old None None old (Ok steps.Idle)
   dies : (one other : Option Progress) (polled new : State) (side : Side) (count : ℕ) → IsUp old → Polls old one other polled → Dies polled new side count → StepRule old one other new (Err (faults.Dead side count))
-  goes : (one other : Option Progress) (polled started new : State) → IsUp old → Polls old one other polled → GoesOn polled started → Releases started new → StepRule old one other new (Ok (moved_or_waited one other))
+  goes : (one other : Option Progress) (polled started new : State) → IsUp old → Polls old one other polled → ActsAfterPolls polled started → Releases started new → StepRule old one other new (Ok (moved_or_waited one other))
   short : (one other : Option Progress) (polled : State) → IsUp old → Polls old one other polled → StepRule old one other polled (Err faults.NoMemory)

@@ -10,12 +10,12 @@ ghost use Rattle.failover_writer.specs.State.{len, acked, unbegun, with_room};
 ghost use Rattle.failover_writer.specs.Ranges as ranges;
 ghost use Rattle.failover_writer.specs.Ranges.{AreUnsent, StandsFor, Stands, KeepsRecords, AddsRecord};
 ghost use Rattle.failover_writer.specs.Stepping as stepping;
-ghost use Rattle.failover_writer.specs.Stepping.{IsBehind, HasWork, NoneBusy, IsActive, IsAtRest, shown, BeginsNext, Releases, IsUp};
+ghost use Rattle.failover_writer.specs.Stepping.{IsBehind, HasWork, NoneBusy, IsActive, IsAtRest, shown_to_monitor, BeginsNext, Releases, IsUp};
 ghost use Rattle.failover_writer.specs.declared.fault.Step.TheVariants as steps;
 ghost use Rattle.failover_writer.specs.Setting.{KeepsGoal, KeepsSegments};
 ghost use Rattle.failover_writer.specs.Remaining.{polls_left, Falls};
-ghost use Rattle.failover_writer.specs.Sound.{HasGivenUp, IsSound};
-ghost use Rattle.failover_writer.specs.Answered.{AsksOnce, StepsBy, Settles, IsIdle, IsMarked, PollsFell, Closes};
+ghost use Rattle.failover_writer.specs.Sound.{HasGivenUp, IsSoundJournal};
+ghost use Rattle.failover_writer.specs.Answered.{StartsAtMostOne, StepsBy, Settles, IsIdle, IsMarked, PollsFell, ClosesBy};
 ghost use Rattle.failover_writer.specs.Keeping.{OthersStay, IsOpening, KeepsBase, KeepsBases, Passes};
 ghost use Rattle.failover_writer.specs.Lasting.{Lasts, Survives};
 ghost use Rattle.failover_writer.specs.Closing.{Drains, Moves};
@@ -51,10 +51,10 @@ pub struct Journal<D: Disk> {
 }
 
 impl<D: Disk> Model for Journal<D> {
-    ghost use Rattle.failover_writer.specs.State.{State, Held};
+    ghost use Rattle.failover_writer.specs.State.{State, JournalView};
     ghost use Rattle.failover_writer.specs.Inside.{IsInOrder};
 
-    ghost Value = { Held D };
+    ghost Value = { JournalView D };
 
     ghost view = { λ j. record {
       disk = j.disk;
@@ -185,7 +185,7 @@ impl<D: Disk> Journal<D> {
     pub fn len(&self) -> u64
         ensures len { result ≡ len self.now.state }
         ensures stands { Stands D.tells self.now.state (D.view self.now.disk) }
-        ensures sound { IsSound self.now.state }
+        ensures sound { IsSoundJournal self.now.state }
     {
         self.records.end()
     }
@@ -356,7 +356,7 @@ impl<D: Disk> Journal<D> {
         ensures passes { Passes D.tells self.old.state self.new.state (D.view self.old.disk) (D.view self.new.disk) }
         ensures goes_on { GoesOn (D.view self.old.disk) (D.view self.new.disk) }
         ensures stalls { polls_left (D.view self.new.disk) ≡ polls_left (D.view self.old.disk) }
-        ensures asks { AsksOnce (D.view self.old.disk) (D.view self.new.disk) }
+        ensures asks { StartsAtMostOne (D.view self.old.disk) (D.view self.new.disk) }
     {
         let index = self.writers.len();
         let name = SegName {
@@ -397,7 +397,7 @@ impl<D: Disk> Journal<D> {
         ensures passes { Passes D.tells self.old.state self.new.state (D.view self.old.disk) (D.view self.new.disk) }
         ensures goes_on { GoesOn (D.view self.old.disk) (D.view self.new.disk) }
         ensures stalls { polls_left (D.view self.new.disk) ≡ polls_left (D.view self.old.disk) }
-        ensures asks { AsksOnce (D.view self.old.disk) (D.view self.new.disk) }
+        ensures asks { StartsAtMostOne (D.view self.old.disk) (D.view self.new.disk) }
     {
         let goal = self.goal();
         let Some(last) = self.resting() else {
@@ -466,7 +466,7 @@ impl<D: Disk> Journal<D> {
 
     /// What the monitor is shown of the current segment.
     fn view(&self, current: &LogWriter) -> MonitorView
-        ensures { result ≡ shown self.now.state current.now }
+        ensures { result ≡ shown_to_monitor self.now.state current.now }
     {
         MonitorView {
             opened: self.writers.len() as u32,
@@ -480,13 +480,13 @@ impl<D: Disk> Journal<D> {
     /// Begins the next segment, starts the next operation, or gives up.
     fn go_on(&mut self) -> Result<(), JournalFault>
         requires lives { self.old.state.dead ≡ None }
-        ensures went { OnOk result (stepping.GoesOn self.old.state self.new.state) }
+        ensures went { OnOk result (stepping.ActsAfterPolls self.old.state self.new.state) }
         ensures ended { IfErr result (EndsGoing self.old.state self.new.state) }
         ensures keeps { KeepsRecords D.tells D.view self.old self.new }
         ensures passes { Passes D.tells self.old.state self.new.state (D.view self.old.disk) (D.view self.new.disk) }
         ensures goes_on { GoesOn (D.view self.old.disk) (D.view self.new.disk) }
         ensures stalls { polls_left (D.view self.new.disk) ≡ polls_left (D.view self.old.disk) }
-        ensures asks { AsksOnce (D.view self.old.disk) (D.view self.new.disk) }
+        ensures asks { StartsAtMostOne (D.view self.old.disk) (D.view self.new.disk) }
     {
         let Some(current) = self.writers.last() else {
             if self.is_behind() {
@@ -543,7 +543,7 @@ impl<D: Disk> Journal<D> {
     /// Asks that all records be synced, and steps until they are and nothing is in flight. After `NoMemory` it may be
     /// called again.
     pub fn close(&mut self) -> Result<(), JournalFault>
-        ensures closes { Closes self.old.state self.new.state (D.view self.old.disk) (D.view self.new.disk) result }
+        ensures closes { ClosesBy self.old.state self.new.state (D.view self.old.disk) (D.view self.new.disk) result }
         ensures lives { OnOk result (self.old.state.dead ≡ None) }
         ensures idle { OnOk result (IsIdle self.new.state) }
         ensures synced { OnOk result (acked self.new.state ≡ len self.new.state) }

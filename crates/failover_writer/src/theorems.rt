@@ -13,7 +13,7 @@ ghost use Rattle.wal_recovery.specs.Recovering.{FIRST_NUMBER, Recovers};
 ghost use Rattle.wal_recovery.specs.Resting.{AreSegmentsStable};
 ghost use Rattle.failover_writer.specs.State.{State, acked, broken_count};
 ghost use Rattle.failover_writer.specs.Ranges.{StandsFor, Stands};
-ghost use Rattle.failover_writer.specs.Sound.{IsSound};
+ghost use Rattle.failover_writer.specs.Sound.{IsSoundJournal};
 ghost use Rattle.failover_writer.specs.Keeping.{KeepsRun, RecoversTo, OthersStay, IsOpenedOn, IsOpening, KeepsBase};
 
 use crate::journal::Journal;
@@ -45,7 +45,7 @@ pub fn a_journal_without_failures_reads_as_an_image()
 /// sound.
 pub fn a_journal_at_hand<D: Disk>(journal: &Journal<D>)
     ensures stands { Stands D.tells journal.now.state (D.view journal.now.disk) }
-    ensures sound { IsSound journal.now.state }
+    ensures sound { IsSoundJournal journal.now.state }
 {
     let _len = journal.len();
 }

@@ -11,19 +11,19 @@ use Rattle.file_disk.specs.declared.directory.Started.{Started}
 use Rattle.file_disk.specs.declared.directory.Directory.{Directory}
 
 -- what a task does to its file
-abbrev pub act_of : {F : Type 0} → Task F → Act
-act_of (Create path) = creating
-act_of (Append target bytes) = writing
-act_of (Sync target) = syncing
+abbrev pub act_of_task : {F : Type 0} → Task F → Act
+act_of_task (Create path) = creating
+act_of_task (Append target bytes) = writing
+act_of_task (Sync target) = syncing
 
 -- an operation of that side in flight
 abbrev pub flight_at : {F : Type 0} → Side → Option (Started F) → Option Flight
 flight_at side None = None
-flight_at side (Some op) = Some (record { place = segment side op.name; act = act_of op.task })
+flight_at side (Some op) = Some (record { place = segment side op.name; act = act_of_task op.task })
 
 -- the operation of that number in flight in a directory
-abbrev pub flight_in : {F : Type 0} → Side → Directory F → ℕ → Option Flight
-flight_in side directory number = flight_at side (get nat_cmp directory.flights number)
+abbrev pub flight_on_side : {F : Type 0} → Side → Directory F → ℕ → Option Flight
+flight_on_side side directory number = flight_at side (get nat_cmp directory.flights number)
 
 -- the directory of that side
 abbrev pub directory_of : {F : Type 0} → Directory F → Directory F → Side → Directory F
@@ -35,7 +35,7 @@ abbrev pub file_view : {F : Type 0} → Directory F → Directory F → List Cal
 file_view primary secondary calls = record {
   faults = by_side primary.faults secondary.faults;
   polls_left = λ side. 0;
-  in_flight = λ id. flight_in id.side (directory_of primary secondary id.side) id.number;
+  in_flight = λ id. flight_on_side id.side (directory_of primary secondary id.side) id.number;
   clock = 0;
   history = λ k p. None;
   calls = calls;

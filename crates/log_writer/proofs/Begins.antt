@@ -15,7 +15,7 @@ use Rattle.log_writer.specs.declared.phase.Phase.{Phase}
 use Rattle.log_writer.specs.declared.phase.Phase.TheVariants.{New, InFlight, Idle, Broken}
 use Rattle.log_writer.specs.Writer.{Writer}
 use Rattle.log_writer.specs.Parts.{segment_bytes}
-use Rattle.log_writer.specs.Fits.{file_of, act_of, Flies, HasFlight, HasNumbers, IsOrdered, HasFile, Fits}
+use Rattle.log_writer.specs.Fits.{place_of_writer, act_of, Flies, HasFlight, HasNumbers, IsOrdered, HasFile, Fits}
 use Rattle.log_writer.specs.Kept.{SegmentKept}
 use Rattle.log_writer.specs.Steps.{IsQueueOf, HoldsPart, next_operation, next_of_created}
 use Rattle.log_writer.specs.Sending.{frames_of, sending}
@@ -43,7 +43,7 @@ next_ready (InFlight other id) written goal operation next = cc
 next_ready Idle written goal operation next = created_next written goal operation next
 next_ready Broken written goal operation next = cc
 
-flies_from : (old new : DiskView) (w : Writer) (operation : Operation) (id : OpId) → IsFree old (file_of w) → Starts (record { place = file_of w; act = act_of operation }) w.side id old new → Flies new (file_of w) (act_of operation) id
+flies_from : (old new : DiskView) (w : Writer) (operation : Operation) (id : OpId) → IsFree old (place_of_writer w) → Starts (record { place = place_of_writer w; act = act_of operation }) w.side id old new → Flies new (place_of_writer w) (act_of operation) id
 flies_from old new w operation id free starts = record { here = starts.here; alone = λ q ne f is. free q f (sym (starts.others q ne) ∙ is) }
 
 -- the writer once its operation is in flight
@@ -54,23 +54,23 @@ module _ (tells : Bool) (w : Writer) (queue : Queue) (goal : Goal) (old new : Di
   abbrev ordered : IsOrdered records w
   ordered = fits.ordered
 
-  in_phase : (phase : Phase) → w.phase ≡ phase → HasNumbers phase w × HasFlight phase (file_of w) old × (IsTrue tells → HasFile phase records w (files old (file_of w)))
+  in_phase : (phase : Phase) → w.phase ≡ phase → HasNumbers phase w × HasFlight phase (place_of_writer w) old × (IsTrue tells → HasFile phase records w (files old (place_of_writer w)))
   in_phase phase is = (
     subst (λ (p : Phase). HasNumbers p w) is fits.numbers,
-    subst (λ (p : Phase). HasFlight p (file_of w) old) is fits.flight,
-    λ told. subst (λ (p : Phase). HasFile p records w (files old (file_of w))) is (fits.file told),
+    subst (λ (p : Phase). HasFlight p (place_of_writer w) old) is fits.flight,
+    λ told. subst (λ (p : Phase). HasFile p records w (files old (place_of_writer w))) is (fits.file told),
   )
 
   -- The bytes of the segment once all records are sent.
   completed : w.written ≡ w.sent → w.written < goal.len → segment_bytes w.log w.from goal.len records ≡ segment_bytes w.log w.from w.sent records ++ frames_of queue w goal.len
   completed rests more = frames_complete records queue w goal.len is_queue held.start (omega (arith, ordered.from, ordered.synced, ordered.written)) (omega (arith, rests, more)) ordered.place
 
-  pub begun_fits : (operation : Operation) → next_operation w.phase w.written goal ≡ Some operation → Starts (record { place = file_of w; act = act_of operation }) w.side id old new
-      → (IsTrue tells → ChangesFile (file_of w) (λ f g. g ≡ after_start (act_of operation) (frames_of queue w goal.len) f) old new) → Fits tells records (begun operation id queue goal.len w) new
+  pub begun_fits : (operation : Operation) → next_operation w.phase w.written goal ≡ Some operation → Starts (record { place = place_of_writer w; act = act_of operation }) w.side id old new
+      → (IsTrue tells → ChangesFile (place_of_writer w) (λ f g. g ≡ after_start (act_of operation) (frames_of queue w goal.len) f) old new) → Fits tells records (begun operation id queue goal.len w) new
   begun_fits operation next starts file = go operation (next_ready w.phase w.written goal operation next) starts file
     where
-      go : (o : Operation) → IsReadyFor o w.written goal.len w.phase → Starts (record { place = file_of w; act = act_of o }) w.side id old new
-          → (IsTrue tells → ChangesFile (file_of w) (λ f g. g ≡ after_start (act_of o) (frames_of queue w goal.len) f) old new) → Fits tells records (begun o id queue goal.len w) new
+      go : (o : Operation) → IsReadyFor o w.written goal.len w.phase → Starts (record { place = place_of_writer w; act = act_of o }) w.side id old new
+          → (IsTrue tells → ChangesFile (place_of_writer w) (λ f g. g ≡ after_start (act_of o) (frames_of queue w goal.len) f) old new) → Fits tells records (begun o id queue goal.len w) new
       go Create is starts file =
           let was = in_phase New is in
           record {
@@ -105,10 +105,10 @@ module _ (tells : Bool) (w : Writer) (queue : Queue) (goal : Goal) (old new : Di
             file = λ told. (file told).here ∙ ap (after_start writing frames) (was.2 told) ∙ rw (← whole) refl;
           }
 
-  pub begun_moments : (operation : Operation) → GoesOn old new → next_operation w.phase w.written goal ≡ Some operation → Starts (record { place = file_of w; act = act_of operation }) w.side id old new
-      → (IsTrue tells → ChangesFile (file_of w) (λ f g. g ≡ after_start (act_of operation) (frames_of queue w goal.len) f) old new) → IsTrue tells
-      → AtEachMoment old.clock new (SegmentKept (file_of w) w.log w.from w.synced records)
+  pub begun_moments : (operation : Operation) → GoesOn old new → next_operation w.phase w.written goal ≡ Some operation → Starts (record { place = place_of_writer w; act = act_of operation }) w.side id old new
+      → (IsTrue tells → ChangesFile (place_of_writer w) (λ f g. g ≡ after_start (act_of operation) (frames_of queue w goal.len) f) old new) → IsTrue tells
+      → AtEachMoment old.clock new (SegmentKept (place_of_writer w) w.log w.from w.synced records)
   begun_moments operation goes next starts file told =
-      two_moments (file_of w) (λ f g. g ≡ after_start (act_of operation) (frames_of queue w goal.len) f) old new (SegmentKept (file_of w) w.log w.from w.synced records) goes (file told)
+      two_moments (place_of_writer w) (λ f g. g ≡ after_start (act_of operation) (frames_of queue w goal.len) f) old new (SegmentKept (place_of_writer w) w.log w.from w.synced records) goes (file told)
       (fits_kept tells records w old fits told)
       (fits_kept tells records (begun operation id queue goal.len w) new (begun_fits operation next starts file) told)

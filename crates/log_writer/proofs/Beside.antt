@@ -8,7 +8,7 @@ use Rattle.batch_repr.specs.declared.batch.Batch.{Batch}
 use Rattle.log_writer.specs.declared.phase.Phase.{Phase}
 use Rattle.log_writer.specs.declared.phase.Phase.TheVariants.{New, InFlight, Idle, Broken}
 use Rattle.log_writer.specs.Writer.{Writer}
-use Rattle.log_writer.specs.Fits.{file_of, act_of, HasFlight, HasFile, Fits, SameFile}
+use Rattle.log_writer.specs.Fits.{place_of_writer, act_of, HasFlight, HasFile, Fits, SameFile}
 
 -- At each other place the file is as it was.
 abbrev pub OthersStay : Place → Files → Files → Type 0
@@ -58,10 +58,10 @@ flight_beside tells (InFlight operation id) place old new same flies = record {
 flight_beside tells Idle place old new same free = free_beside tells place old new same free
 flight_beside tells Broken place old new same free = free_beside tells place old new same free
 
-pub fits_beside : (tells : Bool) (records : List Batch) (w : Writer) (old new : DiskView) → Fits tells records w old → SameFile tells (file_of w) old new → Fits tells records w new
+pub fits_beside : (tells : Bool) (records : List Batch) (w : Writer) (old new : DiskView) → Fits tells records w old → SameFile tells (place_of_writer w) old new → Fits tells records w new
 fits_beside tells records w old new fits same = record {
   ordered = fits.ordered;
   numbers = fits.numbers;
-  flight = flight_beside tells w.phase (file_of w) old new same fits.flight;
+  flight = flight_beside tells w.phase (place_of_writer w) old new same fits.flight;
   file = λ told. subst (HasFile w.phase records w) (sym (same.file told)) (fits.file told);
 }

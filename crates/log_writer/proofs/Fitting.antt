@@ -11,7 +11,7 @@ use Rattle.log_writer.specs.declared.phase.Phase.{Phase}
 use Rattle.log_writer.specs.declared.phase.Phase.TheVariants.{New, InFlight, Idle, Broken}
 use Rattle.log_writer.specs.Writer.{Writer}
 use Rattle.log_writer.specs.Parts.{segment_bytes}
-use Rattle.log_writer.specs.Fits.{file_of, file_with, HasNumbers, IsOrdered, HoldsRecords, HoldsBroken, IsUnsent, HasFile, Fits}
+use Rattle.log_writer.specs.Fits.{place_of_writer, file_with, HasNumbers, IsOrdered, HoldsRecords, HoldsBroken, IsUnsent, HasFile, Fits}
 use Rattle.log_writer.specs.Kept.{SegmentKept, IsKeptFile}
 use Rattle.log_writer.proofs.Parts.{no_bytes, bytes_shorter, bytes_grown}
 use Rattle.log_writer.proofs.Kept.{file_kept}
@@ -73,16 +73,16 @@ module _ (records : List Batch) (w : Writer) (ordered : IsOrdered records w) (sy
 
 -- A writer that fits has its file, with any number of the records that it has synced.
 pub fits_file : (tells : Bool) (records : List Batch) (w : Writer) (v : DiskView) (synced : ℕ) → Fits tells records w v → IsTrue tells → w.from ≤ synced → synced ≤ w.synced
-    → IsKeptFile w.log w.from synced records (files v (file_of w))
-fits_file tells records w v synced fits told begins few = phase_kept records w fits.ordered synced begins few w.phase (files v (file_of w)) fits.numbers (fits.file told)
+    → IsKeptFile w.log w.from synced records (files v (place_of_writer w))
+fits_file tells records w v synced fits told begins few = phase_kept records w fits.ordered synced begins few w.phase (files v (place_of_writer w)) fits.numbers (fits.file told)
 
 -- So its segment is kept.
 pub fits_kept_from : (tells : Bool) (records : List Batch) (w : Writer) (v : DiskView) (synced : ℕ) → Fits tells records w v → IsTrue tells → w.from ≤ synced → synced ≤ w.synced
-    → SegmentKept (file_of w) w.log w.from synced records (files v)
+    → SegmentKept (place_of_writer w) w.log w.from synced records (files v)
 fits_kept_from tells records w v synced fits told begins few =
     file_kept w.side w.name w.log w.from synced records (files v) fits.ordered.log (fits_file tells records w v synced fits told begins few)
 
-pub fits_kept : (tells : Bool) (records : List Batch) (w : Writer) (v : DiskView) → Fits tells records w v → IsTrue tells → SegmentKept (file_of w) w.log w.from w.synced records (files v)
+pub fits_kept : (tells : Bool) (records : List Batch) (w : Writer) (v : DiskView) → Fits tells records w v → IsTrue tells → SegmentKept (place_of_writer w) w.log w.from w.synced records (files v)
 fits_kept tells records w v fits told = fits_kept_from tells records w v w.synced fits told fits.ordered.from (omega arith)
 
 -- A new writer fits where nothing was sent to its file.
@@ -115,7 +115,7 @@ fits_grown tells records more w v fits = record {
   };
   numbers = fits.numbers;
   flight = fits.flight;
-  file = λ told. phase_grown w.phase (files v (file_of w)) (fits.file told);
+  file = λ told. phase_grown w.phase (files v (place_of_writer w)) (fits.file told);
 }
   where
     ordered : IsOrdered records w

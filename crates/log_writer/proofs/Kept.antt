@@ -5,7 +5,7 @@ use native.Mathlib.Decide.{dec_le}
 use Rattle.disk_face.specs.declared.Side.{Side}
 use Rattle.disk_face.specs.declared.SegName.{SegName}
 use Rattle.disk_face.specs.View.{Place, segment, File, Files}
-use Rattle.disk_face.specs.Image.{Begins, IsImageOf, log_of}
+use Rattle.disk_face.specs.Image.{IsFrontOf, IsImageOf, log_of}
 use Rattle.crc_chunk.specs.declared.chunk.ChunkKind.{ChunkKind}
 use Rattle.crc_chunk.specs.Chunk.{chunk, ChunkAt, IsChunkOf}
 use Rattle.batch_repr.specs.declared.batch.Batch.{Batch}
@@ -28,7 +28,7 @@ chunk_moved bytes others at log kind payload same here =
     }
 
 -- What begins with the stable bytes has them.
-front_of : (f : File) (content : List ℕ) → f.stable ≤ length f.sent → Begins (take f.stable f.sent) content → take f.stable content ≡ take f.stable f.sent
+front_of : (f : File) (content : List ℕ) → f.stable ≤ length f.sent → IsFrontOf (take f.stable f.sent) content → take f.stable content ≡ take f.stable f.sent
 front_of f content within begins =
     let front : List ℕ = take f.stable f.sent in
     let len : f.stable ≤ length front = omega (arith, length-take f.stable f.sent, within) in
@@ -86,7 +86,7 @@ module _ (place : Place) (log from synced : ℕ) (records : List Batch) where
       (subst (λ (l : List ℕ). ChunksStandIn l log content) kept.sent chunks) out)
 
   -- What of the file makes that its segment is kept.
-  kept_in : (f : File) (content : List ℕ) (created : Bool) → f.created ≡ created → HasSynced log from synced records f → (f.created ≡ true → Begins (take f.stable f.sent) content)
+  kept_in : (f : File) (content : List ℕ) (created : Bool) → f.created ≡ created → HasSynced log from synced records f → (f.created ≡ true → IsFrontOf (take f.stable f.sent) content)
       → ChunksStandIn f.sent log content → IsKeptAs log from synced records (Some content)
   kept_in f content true is kept begins chunks = reads_first f content f.stable kept (kept.stable is) (front_of f content (kept.stable is) (begins is)) (kept.covered is) chunks
   kept_in f content false is kept begins chunks =

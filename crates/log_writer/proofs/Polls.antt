@@ -13,7 +13,7 @@ use Rattle.log_writer.specs.declared.phase.Operation.TheVariants.{Create, Write,
 use Rattle.log_writer.specs.declared.phase.Phase.{Phase}
 use Rattle.log_writer.specs.declared.phase.Phase.TheVariants.{InFlight, Idle, Broken}
 use Rattle.log_writer.specs.Writer.{Writer}
-use Rattle.log_writer.specs.Fits.{file_of, act_of, Flies, HasFlight, HasNumbers, IsOrdered, HoldsRecords, HasFile, Fits, SameFile}
+use Rattle.log_writer.specs.Fits.{place_of_writer, act_of, Flies, HasFlight, HasNumbers, IsOrdered, HoldsRecords, HasFile, Fits, SameFile}
 use Rattle.log_writer.specs.Kept.{SegmentKept}
 use Rattle.log_writer.specs.Steps.{TakesPoll, after_answer, synced_with}
 use Rattle.log_writer.proofs.Parts.{no_bytes, bytes_front}
@@ -79,16 +79,16 @@ module _ (records : List Batch) (w : Writer) (ordered : IsOrdered records w) whe
 
 module _ (tells : Bool) (w : Writer) (old new : DiskView) (operation : Operation) (id : OpId) (is : w.phase ≡ InFlight operation id) where
   abbrev flight : Flight
-  flight = record { place = file_of w; act = act_of operation }
+  flight = record { place = place_of_writer w; act = act_of operation }
 
-  flies_now : (records : List Batch) → Fits tells records w old → Flies old (file_of w) (act_of operation) id
-  flies_now records fits = subst (λ (p : Phase). HasFlight p (file_of w) old) is fits.flight
+  flies_now : (records : List Batch) → Fits tells records w old → Flies old (place_of_writer w) (act_of operation) id
+  flies_now records fits = subst (λ (p : Phase). HasFlight p (place_of_writer w) old) is fits.flight
 
   numbers_now : (records : List Batch) → Fits tells records w old → HasNumbers (InFlight operation id) w
   numbers_now records fits = subst (λ (p : Phase). HasNumbers p w) is fits.numbers
 
-  file_now : (records : List Batch) → Fits tells records w old → IsTrue tells → HasFile (InFlight operation id) records w (files old (file_of w))
-  file_now records fits told = subst (λ (p : Phase). HasFile p records w (files old (file_of w))) is (fits.file told)
+  file_now : (records : List Batch) → Fits tells records w old → IsTrue tells → HasFile (InFlight operation id) records w (files old (place_of_writer w))
+  file_now records fits told = subst (λ (p : Phase). HasFile p records w (files old (place_of_writer w))) is (fits.file told)
 
   pub polled_fits : (records : List Batch) (answer : Progress) → Fits tells records w old → Polled tells id old new answer → Fits tells records (after_answer operation answer w) new
   polled_fits records Pending fits polled =
@@ -97,23 +97,23 @@ module _ (tells : Bool) (w : Writer) (old new : DiskView) (operation : Operation
         ordered = (same_order records w fits.ordered operation).0;
         numbers = subst (λ (p : Phase). HasNumbers p (after_answer operation Pending w)) (sym is) (waited_numbers records w fits.ordered operation id (numbers_now records fits));
         flight = fits.flight;
-        file = λ told. subst (λ (p : Phase). HasFile p records (after_answer operation Pending w) (files old (file_of w))) (sym is) (waited_file records w fits.ordered operation id (files old (file_of w)) (file_now records fits told));
+        file = λ told. subst (λ (p : Phase). HasFile p records (after_answer operation Pending w) (files old (place_of_writer w))) (sym is) (waited_file records w fits.ordered operation id (files old (place_of_writer w)) (file_now records fits told));
       })
-      (same_disk tells (file_of w) old new polled.same)
+      (same_disk tells (place_of_writer w) old new polled.same)
   polled_fits records Done fits polled = record {
     ordered = done_ordered records w fits.ordered operation;
     numbers = done_numbers records w fits.ordered operation id (numbers_now records fits);
-    flight = free_after old new (file_of w) (act_of operation) id (flies_now records fits) polled.ends;
+    flight = free_after old new (place_of_writer w) (act_of operation) id (flies_now records fits) polled.ends;
     file = λ told.
-        done_file records w fits.ordered operation id (files old (file_of w)) (files new (file_of w)) (numbers_now records fits) (file_now records fits told)
+        done_file records w fits.ordered operation id (files old (place_of_writer w)) (files new (place_of_writer w)) (numbers_now records fits) (file_now records fits told)
         (polled.file told flight (flies_now records fits).here).here;
   }
   polled_fits records Failed fits polled = record {
     ordered = (same_order records w fits.ordered operation).1;
     numbers = tt;
-    flight = free_after old new (file_of w) (act_of operation) id (flies_now records fits) polled.ends;
+    flight = free_after old new (place_of_writer w) (act_of operation) id (flies_now records fits) polled.ends;
     file = λ told.
-        failed_file records w fits.ordered operation id (files old (file_of w)) (files new (file_of w)) (numbers_now records fits) (file_now records fits told)
+        failed_file records w fits.ordered operation id (files old (place_of_writer w)) (files new (place_of_writer w)) (numbers_now records fits) (file_now records fits told)
         (polled.file told flight (flies_now records fits).here).here;
   }
 
@@ -128,13 +128,13 @@ module _ (tells : Bool) (w : Writer) (old new : DiskView) (operation : Operation
       by_operation Sync = omega (arith, fits.ordered.synced)
 
   -- the writer's segment, as it is known by what was synced before the call
-  same_segment : (records : List Batch) (answer : Progress) → SegmentKept (file_of (after_answer operation answer w)) (after_answer operation answer w).log (after_answer operation answer w).from w.synced records (files new)
-      → SegmentKept (file_of w) w.log w.from w.synced records (files new)
+  same_segment : (records : List Batch) (answer : Progress) → SegmentKept (place_of_writer (after_answer operation answer w)) (after_answer operation answer w).log (after_answer operation answer w).from w.synced records (files new)
+      → SegmentKept (place_of_writer w) w.log w.from w.synced records (files new)
   same_segment records Pending kept = kept
   same_segment records Done kept = kept
   same_segment records Failed kept = kept
 
-  kept_after : (records : List Batch) (answer : Progress) → Fits tells records w old → Polled tells id old new answer → IsTrue tells → SegmentKept (file_of w) w.log w.from w.synced records (files new)
+  kept_after : (records : List Batch) (answer : Progress) → Fits tells records w old → Polled tells id old new answer → IsTrue tells → SegmentKept (place_of_writer w) w.log w.from w.synced records (files new)
   kept_after records answer fits polled told =
       same_segment records answer
       (fits_kept_from tells records (after_answer operation answer w) new w.synced (polled_fits records answer fits polled) told (low answer) (synced_rises records answer fits))
@@ -148,15 +148,15 @@ module _ (tells : Bool) (w : Writer) (old new : DiskView) (operation : Operation
   each_moment : (records : List Batch) (answer : Progress) (P : Files → Type 0) → GoesOn old new → Fits tells records w old → Polled tells id old new answer → IsTrue tells → P (files old) → P (files new)
       → AtEachMoment old.clock new P
   each_moment records Pending P goes fits polled told before after = one_moment old new P goes polled.same before
-  each_moment records Done P goes fits polled told before after = two_moments (file_of w) (AfterDone (act_of operation)) old new P goes (polled.file told flight (flies_now records fits).here) before after
-  each_moment records Failed P goes fits polled told before after = two_moments (file_of w) (AfterFailed (act_of operation)) old new P goes (polled.file told flight (flies_now records fits).here) before after
+  each_moment records Done P goes fits polled told before after = two_moments (place_of_writer w) (AfterDone (act_of operation)) old new P goes (polled.file told flight (flies_now records fits).here) before after
+  each_moment records Failed P goes fits polled told before after = two_moments (place_of_writer w) (AfterFailed (act_of operation)) old new P goes (polled.file told flight (flies_now records fits).here) before after
 
   pub polled_moments : (records : List Batch) (answer : Progress) → GoesOn old new → Fits tells records w old → Polled tells id old new answer → IsTrue tells
-      → AtEachMoment old.clock new (SegmentKept (file_of w) w.log w.from w.synced records)
+      → AtEachMoment old.clock new (SegmentKept (place_of_writer w) w.log w.from w.synced records)
   polled_moments records answer goes fits polled told =
-      each_moment records answer (SegmentKept (file_of w) w.log w.from w.synced records) goes fits polled told (fits_kept tells records w old fits told) (kept_after records answer fits polled told)
+      each_moment records answer (SegmentKept (place_of_writer w) w.log w.from w.synced records) goes fits polled told (fits_kept tells records w old fits told) (kept_after records answer fits polled told)
 
-  pub polled_others : (records : List Batch) (answer : Progress) → Fits tells records w old → Polled tells id old new answer → (place : Place) → place ≢ file_of w → SameFile tells place old new
+  pub polled_others : (records : List Batch) (answer : Progress) → Fits tells records w old → Polled tells id old new answer → (place : Place) → place ≢ place_of_writer w → SameFile tells place old new
   polled_others records Pending fits polled place elsewhere = same_disk tells place old new polled.same
   polled_others records Done fits polled place elsewhere =
       ended_elsewhere tells place flight id (AfterDone (act_of operation)) old new (flies_now records fits).here polled.ends (λ told. polled.file told flight (flies_now records fits).here) elsewhere
@@ -164,9 +164,9 @@ module _ (tells : Bool) (w : Writer) (old new : DiskView) (operation : Operation
       ended_elsewhere tells place flight id (AfterFailed (act_of operation)) old new (flies_now records fits).here polled.ends (λ told. polled.file told flight (flies_now records fits).here) elsewhere
 
   pub polled_other_moments : (records : List Batch) (answer : Progress) → GoesOn old new → Fits tells records w old → Polled tells id old new answer → IsTrue tells
-      → AtEachMoment old.clock new (OthersStay (file_of w) (files old))
+      → AtEachMoment old.clock new (OthersStay (place_of_writer w) (files old))
   polled_other_moments records answer goes fits polled told =
-      each_moment records answer (OthersStay (file_of w) (files old)) goes fits polled told (λ place elsewhere. refl)
+      each_moment records answer (OthersStay (place_of_writer w) (files old)) goes fits polled told (λ place elsewhere. refl)
       (λ place elsewhere. (polled_others records answer fits polled place elsewhere).file told)
 
 -- ---- the polls left

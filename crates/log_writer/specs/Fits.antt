@@ -13,8 +13,8 @@ use Rattle.log_writer.specs.Writer.{Writer}
 use Rattle.log_writer.specs.Parts.{segment_bytes}
 
 -- the place of the writer's segment
-abbrev pub file_of : Writer → Place
-file_of w = segment w.side w.name
+abbrev pub place_of_writer : Writer → Place
+place_of_writer w = segment w.side w.name
 
 -- what an operation does to its file
 abbrev pub act_of : Operation → Act
@@ -43,7 +43,7 @@ HasFlight Broken place v = IsFree v place
 
 -- The numbers of a writer of these records are in order, and it frames where the bytes sent end.
 pub record IsOrdered (records : List Batch) (w : Writer) : Type 0 where
-  pub log : w.log ≡ log_of (file_of w)
+  pub log : w.log ≡ log_of (place_of_writer w)
   pub from : w.from ≤ w.synced
   pub synced : w.synced ≤ w.written
   pub written : w.written ≤ w.sent
@@ -95,8 +95,8 @@ HasFile Broken records w f = ((w.sent ≡ w.from) × (f ≡ Some fresh)) ⊎ Hol
 pub record Fits (tells : Bool) (records : List Batch) (w : Writer) (v : DiskView) : Type 0 where
   pub ordered : IsOrdered records w
   pub numbers : HasNumbers w.phase w
-  pub flight : HasFlight w.phase (file_of w) v
-  pub file : IsTrue tells → HasFile w.phase records w (files v (file_of w))
+  pub flight : HasFlight w.phase (place_of_writer w) v
+  pub file : IsTrue tells → HasFile w.phase records w (files v (place_of_writer w))
 
 -- Nothing changed of one file: its operations in flight, and where files are told the file.
 pub record SameFile (tells : Bool) (place : Place) (old new : DiskView) : Type 0 where

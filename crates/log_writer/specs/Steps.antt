@@ -15,7 +15,7 @@ use Rattle.log_writer.specs.declared.phase.Operation.TheVariants.{Create, Write,
 use Rattle.log_writer.specs.declared.phase.Phase.{Phase}
 use Rattle.log_writer.specs.declared.phase.Phase.TheVariants.{New, InFlight, Idle, Broken}
 use Rattle.log_writer.specs.Writer.{Writer}
-use Rattle.log_writer.specs.Fits.{file_of, act_of}
+use Rattle.log_writer.specs.Fits.{place_of_writer, act_of}
 
 -- The queue holds the records of a run from its start on.
 pub record IsQueueOf (records : List Batch) (queue : Queue) : Type 0 where
@@ -49,7 +49,7 @@ sent_with Sync len sent = sent
 pub record Begins (operation : Operation) (len : ℕ) (old new : Writer) (before after : DiskView) : Type 0 where
   pub id : OpId
   pub place : ℕ
-  pub starts : Starts (record { place = file_of old; act = act_of operation }) old.side id before after
+  pub starts : Starts (record { place = place_of_writer old; act = act_of operation }) old.side id before after
   pub moved : new ≡ record old { sent = sent_with operation len old.sent; place = place; waiting = 0; phase = InFlight operation id }
 
 -- The operation was started, and nothing where there is none.

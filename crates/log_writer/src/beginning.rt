@@ -7,7 +7,7 @@ ghost use Rattle.batch_repr.specs.declared.batch.Batch.{Batch};
 ghost use Rattle.block_record.specs.Framing.{standing_after};
 ghost use Rattle.log_writer.specs.declared.phase.Operation.TheVariants.{Write};
 ghost use Rattle.log_writer.specs.declared.phase.Phase.TheVariants.{Broken};
-ghost use Rattle.log_writer.specs.Fits.{Fits, IsBusy, SameFile, file_of, act_of};
+ghost use Rattle.log_writer.specs.Fits.{Fits, IsBusy, SameFile, place_of_writer, act_of};
 ghost use Rattle.log_writer.specs.Kept.{SegmentKept};
 ghost use Rattle.log_writer.specs.Steps.{IsQueueOf, HoldsPart, next_operation, BeginsJust, AsksToStart};
 ghost use Rattle.log_writer.specs.Sending.{frames_from, frames_of, sending};
@@ -80,15 +80,15 @@ impl LogWriter {
         queue: &RecordQueue,
         len: u64,
     ) -> Result<OpId, NoMemory>
-        requires free { IsFree (D.view disk.old) (file_of self.old) }
-        requires may { IsTrue D.tells → MayStart writing (files (D.view disk.old) (file_of self.old)) }
+        requires free { IsFree (D.view disk.old) (place_of_writer self.old) }
+        requires may { IsTrue D.tells → MayStart writing (files (D.view disk.old) (place_of_writer self.old)) }
         requires held { HoldsPart queue.now self.old.sent len }
         requires in_block { self.old.place < 32768 }
         ensures goes_on { GoesOn (D.view disk.old) (D.view disk.new) }
         ensures stalls { (D.view disk.new).polls_left ≡ (D.view disk.old).polls_left }
         ensures asks { IfOk result (λ id. Makes (was_started id ∷ []) (D.view disk.old) (D.view disk.new)) }
-        ensures starts { IfOk result (λ id. Starts (record { place = file_of self.old; act = writing }) self.old.side id (D.view disk.old) (D.view disk.new)) }
-        ensures file { OnOk result (IsTrue D.tells → ChangesFile (file_of self.old) (λ f g. g ≡ after_start writing (frames_of queue.now self.old len) f) (D.view disk.old) (D.view disk.new)) }
+        ensures starts { IfOk result (λ id. Starts (record { place = place_of_writer self.old; act = writing }) self.old.side id (D.view disk.old) (D.view disk.new)) }
+        ensures file { OnOk result (IsTrue D.tells → ChangesFile (place_of_writer self.old) (λ f g. g ≡ after_start writing (frames_of queue.now self.old len) f) (D.view disk.old) (D.view disk.new)) }
         ensures sent { OnOk result (self.new ≡ sending Write queue.now len self.old) }
         ensures err { OnErr result ((self.new ≡ self.old) × (D.view disk.new ≡ D.view disk.old)) }
     {
@@ -114,15 +114,15 @@ impl LogWriter {
         operation: Operation,
         len: u64,
     ) -> Result<OpId, NoMemory>
-        requires free { IsFree (D.view disk.old) (file_of self.old) }
-        requires may { IsTrue D.tells → MayStart (act_of operation) (files (D.view disk.old) (file_of self.old)) }
+        requires free { IsFree (D.view disk.old) (place_of_writer self.old) }
+        requires may { IsTrue D.tells → MayStart (act_of operation) (files (D.view disk.old) (place_of_writer self.old)) }
         requires held { HoldsPart queue.now self.old.sent len }
         requires in_block { self.old.place < 32768 }
         ensures goes_on { GoesOn (D.view disk.old) (D.view disk.new) }
         ensures stalls { (D.view disk.new).polls_left ≡ (D.view disk.old).polls_left }
         ensures asks { IfOk result (λ id. Makes (was_started id ∷ []) (D.view disk.old) (D.view disk.new)) }
-        ensures starts { IfOk result (λ id. Starts (record { place = file_of self.old; act = act_of operation }) self.old.side id (D.view disk.old) (D.view disk.new)) }
-        ensures file { OnOk result (IsTrue D.tells → ChangesFile (file_of self.old) (λ f g. g ≡ after_start (act_of operation) (frames_of queue.now self.old len) f) (D.view disk.old) (D.view disk.new)) }
+        ensures starts { IfOk result (λ id. Starts (record { place = place_of_writer self.old; act = act_of operation }) self.old.side id (D.view disk.old) (D.view disk.new)) }
+        ensures file { OnOk result (IsTrue D.tells → ChangesFile (place_of_writer self.old) (λ f g. g ≡ after_start (act_of operation) (frames_of queue.now self.old len) f) (D.view disk.old) (D.view disk.new)) }
         ensures sent { OnOk result (self.new ≡ sending operation queue.now len self.old) }
         ensures err { OnErr result ((self.new ≡ self.old) × (D.view disk.new ≡ D.view disk.old)) }
     {
@@ -157,11 +157,11 @@ impl LogWriter {
         ensures fits { (records : List Batch) → Fits D.tells records self.old (D.view disk.old) → IsQueueOf records queue.now → Fits D.tells records self.new (D.view disk.new) }
 
         // What a crash leaves, at each moment of the call.
-        ensures each_moment { (records : List Batch) → Fits D.tells records self.old (D.view disk.old) → IsQueueOf records queue.now → IsTrue D.tells → AtEachMoment ((D.view disk.old).clock) (D.view disk.new) (SegmentKept (file_of self.old) self.old.log self.old.from self.old.synced records) }
+        ensures each_moment { (records : List Batch) → Fits D.tells records self.old (D.view disk.old) → IsQueueOf records queue.now → IsTrue D.tells → AtEachMoment ((D.view disk.old).clock) (D.view disk.new) (SegmentKept (place_of_writer self.old) self.old.log self.old.from self.old.synced records) }
 
         // Every other file stays as it was, at each moment too.
-        ensures others { (place : Place) → place ≢ file_of self.old → SameFile D.tells place (D.view disk.old) (D.view disk.new) }
-        ensures other_moments { IsTrue D.tells → AtEachMoment ((D.view disk.old).clock) (D.view disk.new) (λ (now : Files). (place : Place) → place ≢ file_of self.old → now place ≡ files (D.view disk.old) place) }
+        ensures others { (place : Place) → place ≢ place_of_writer self.old → SameFile D.tells place (D.view disk.old) (D.view disk.new) }
+        ensures other_moments { IsTrue D.tells → AtEachMoment ((D.view disk.old).clock) (D.view disk.new) (λ (now : Files). (place : Place) → place ≢ place_of_writer self.old → now place ≡ files (D.view disk.old) place) }
 
         // At most one moment passes.
         ensures one_moment { IsTrue D.tells → (D.view disk.new).clock ≤ suc ((D.view disk.old).clock) }

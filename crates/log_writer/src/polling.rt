@@ -7,7 +7,7 @@ ghost use Rattle.disk_face.specs.Calls.{GoesOn, Polled};
 ghost use Rattle.batch_repr.specs.declared.batch.Batch.{Batch};
 ghost use Rattle.log_writer.specs.declared.phase.Operation.{Operation};
 ghost use Rattle.log_writer.specs.declared.phase.Phase.TheVariants.{InFlight};
-ghost use Rattle.log_writer.specs.Fits.{Fits, IsBusy, SameFile, file_of};
+ghost use Rattle.log_writer.specs.Fits.{Fits, IsBusy, SameFile, place_of_writer};
 ghost use Rattle.log_writer.specs.Kept.{SegmentKept};
 ghost use Rattle.log_writer.specs.Steps.{TakesPoll, after_answer};
 
@@ -51,12 +51,12 @@ impl LogWriter {
         ensures fits { (records : List Batch) → Fits D.tells records self.old (D.view disk.old) → Fits D.tells records self.new (D.view disk.new) }
 
         // What a crash leaves, at each moment of the call with what was synced before it, and now with what is synced now.
-        ensures each_moment { (records : List Batch) → Fits D.tells records self.old (D.view disk.old) → IsTrue D.tells → AtEachMoment ((D.view disk.old).clock) (D.view disk.new) (SegmentKept (file_of self.old) self.old.log self.old.from self.old.synced records) }
-        ensures kept { (records : List Batch) → Fits D.tells records self.old (D.view disk.old) → IsTrue D.tells → SegmentKept (file_of self.new) self.new.log self.new.from self.new.synced records (files (D.view disk.new)) }
+        ensures each_moment { (records : List Batch) → Fits D.tells records self.old (D.view disk.old) → IsTrue D.tells → AtEachMoment ((D.view disk.old).clock) (D.view disk.new) (SegmentKept (place_of_writer self.old) self.old.log self.old.from self.old.synced records) }
+        ensures kept { (records : List Batch) → Fits D.tells records self.old (D.view disk.old) → IsTrue D.tells → SegmentKept (place_of_writer self.new) self.new.log self.new.from self.new.synced records (files (D.view disk.new)) }
 
         // Every other file stays as it was, at each moment too.
-        ensures others { (place : Place) → place ≢ file_of self.old → SameFile D.tells place (D.view disk.old) (D.view disk.new) }
-        ensures other_moments { IsTrue D.tells → AtEachMoment ((D.view disk.old).clock) (D.view disk.new) (λ (now : Files). (place : Place) → place ≢ file_of self.old → now place ≡ files (D.view disk.old) place) }
+        ensures others { (place : Place) → place ≢ place_of_writer self.old → SameFile D.tells place (D.view disk.old) (D.view disk.new) }
+        ensures other_moments { IsTrue D.tells → AtEachMoment ((D.view disk.old).clock) (D.view disk.new) (λ (now : Files). (place : Place) → place ≢ place_of_writer self.old → now place ≡ files (D.view disk.old) place) }
     {
         let Phase::InFlight(operation, id) = self.phase else {
             unreachable!();

@@ -8,7 +8,7 @@ ghost use Rattle.disk_face.specs.declared.Side.{Side};
 ghost use Rattle.disk_face.specs.declared.SegName.{SegName};
 ghost use Rattle.disk_face.specs.View.{segment};
 ghost use Rattle.log_writer.specs.Writer.{Writer};
-ghost use Rattle.log_writer.specs.Fits.{Fits, SameFile, file_of};
+ghost use Rattle.log_writer.specs.Fits.{Fits, SameFile, place_of_writer};
 ghost use Rattle.log_writer.specs.Kept.{IsKeptFile, SegmentKept};
 
 /// A writer that fits a disk fits it for more records too, where they come behind the others.
@@ -18,12 +18,12 @@ pub fn fits_as_records_come()
 
 /// Operations on other files leave a writer fitting.
 pub fn fits_beside_other_operations()
-    ensures { (tells : Bool) (records : List Batch) (w : Writer) (old new : DiskView) → Fits tells records w old → SameFile tells (file_of w) old new → Fits tells records w new }
+    ensures { (tells : Bool) (records : List Batch) (w : Writer) (old new : DiskView) → Fits tells records w old → SameFile tells (place_of_writer w) old new → Fits tells records w new }
 {}
 
 /// What a writer that fits has of its file, with any number of the records that it has synced.
 pub fn a_fitting_writer_has_its_file()
-    ensures { (tells : Bool) (records : List Batch) (w : Writer) (v : DiskView) (synced : ℕ) → Fits tells records w v → IsTrue tells → w.from ≤ synced → synced ≤ w.synced → IsKeptFile w.log w.from synced records (files v (file_of w)) }
+    ensures { (tells : Bool) (records : List Batch) (w : Writer) (v : DiskView) (synced : ℕ) → Fits tells records w v → IsTrue tells → w.from ≤ synced → synced ≤ w.synced → IsKeptFile w.log w.from synced records (files v (place_of_writer w)) }
 {}
 
 /// A segment is kept in each image of files that have what is synced of it, whatever stands at other places.
@@ -33,5 +33,5 @@ pub fn a_synced_file_is_kept()
 
 /// So a writer that fits keeps its segment, with all that it has synced.
 pub fn a_fitting_writer_keeps_its_segment()
-    ensures { (tells : Bool) (records : List Batch) (w : Writer) (v : DiskView) → Fits tells records w v → IsTrue tells → SegmentKept (file_of w) w.log w.from w.synced records (files v) }
+    ensures { (tells : Bool) (records : List Batch) (w : Writer) (v : DiskView) → Fits tells records w v → IsTrue tells → SegmentKept (place_of_writer w) w.log w.from w.synced records (files v) }
 {}

@@ -8,7 +8,7 @@ use Rattle.crc_chunk.specs.Chunk.{IsChunkOf}
 use Rattle.mem_disk.specs.declared.parts.MemFile.{MemFile}
 use Rattle.mem_disk.specs.declared.picks.FilePick.{FilePick}
 use Rattle.mem_disk.specs.Finite.{is_at_only}
-use Rattle.mem_disk.specs.Mem.{is_at, file_of, held, IsOrdered}
+use Rattle.mem_disk.specs.Mem.{is_at, file_of, files_held, AreInOrder}
 use Rattle.mem_disk.specs.Picks.{tail_of, picked, picked_dirs}
 use Rattle.mem_disk.specs.Sent.{IsSentAt, AreChunksSent, IsFileSent, AreFilesSent}
 use Rattle.mem_disk.proofs.Blocks.{chunk_within, one_size}
@@ -41,15 +41,15 @@ pub sent_left_out : (picks : List FilePick) (f : MemFile) → picked (Some (file
 sent_left_out picks f is bytes same = let clash : None ≡ Some bytes = sym is ∙ same in cc
 
 -- a file that is held is one of the list, and its chunks were sent
-held_sent : (picks : List FilePick) (fs : List MemFile) (p : Place) (f : File) → AreFilesSent picks fs → held fs p ≡ Some f → (m : MemFile) × (p ≡ segment m.side m.name) × (f ≡ file_of m) × IsFileSent picks m
+held_sent : (picks : List FilePick) (fs : List MemFile) (p : Place) (f : File) → AreFilesSent picks fs → files_held fs p ≡ Some f → (m : MemFile) × (p ≡ segment m.side m.name) × (f ≡ file_of m) × IsFileSent picks m
 held_sent picks [] p f all is = cc
 held_sent picks (x ∷ xs) p f all is = go (is_at x.side x.name p) refl (held_sent picks xs p f all.1)
   where
-    go : (b : Bool) → is_at x.side x.name p ≡ b → (held xs p ≡ Some f → (m : MemFile) × (p ≡ segment m.side m.name) × (f ≡ file_of m) × IsFileSent picks m) → (m : MemFile) × (p ≡ segment m.side m.name) × (f ≡ file_of m) × IsFileSent picks m
+    go : (b : Bool) → is_at x.side x.name p ≡ b → (files_held xs p ≡ Some f → (m : MemFile) × (p ≡ segment m.side m.name) × (f ≡ file_of m) × IsFileSent picks m) → (m : MemFile) × (p ≡ segment m.side m.name) × (f ≡ file_of m) × IsFileSent picks m
     go true at deeper = let z : Some (file_of x) ≡ Some f = rw at at is in (x, is_at_only x.side x.name p at, cc, all.0)
     go false at deeper = deeper (rw at at is)
 
-free_where_sent : (picks : List FilePick) (fs : List MemFile) → AreFilesSent picks fs → IsChanceFree IsChunkOf (held fs) (picked_dirs (held fs) picks)
+free_where_sent : (picks : List FilePick) (fs : List MemFile) → AreFilesSent picks fs → IsChanceFree IsChunkOf (files_held fs) (picked_dirs (files_held fs) picks)
 free_where_sent picks fs all p f bytes at size is left chunk =
     let m = held_sent picks fs p f all is in
     let left_is : picked (Some f) (tail_of picks p) ≡ Some bytes = ap (λ (o : Option File). picked o (tail_of picks p)) (sym is) ∙ left in
@@ -58,21 +58,21 @@ free_where_sent picks fs all p f bytes at size is left chunk =
     subst (λ (g : File). take size (drop at bytes) ≡ take size (drop at g.sent)) (sym m.2) (m.3 bytes left_there at size chunk_there)
 
 -- what holds of each file that is held holds of each of the list
-sent_each : (picks : List FilePick) (fs : List MemFile) → Ascend fs → ((m : MemFile) → held fs (segment m.side m.name) ≡ Some (file_of m) → IsFileSent picks m) → AreFilesSent picks fs
+sent_each : (picks : List FilePick) (fs : List MemFile) → Ascend fs → ((m : MemFile) → files_held fs (segment m.side m.name) ≡ Some (file_of m) → IsFileSent picks m) → AreFilesSent picks fs
 sent_each picks [] up all = tt
 sent_each picks (x ∷ xs) up all = (all x (held_here x.side x.name x xs (refl, refl)), sent_each picks xs up.1 (λ m is. all m (behind m is)))
   where
-    behind : (m : MemFile) → held xs (segment m.side m.name) ≡ Some (file_of m) → held (x ∷ xs) (segment m.side m.name) ≡ Some (file_of m)
+    behind : (m : MemFile) → files_held xs (segment m.side m.name) ≡ Some (file_of m) → files_held (x ∷ xs) (segment m.side m.name) ≡ Some (file_of m)
     behind m is = go (is_at x.side x.name (segment m.side m.name)) refl
       where
-        go : (b : Bool) → is_at x.side x.name (segment m.side m.name) ≡ b → held (x ∷ xs) (segment m.side m.name) ≡ Some (file_of m)
+        go : (b : Bool) → is_at x.side x.name (segment m.side m.name) ≡ b → files_held (x ∷ xs) (segment m.side m.name) ≡ Some (file_of m)
         go true at =
-            let none : held xs (segment m.side m.name) ≡ None = ap (held xs) (is_at_only x.side x.name (segment m.side m.name) at) ∙ behind_absent x xs up.0 in
+            let none : files_held xs (segment m.side m.name) ≡ None = ap (files_held xs) (is_at_only x.side x.name (segment m.side m.name) at) ∙ behind_absent x xs up.0 in
             let clash : None ≡ Some (file_of m) = sym none ∙ is in cc
         go false at = held_skip x xs (segment m.side m.name) at ∙ is
 
-sent_where_free : (picks : List FilePick) (fs : List MemFile) → Ascend fs → IsChanceFree IsChunkOf (held fs) (picked_dirs (held fs) picks) → AreFilesSent picks fs
+sent_where_free : (picks : List FilePick) (fs : List MemFile) → Ascend fs → IsChanceFree IsChunkOf (files_held fs) (picked_dirs (files_held fs) picks) → AreFilesSent picks fs
 sent_where_free picks fs up free = sent_each picks fs up (λ m is bytes left at size chunk. free (segment m.side m.name) (file_of m) bytes at size is (ap (λ (o : Option File). picked o (tail_of picks (segment m.side m.name))) is ∙ left) chunk)
 
-pub free_iff_sent : (picks : List FilePick) (fs : List MemFile) → IsOrdered fs → AreFilesSent picks fs ↔ IsChanceFree IsChunkOf (held fs) (picked_dirs (held fs) picks)
+pub free_iff_sent : (picks : List FilePick) (fs : List MemFile) → AreInOrder fs → AreFilesSent picks fs ↔ IsChanceFree IsChunkOf (files_held fs) (picked_dirs (files_held fs) picks)
 free_iff_sent picks fs up = (free_where_sent picks fs, sent_where_free picks fs (ordered_open fs up))

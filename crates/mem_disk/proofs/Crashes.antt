@@ -9,18 +9,18 @@ use Rattle.disk_face.proofs.Laws.{not_before_itself}
 use Rattle.mem_disk.specs.declared.parts.MemFile.{MemFile}
 use Rattle.mem_disk.specs.declared.picks.FilePick.{FilePick}
 use Rattle.mem_disk.specs.Finite.{is_at_only}
-use Rattle.mem_disk.specs.Mem.{is_at, file_of, held, IsFor, IsOrdered}
+use Rattle.mem_disk.specs.Mem.{is_at, file_of, files_held, IsFor, AreInOrder}
 use Rattle.mem_disk.specs.Picks.{tail_of, picked, picked_dirs, whole_files}
 use Rattle.mem_disk.specs.Leaving.{IsOneMoreLeft, AreLeft}
 use Rattle.mem_disk.proofs.Held.{held_here, held_skip, before_all_same}
 use Rattle.mem_disk.proofs.Orders.{IsBeforeAll, Ascend, ordered_open, ordered_close}
 
 -- behind a file stands none of its segment
-pub behind_absent : (x : MemFile) (xs : List MemFile) → IsBeforeAll x xs → held xs (segment x.side x.name) ≡ None
+pub behind_absent : (x : MemFile) (xs : List MemFile) → IsBeforeAll x xs → files_held xs (segment x.side x.name) ≡ None
 behind_absent x [] up = refl
 behind_absent x (y ∷ ys) up = go (is_at y.side y.name (segment x.side x.name)) refl (behind_absent x ys up.1)
   where
-    go : (b : Bool) → is_at y.side y.name (segment x.side x.name) ≡ b → held ys (segment x.side x.name) ≡ None → held (y ∷ ys) (segment x.side x.name) ≡ None
+    go : (b : Bool) → is_at y.side y.name (segment x.side x.name) ≡ b → files_held ys (segment x.side x.name) ≡ None → files_held (y ∷ ys) (segment x.side x.name) ≡ None
     go true at deeper =
         let e : segment x.side x.name ≡ segment y.side y.name = is_at_only y.side y.name (segment x.side x.name) at in
         let sides : x.side ≡ y.side = cc in
@@ -52,28 +52,28 @@ left_ascend picks (f ∷ fs) ms all up = subst Ascend (sym all.4) (go all.0 (all
     go None is deeper = deeper
     go (Some m) is deeper = (before_all_same f m all.1 (sym is.0) (sym is.1) (before_left picks f fs all.1 all.3 up.0), deeper)
 
-pub left_ordered : (picks : List FilePick) (fs ms : List MemFile) → AreLeft picks fs ms → IsOrdered fs → IsOrdered ms
+pub left_ordered : (picks : List FilePick) (fs ms : List MemFile) → AreLeft picks fs ms → AreInOrder fs → AreInOrder ms
 left_ordered picks fs ms all up = ordered_close ms (left_ascend picks fs ms all (ordered_open fs up))
 
 -- what is left at each place
-left_held : (picks : List FilePick) (fs ms : List MemFile) → AreLeft picks fs ms → Ascend fs → (p : Place) → held ms p ≡ whole_files (picked_dirs (held fs) picks) p
-left_held picks [] ms all up p = ap (λ (l : List MemFile). held l p) all
-left_held picks (f ∷ fs) ms all up p = ap (λ (l : List MemFile). held l p) all.4 ∙ go (is_at f.side f.name p) refl all.0 (all.2).is_for (all.2).bytes (left_held picks fs all.1 all.3 up.1 p)
+left_held : (picks : List FilePick) (fs ms : List MemFile) → AreLeft picks fs ms → Ascend fs → (p : Place) → files_held ms p ≡ whole_files (picked_dirs (files_held fs) picks) p
+left_held picks [] ms all up p = ap (λ (l : List MemFile). files_held l p) all
+left_held picks (f ∷ fs) ms all up p = ap (λ (l : List MemFile). files_held l p) all.4 ∙ go (is_at f.side f.name p) refl all.0 (all.2).is_for (all.2).bytes (left_held picks fs all.1 all.3 up.1 p)
   where
     go : (b : Bool) → is_at f.side f.name p ≡ b → (left : Option MemFile) → IfSome left (IsFor f.side f.name) → option_map file_of left ≡ option_map whole (picked (Some (file_of f)) (tail_of picks (segment f.side f.name)))
-        → held all.1 p ≡ whole_files (picked_dirs (held fs) picks) p → held (option_to_list left ++ all.1) p ≡ whole_files (picked_dirs (held (f ∷ fs)) picks) p
+        → files_held all.1 p ≡ whole_files (picked_dirs (files_held fs) picks) p → files_held (option_to_list left ++ all.1) p ≡ whole_files (picked_dirs (files_held (f ∷ fs)) picks) p
     go true at left is bytes deeper =
         let place : p ≡ segment f.side f.name = is_at_only f.side f.name p at in
-        subst (λ (q : Place). held (option_to_list left ++ all.1) q ≡ whole_files (picked_dirs (held (f ∷ fs)) picks) q) (sym place) (here left is bytes)
+        subst (λ (q : Place). files_held (option_to_list left ++ all.1) q ≡ whole_files (picked_dirs (files_held (f ∷ fs)) picks) q) (sym place) (here left is bytes)
       where
-        none_behind : held all.1 (segment f.side f.name) ≡ None
+        none_behind : files_held all.1 (segment f.side f.name) ≡ None
         none_behind = behind_absent f all.1 (before_left picks f fs all.1 all.3 up.0)
 
-        there : held (f ∷ fs) (segment f.side f.name) ≡ Some (file_of f)
+        there : files_held (f ∷ fs) (segment f.side f.name) ≡ Some (file_of f)
         there = held_here f.side f.name f fs (refl, refl)
 
         here : (left : Option MemFile) → IfSome left (IsFor f.side f.name) → option_map file_of left ≡ option_map whole (picked (Some (file_of f)) (tail_of picks (segment f.side f.name)))
-            → held (option_to_list left ++ all.1) (segment f.side f.name) ≡ whole_files (picked_dirs (held (f ∷ fs)) picks) (segment f.side f.name)
+            → files_held (option_to_list left ++ all.1) (segment f.side f.name) ≡ whole_files (picked_dirs (files_held (f ∷ fs)) picks) (segment f.side f.name)
         here None is bytes = none_behind ∙ bytes ∙ ap (λ (o : Option File). option_map whole (picked o (tail_of picks (segment f.side f.name)))) (sym there)
         here (Some m) is bytes = held_here f.side f.name m all.1 is ∙ bytes ∙ ap (λ (o : Option File). option_map whole (picked o (tail_of picks (segment f.side f.name)))) (sym there)
     go false at None is bytes deeper = deeper ∙ ap (λ (o : Option File). option_map whole (picked o (tail_of picks p))) (sym (held_skip f fs p at))
@@ -81,5 +81,5 @@ left_held picks (f ∷ fs) ms all up p = ap (λ (l : List MemFile). held l p) al
         let skipped : is_at m.side m.name p ≡ false = rw (is.0, is.1) at in
         held_skip m all.1 p skipped ∙ deeper ∙ ap (λ (o : Option File). option_map whole (picked o (tail_of picks p))) (sym (held_skip f fs p at))
 
-pub left_files : (picks : List FilePick) (fs ms : List MemFile) → AreLeft picks fs ms → IsOrdered fs → (p : Place) → held ms p ≡ whole_files (picked_dirs (held fs) picks) p
+pub left_files : (picks : List FilePick) (fs ms : List MemFile) → AreLeft picks fs ms → AreInOrder fs → (p : Place) → files_held ms p ≡ whole_files (picked_dirs (files_held fs) picks) p
 left_files picks fs ms all up = left_held picks fs ms all (ordered_open fs up)

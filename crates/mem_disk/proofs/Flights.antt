@@ -4,7 +4,7 @@ use Rattle.std.specs.Prelude.{slice_get, IsSome}
 use Rattle.disk_face.specs.declared.OpId.{OpId}
 use Rattle.disk_face.specs.View.{Flight, segment}
 use Rattle.mem_disk.specs.declared.parts.MemOp.{MemOp}
-use Rattle.mem_disk.specs.Mem.{side_eq, flight_if, flight_in, live_in, act_of}
+use Rattle.mem_disk.specs.Mem.{side_eq, flight_if, flight_in, live_in, act_in_memory}
 use Rattle.mem_disk.specs.Finite.{side_eq_only, both_left, both_right}
 
 pub live_set : (ops : List MemOp) (i : ℕ) (x y : MemOp) → slice_get ops i ≡ Some x → x.live ≡ true → y.live ≡ false → live_in (slice_set ops i y) + 1 ≡ live_in ops
@@ -37,7 +37,7 @@ pub record Live (ops : List MemOp) (id : OpId) (x : MemOp) : Type 0 where
   pub at : slice_get ops id.number ≡ Some x
   pub live : x.live ≡ true
   pub side : x.side ≡ id.side
-  pub flight : flight_in ops id ≡ Some (record { place = segment x.side x.name; act = act_of x.act })
+  pub flight : flight_in ops id ≡ Some (record { place = segment x.side x.name; act = act_in_memory x.act })
 
 pub live_of : (ops : List MemOp) (id : OpId) → IsSome (flight_in ops id) → (x : MemOp) × Live ops id x
 live_of ops id flies = go (slice_get ops id.number) refl
@@ -47,7 +47,7 @@ live_of ops id flies = go (slice_get ops id.number) refl
       at = e;
       live = both_left _ _ t;
       side = side_eq_only x.side id.side (both_right _ _ t);
-      flight = ap (flight_if id) e ∙ (let z : flight_if id (Some x) ≡ Some (record { place = segment x.side x.name; act = act_of x.act }) = rw t refl in z);
+      flight = ap (flight_if id) e ∙ (let z : flight_if id (Some x) ≡ Some (record { place = segment x.side x.name; act = act_in_memory x.act }) = rw t refl in z);
     }
     on x e false t = let z : flight_if id (Some x) ≡ None = rw t refl in let none : IsSome {T = Flight} None = subst IsSome (ap (flight_if id) e ∙ z) flies in cc
 

@@ -8,7 +8,7 @@ use Rattle.disk_face.specs.Calls.{fresh}
 use Rattle.disk_face.specs.Listing.{IsBefore}
 use Rattle.mem_disk.specs.declared.parts.MemFile.{MemFile}
 use Rattle.mem_disk.specs.Finite.{is_at_self, is_at_only}
-use Rattle.mem_disk.specs.Mem.{is_at, file_of, held, index_at, IsFor, FoundAt, ChangesAt, IsUncreated}
+use Rattle.mem_disk.specs.Mem.{is_at, file_of, files_held, index_at, IsFor, FoundAt, ChangesAt, IsUncreated}
 use Rattle.mem_disk.proofs.Orders.{IsBeforeAll, ordered_open, ordered_close}
 
 pub is_at_other : (side : Side) (name : SegName) (q : Place) → q ≢ segment side name → is_at side name q ≡ false
@@ -18,17 +18,17 @@ is_at_other side name q ne = go (is_at side name q) refl
     go true e = absurd (ne (is_at_only side name q e))
     go false e = refl
 
-pub held_here : (side : Side) (name : SegName) (m : MemFile) (ms : List MemFile) → IsFor side name m → held (m ∷ ms) (segment side name) ≡ Some (file_of m)
+pub held_here : (side : Side) (name : SegName) (m : MemFile) (ms : List MemFile) → IsFor side name m → files_held (m ∷ ms) (segment side name) ≡ Some (file_of m)
 held_here side name m ms is =
     let at : is_at m.side m.name (segment side name) ≡ true = subst (λ (s : Side). is_at s m.name (segment side name) ≡ true) (sym is.0) (subst (λ (n : SegName). is_at side n (segment side name) ≡ true) (sym is.1) (is_at_self side name)) in
     rw at refl
 
-pub held_other : (side : Side) (name : SegName) (m : MemFile) (ms : List MemFile) → IsFor side name m → (q : Place) → q ≢ segment side name → held (m ∷ ms) q ≡ held ms q
+pub held_other : (side : Side) (name : SegName) (m : MemFile) (ms : List MemFile) → IsFor side name m → (q : Place) → q ≢ segment side name → files_held (m ∷ ms) q ≡ files_held ms q
 held_other side name m ms is q ne =
     let at : is_at m.side m.name q ≡ false = subst (λ (s : Side). is_at s m.name q ≡ false) (sym is.0) (subst (λ (n : SegName). is_at side n q ≡ false) (sym is.1) (is_at_other side name q ne)) in
     rw at refl
 
-pub held_skip : (m : MemFile) (ms : List MemFile) (q : Place) → is_at m.side m.name q ≡ false → held (m ∷ ms) q ≡ held ms q
+pub held_skip : (m : MemFile) (ms : List MemFile) (q : Place) → is_at m.side m.name q ≡ false → files_held (m ∷ ms) q ≡ files_held ms q
 held_skip m ms q at = rw at refl
 
 is_for_at : (side : Side) (name : SegName) (m : MemFile) → is_at m.side m.name (segment side name) ≡ true → IsFor side name m
@@ -38,7 +38,7 @@ unsuc_option : (o : Option ℕ) (i : ℕ) → option_map suc o ≡ Some i → (j
 unsuc_option None i e = cc
 unsuc_option (Some j) i e = (j, refl, cc)
 
-pub set_others_same : (side : Side) (name : SegName) (f m : MemFile) (fs ms : List MemFile) (q : Place) → held ms q ≡ held fs q → held (f ∷ ms) q ≡ held (f ∷ fs) q
+pub set_others_same : (side : Side) (name : SegName) (f m : MemFile) (fs ms : List MemFile) (q : Place) → files_held ms q ≡ files_held fs q → files_held (f ∷ ms) q ≡ files_held (f ∷ fs) q
 set_others_same side name f m fs ms q e = ap (λ (o : Option File). cond (is_at f.side f.name q) (Some (file_of f)) o) e
 
 -- a file of the same segment stands before the same files
@@ -88,7 +88,7 @@ module _ (side : Side) (name : SegName) where
           let j = unsuc_option (index_at (segment side name) fs) i z in
           subst (λ (k : ℕ). FoundAt side name (f ∷ fs) k) (sym j.2) (found_later f fs j.0 at (deeper j.0 j.1))
 
-  pub absent : (fs : List MemFile) → index_at (segment side name) fs ≡ None → held fs (segment side name) ≡ None
+  pub absent : (fs : List MemFile) → index_at (segment side name) fs ≡ None → files_held fs (segment side name) ≡ None
   absent [] e = refl
   absent (f ∷ fs) e = go (is_at f.side f.name (segment side name)) refl (absent fs)
     where
@@ -96,7 +96,7 @@ module _ (side : Side) (name : SegName) where
       none_suc None h = refl
       none_suc (Some j) h = cc
 
-      go : (b : Bool) → is_at f.side f.name (segment side name) ≡ b → (index_at (segment side name) fs ≡ None → held fs (segment side name) ≡ None) → held (f ∷ fs) (segment side name) ≡ None
+      go : (b : Bool) → is_at f.side f.name (segment side name) ≡ b → (index_at (segment side name) fs ≡ None → files_held fs (segment side name) ≡ None) → files_held (f ∷ fs) (segment side name) ≡ None
       go true at deeper = let z : ◌≡◌ {A = Option ℕ} (Some 0) None = rw at at e in cc
       go false at deeper = held_skip f fs (segment side name) at ∙ deeper (none_suc _ (rw at at e))
 
@@ -105,16 +105,16 @@ pub found_some : (side : Side) (name : SegName) (fs : List MemFile) (o : Option 
 found_some side name fs None e = tt
 found_some side name fs (Some i) e = found side name fs i (sym e)
 
-pub found_none : (side : Side) (name : SegName) (fs : List MemFile) (o : Option ℕ) → o ≡ index_at (segment side name) fs → IfNone o (held fs (segment side name) ≡ None)
+pub found_none : (side : Side) (name : SegName) (fs : List MemFile) (o : Option ℕ) → o ≡ index_at (segment side name) fs → IfNone o (files_held fs (segment side name) ≡ None)
 found_none side name fs None e = absent side name fs (sym e)
 found_none side name fs (Some i) e = tt
 
 -- a file that is held is the file of a record
-pub held_made : (fs : List MemFile) (p : Place) (f : File) → held fs p ≡ Some f → (m : MemFile) × (f ≡ file_of m)
+pub held_made : (fs : List MemFile) (p : Place) (f : File) → files_held fs p ≡ Some f → (m : MemFile) × (f ≡ file_of m)
 held_made [] p f e = cc
 held_made (m ∷ fs) p f e = go (is_at m.side m.name p) refl (held_made fs p f)
   where
-    go : (b : Bool) → is_at m.side m.name p ≡ b → (held fs p ≡ Some f → (n : MemFile) × (f ≡ file_of n)) → (n : MemFile) × (f ≡ file_of n)
+    go : (b : Bool) → is_at m.side m.name p ≡ b → (files_held fs p ≡ Some f → (n : MemFile) × (f ≡ file_of n)) → (n : MemFile) × (f ≡ file_of n)
     go true at deeper = let z : Some (file_of m) ≡ Some f = rw at at e in (m, cc)
     go false at deeper = deeper (rw at at e)
 
@@ -125,16 +125,16 @@ fresh_of m e = go m.created refl
     go true at = let z : true ≡ false = rw at at e in cc
     go false at = rw at refl
 
-pub held_fresh : (fs : List MemFile) (p : Place) (f : File) → held fs p ≡ Some f → f.created ≡ false → f ≡ fresh
+pub held_fresh : (fs : List MemFile) (p : Place) (f : File) → files_held fs p ≡ Some f → f.created ≡ false → f ≡ fresh
 held_fresh fs p f e not_yet = let m = held_made fs p f e in m.1 ∙ fresh_of m.0 (ap (λ (g : File). g.created) (sym m.1) ∙ not_yet)
 
 module _ (side : Side) (name : SegName) (fs : List MemFile) where
-  pub still_fresh : (f : File) → held fs (segment side name) ≡ Some f → IsUncreated (held fs (segment side name)) → ChangesAt (segment side name) (λ f g. g ≡ Some fresh) (held fs) (held fs)
+  pub still_fresh : (f : File) → files_held fs (segment side name) ≡ Some f → IsUncreated (files_held fs (segment side name)) → ChangesAt (segment side name) (λ f g. g ≡ Some fresh) (files_held fs) (files_held fs)
   still_fresh f e not_yet = record {
     here = e ∙ ap Some (held_fresh fs (segment side name) f e (subst IsUncreated e not_yet));
     others = λ q ne. refl;
   }
 
-pub still_fresh_at : (side : Side) (name : SegName) (fs : List MemFile) (i : ℕ) → FoundAt side name fs i → IsUncreated (held fs (segment side name)) → ChangesAt (segment side name) (λ f g. g ≡ Some fresh) (held fs) (held fs)
+pub still_fresh_at : (side : Side) (name : SegName) (fs : List MemFile) (i : ℕ) → FoundAt side name fs i → IsUncreated (files_held fs (segment side name)) → ChangesAt (segment side name) (λ f g. g ≡ Some fresh) (files_held fs) (files_held fs)
 still_fresh_at side name [] i at not_yet = absurd (let h = at.below in omega arith)
 still_fresh_at side name (f ∷ fs) i at not_yet = still_fresh side name (f ∷ fs) (file_of (slice_index_or (f ∷ fs) i f)) (at.here f) not_yet

@@ -12,7 +12,7 @@ use Rattle.disk_face.specs.Listing.{IsBefore, IsAscending, AreSegmentNames, IsSe
 use Rattle.disk_face.proofs.Laws.{not_before_itself, Contains-head, Contains-later, Contains-cons}
 use Rattle.mem_disk.specs.declared.parts.MemFile.{MemFile}
 use Rattle.mem_disk.specs.Finite.{side_eq_self, side_eq_only, both_left, both_right, is_at_self, is_at_only}
-use Rattle.mem_disk.specs.Mem.{side_eq, is_at, file_of, held, IsOrdered, is_named, listed_of}
+use Rattle.mem_disk.specs.Mem.{side_eq, is_at, file_of, files_held, AreInOrder, is_named, listed_of}
 use Rattle.mem_disk.proofs.Orders.{IsBeforeAll, Ascend, ordered_open}
 use Rattle.mem_disk.proofs.Held.{held_skip}
 
@@ -42,11 +42,11 @@ pairs_none : {X : Type 0} (R : X → X → Type 0) → AllPairs R []
 pairs_none R i j d before below = absurd (omega arith)
 
 -- where a file stands before all others, none of them is of its segment
-before_all_absent : (m : MemFile) (ms : List MemFile) → IsBeforeAll m ms → held ms (segment m.side m.name) ≡ None
+before_all_absent : (m : MemFile) (ms : List MemFile) → IsBeforeAll m ms → files_held ms (segment m.side m.name) ≡ None
 before_all_absent m [] h = refl
 before_all_absent m (x ∷ xs) h = go (is_at x.side x.name (segment m.side m.name)) refl (before_all_absent m xs h.1)
   where
-    go : (b : Bool) → is_at x.side x.name (segment m.side m.name) ≡ b → held xs (segment m.side m.name) ≡ None → held (x ∷ xs) (segment m.side m.name) ≡ None
+    go : (b : Bool) → is_at x.side x.name (segment m.side m.name) ≡ b → files_held xs (segment m.side m.name) ≡ None → files_held (x ∷ xs) (segment m.side m.name) ≡ None
     go true at deeper =
         let e : segment m.side m.name ≡ segment x.side x.name = is_at_only x.side x.name (segment m.side m.name) at in
         let s : m.side ≡ x.side = cc in
@@ -54,12 +54,12 @@ before_all_absent m (x ∷ xs) h = go (is_at x.side x.name (segment m.side m.nam
         absurd (not_before_itself m.name x.name (h.0 s) n)
     go false at deeper = held_skip x xs (segment m.side m.name) at ∙ deeper
 
-later_held : (m : MemFile) (ms : List MemFile) (q : Place) (f : File) → IsBeforeAll m ms → held ms q ≡ Some f → held (m ∷ ms) q ≡ Some f
+later_held : (m : MemFile) (ms : List MemFile) (q : Place) (f : File) → IsBeforeAll m ms → files_held ms q ≡ Some f → files_held (m ∷ ms) q ≡ Some f
 later_held m ms q f before is = go (is_at m.side m.name q) refl
   where
-    go : (b : Bool) → is_at m.side m.name q ≡ b → held (m ∷ ms) q ≡ Some f
+    go : (b : Bool) → is_at m.side m.name q ≡ b → files_held (m ∷ ms) q ≡ Some f
     go true at =
-        let none : held ms q ≡ None = ap (held ms) (is_at_only m.side m.name q at) ∙ before_all_absent m ms before in
+        let none : files_held ms q ≡ None = ap (files_held ms) (is_at_only m.side m.name q at) ∙ before_all_absent m ms before in
         let clash : None ≡ Some f = sym none ∙ is in cc
     go false at = held_skip m ms q at ∙ is
 
@@ -78,7 +78,7 @@ of_made m h = go m.created refl
     go false e = let z : false ≡ true = rw e at h in cc
 
 abbrev Has : List MemFile → Side → Listed → Type 0
-Has fs side item = IsSegmentName item.name × HasLength (held fs) (segment side item.name) item.len
+Has fs side item = IsSegmentName item.name × HasLength (files_held fs) (segment side item.name) item.len
 
 -- the listing of one file more, where the rest has its own
 has_more : (side : Side) (m : MemFile) (ms : List MemFile) (item : Listed) → IsBeforeAll m ms → Has ms side item → Has (m ∷ ms) side item
@@ -90,7 +90,7 @@ has_first side m ms item e is =
     let rest : (side_eq m.side side && is_named m.name) ≡ true = both_right m.created _ e in
     let s : m.side ≡ side = side_eq_only m.side side (both_left _ _ rest) in
     let at : is_at m.side m.name (segment side m.name) ≡ true = subst (λ (t : Side). is_at m.side m.name (segment t m.name) ≡ true) s (is_at_self m.side m.name) in
-    let here : held (m ∷ ms) (segment side m.name) ≡ Some (file_of m) = rw at refl in
+    let here : files_held (m ∷ ms) (segment side m.name) ≡ Some (file_of m) = rw at refl in
     subst (Has (m ∷ ms) side) is (named_true m.name (both_right (side_eq m.side side) _ rest), (file_of m, here, made_of m made, reads_of m made))
 
 listed_has : (side : Side) (fs : List MemFile) → Ascend fs → (item : Listed) → Contains (listed_of side fs) item → Has fs side item
@@ -134,7 +134,7 @@ has_listed side (m ∷ ms) item h = go (is_at m.side m.name (segment side item.n
     go false at true e deeper = subst (λ (l : List Listed). Contains l item) (sym (list_yes side m ms e)) (Contains-later (item_of m) item (listed_of side ms) (deeper (rest at)))
     go false at false e deeper = subst (λ (l : List Listed). Contains l item) (sym (list_no side m ms e)) (deeper (rest at))
 
-pub listing_of : (side : Side) (fs : List MemFile) → IsOrdered fs → IsListing (held fs) side (listed_of side fs)
+pub listing_of : (side : Side) (fs : List MemFile) → AreInOrder fs → IsListing (files_held fs) side (listed_of side fs)
 listing_of side fs up item = (listed_has side fs (ordered_open fs up) item, has_listed side fs item)
 
 -- the order of the listing
@@ -158,7 +158,7 @@ listing_ascends side (m ∷ ms) up = go (is_listed side m) refl (listing_ascends
         subst IsAscending (sym (list_yes side m ms e)) (AllPairs-cons (λ a b. IsBefore a.name b.name) (item_of m) (listed_of side ms) (before_all_listed side m ms s up.0) deeper)
     go false e deeper = subst IsAscending (sym (list_no side m ms e)) deeper
 
-pub listing_up : (side : Side) (fs : List MemFile) → IsOrdered fs → IsAscending (listed_of side fs)
+pub listing_up : (side : Side) (fs : List MemFile) → AreInOrder fs → IsAscending (listed_of side fs)
 listing_up side fs up = listing_ascends side fs (ordered_open fs up)
 
 pub listing_named : (side : Side) (fs : List MemFile) → AreSegmentNames (listed_of side fs)

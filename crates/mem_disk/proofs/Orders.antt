@@ -7,7 +7,7 @@ use Rattle.disk_face.specs.declared.SegName.{SegName}
 use Rattle.disk_face.specs.Listing.{IsBefore}
 use Rattle.mem_disk.specs.declared.parts.MemFile.{MemFile}
 use Rattle.mem_disk.specs.Finite.{side_eq_self, side_eq_only, both_left, both_right}
-use Rattle.mem_disk.specs.Mem.{side_eq, is_before, is_before_all, IsOrdered}
+use Rattle.mem_disk.specs.Mem.{side_eq, is_before, is_before_all, AreInOrder}
 
 -- of two files of one side the first stands before the second one, by their names
 abbrev pub StandsBefore : MemFile → MemFile → Type 0
@@ -60,10 +60,10 @@ before_all_close : (m : MemFile) (fs : List MemFile) → IsBeforeAll m fs → is
 before_all_close m [] h = refl
 before_all_close m (x ∷ xs) h = rw (stands_close m x h.0) (before_all_close m xs h.1)
 
-pub ordered_open : (fs : List MemFile) → IsOrdered fs → Ascend fs
+pub ordered_open : (fs : List MemFile) → AreInOrder fs → Ascend fs
 ordered_open [] e = tt
 ordered_open (m ∷ ms) e = (before_all_open m ms (both_left _ _ e), ordered_open ms (both_right _ _ e))
 
-pub ordered_close : (fs : List MemFile) → Ascend fs → IsOrdered fs
+pub ordered_close : (fs : List MemFile) → Ascend fs → AreInOrder fs
 ordered_close [] h = refl
 ordered_close (m ∷ ms) h = rw (before_all_close m ms h.0) (ordered_close ms h.1)

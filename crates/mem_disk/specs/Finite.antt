@@ -9,7 +9,7 @@ use Rattle.disk_face.specs.View.{Place, segment, table, File, Files, Call, IsFin
 use Rattle.mem_disk.specs.declared.parts.MemFile.{MemFile}
 use Rattle.mem_disk.specs.declared.parts.MemOp.{MemOp}
 use Rattle.mem_disk.specs.declared.parts.Undo.{Undo}
-use Rattle.mem_disk.specs.Mem.{side_eq, is_at, file_of, held, was_of, all_undone, mem_view}
+use Rattle.mem_disk.specs.Mem.{side_eq, is_at, file_of, files_held, was_of, all_undone, mem_view}
 use Rattle.disk_face.specs.Image.{IsSoundFile, IsSound}
 use Rattle.disk_face.specs.Calls.{fresh}
 
@@ -56,11 +56,11 @@ places_of (m ∷ ms) = segment m.side m.name ∷ places_of ms
 later : (q p : Place) (ps : List Place) → Contains ps p → Contains (q ∷ ps) p
 later q p ps at = (suc at.0, omega (arith, at.1), at.2)
 
-held_in : (fs : List MemFile) (p : Place) → IsSome (held fs p) → Contains (places_of fs) p
+held_in : (fs : List MemFile) (p : Place) → IsSome (files_held fs p) → Contains (places_of fs) p
 held_in [] p is = let none : false ≡ true = is in cc
 held_in (m ∷ ms) p is = go (is_at m.side m.name p) refl (held_in ms p)
   where
-    go : (b : Bool) → is_at m.side m.name p ≡ b → (IsSome (held ms p) → Contains (places_of ms) p) → Contains (places_of (m ∷ ms)) p
+    go : (b : Bool) → is_at m.side m.name p ≡ b → (IsSome (files_held ms p) → Contains (places_of ms) p) → Contains (places_of (m ∷ ms)) p
     go true at deeper = (0, omega arith, sym (is_at_only m.side m.name p at))
     go false at deeper = later (segment m.side m.name) p (places_of ms) (deeper (rw at at is))
 
@@ -75,7 +75,7 @@ still_some (u ∷ log) now p is = still_some log now p (go (is_at u.side u.name 
 
 pub finite_mem : (k : ℕ) (fs : List MemFile) (ops : List MemOp) (log : List Undo) (faults polls : Side → ℕ) (calls : List Call) → IsFiniteFiles ((mem_view fs ops log faults polls calls).history k)
 unfolding mem_view
-finite_mem k fs ops log faults polls calls = (places_of fs, λ p is. held_in fs p (still_some (drop k log) (held fs) p is))
+finite_mem k fs ops log faults polls calls = (places_of fs, λ p is. held_in fs p (still_some (drop k log) (files_held fs) p is))
 
 drop_all : (log : List Undo) → drop (length log) log ≡ []
 drop_all [] = refl
@@ -90,23 +90,23 @@ sound_of m = elim m.created as (λ b. IsSoundSegment (if b then record { sent = 
   | false ↦ (record { stable = omega arith; done = omega arith; reads = ([], refl) }, λ e. refl)
 ]
 
-sound_held : (fs : List MemFile) (p : Place) (f : File) → held fs p ≡ Some f → IsSoundSegment f
+sound_held : (fs : List MemFile) (p : Place) (f : File) → files_held fs p ≡ Some f → IsSoundSegment f
 sound_held [] p f is = cc
 sound_held (m ∷ ms) p f is = go (is_at m.side m.name p) refl (sound_held ms p f)
   where
-    go : (b : Bool) → is_at m.side m.name p ≡ b → (held ms p ≡ Some f → IsSoundSegment f) → IsSoundSegment f
+    go : (b : Bool) → is_at m.side m.name p ≡ b → (files_held ms p ≡ Some f → IsSoundSegment f) → IsSoundSegment f
     go true at deeper = let z : Some (file_of m) ≡ Some f = rw at at is in let f_is : file_of m ≡ f = cc in subst IsSoundSegment f_is (sound_of m)
     go false at deeper = deeper (rw at at is)
 
 -- no table is held
-pub no_table : (fs : List MemFile) (n : ℕ) → held fs (table n) ≡ None
+pub no_table : (fs : List MemFile) (n : ℕ) → files_held fs (table n) ≡ None
 no_table [] n = refl
 no_table (m ∷ ms) n = no_table ms n
 
-sound_at : (fs : List MemFile) (p : Place) (f : File) → held fs p ≡ Some f → IsSound p f
+sound_at : (fs : List MemFile) (p : Place) (f : File) → files_held fs p ≡ Some f → IsSound p f
 sound_at fs (segment s n) f is = sound_held fs (segment s n) f is
 sound_at fs (table n) f is = let clash : None ≡ Some f = sym (no_table fs n) ∙ is in cc
 
 pub sound_mem : (fs : List MemFile) (ops : List MemOp) (log : List Undo) (faults polls : Side → ℕ) (calls : List Call) (p : Place) (f : File) → files (mem_view fs ops log faults polls calls) p ≡ Some f → IsSound p f
 unfolding mem_view
-sound_mem fs ops log faults polls calls p f is = sound_at fs p f (subst (λ (l : List Undo). all_undone l (held fs) p ≡ Some f) (drop_all log) is)
+sound_mem fs ops log faults polls calls p f is = sound_at fs p f (subst (λ (l : List Undo). all_undone l (files_held fs) p ≡ Some f) (drop_all log) is)

@@ -23,20 +23,20 @@ abbrev pub file_of : MemFile → File
 file_of f = if f.created then record { sent = f.sent.items; done = f.done; stable = f.stable; created = true; leaving = false; reads = take f.done f.sent.items } else fresh
 
 -- the files, each at its place
-abbrev pub held : List MemFile → Files
-held [] p = None
-held (f ∷ fs) p = if is_at f.side f.name p then Some (file_of f) else held fs p
+abbrev pub files_held : List MemFile → Files
+files_held [] p = None
+files_held (f ∷ fs) p = if is_at f.side f.name p then Some (file_of f) else files_held fs p
 
 -- what the operation does, in the words of a disk
-abbrev pub act_of : MemAct → Act
-act_of Create = creating
-act_of Write = writing
-act_of Sync = syncing
+abbrev pub act_in_memory : MemAct → Act
+act_in_memory Create = creating
+act_in_memory Write = writing
+act_in_memory Sync = syncing
 
 -- the operation of that number, while it is in flight
 abbrev pub flight_if : OpId → Option MemOp → Option Flight
 flight_if id None = None
-flight_if id (Some op) = if op.live && side_eq op.side id.side then Some (record { place = segment op.side op.name; act = act_of op.act }) else None
+flight_if id (Some op) = if op.live && side_eq op.side id.side then Some (record { place = segment op.side op.name; act = act_in_memory op.act }) else None
 
 -- the operations in flight
 abbrev pub flight_in : List MemOp → OpId → Option Flight
@@ -71,7 +71,7 @@ all_undone (u ∷ us) files = undone u (all_undone us files)
 -- what the disk means
 unfoldable pub mem_view : List MemFile → List MemOp → List Undo → (Side → ℕ) → (Side → ℕ) → List Call → DiskView
 mem_view files ops log faults polls calls =
-    record { faults = faults; polls_left = polls; in_flight = flight_in ops; clock = length log; history = λ k. all_undone (drop k log) (held files); calls = calls }
+    record { faults = faults; polls_left = polls; in_flight = flight_in ops; clock = length log; history = λ k. all_undone (drop k log) (files_held files); calls = calls }
 
 -- how many operations are in flight
 abbrev pub live_in : List MemOp → ℕ
@@ -98,8 +98,8 @@ is_ordered [] = true
 is_ordered (m ∷ ms) = is_before_all m ms && is_ordered ms
 
 -- each file stands before all later ones of its side
-abbrev pub IsOrdered : List MemFile → Type 0
-IsOrdered fs = is_ordered fs ≡ true
+abbrev pub AreInOrder : List MemFile → Type 0
+AreInOrder fs = is_ordered fs ≡ true
 
 -- whether a file of that segment goes before this one
 abbrev pub goes_before : Side → SegName → MemFile → Bool
@@ -131,10 +131,10 @@ IsFor side name m = (m.side ≡ side) × (m.name ≡ name)
 pub record FoundAt (side : Side) (name : SegName) (fs : List MemFile) (i : ℕ) : Type 0 where
   pub below : i < length fs
   pub is_for : (d : MemFile) → IsFor side name (slice_index_or fs i d)
-  pub here : (d : MemFile) → held fs (segment side name) ≡ Some (file_of (slice_index_or fs i d))
-  pub set_here : (m : MemFile) → IsFor side name m → held (slice_set fs i m) (segment side name) ≡ Some (file_of m)
-  pub set_others : (m : MemFile) → IsFor side name m → (q : Place) → q ≢ segment side name → held (slice_set fs i m) q ≡ held fs q
-  pub set_ordered : (m : MemFile) → IsFor side name m → IsOrdered fs → IsOrdered (slice_set fs i m)
+  pub here : (d : MemFile) → files_held fs (segment side name) ≡ Some (file_of (slice_index_or fs i d))
+  pub set_here : (m : MemFile) → IsFor side name m → files_held (slice_set fs i m) (segment side name) ≡ Some (file_of m)
+  pub set_others : (m : MemFile) → IsFor side name m → (q : Place) → q ≢ segment side name → files_held (slice_set fs i m) q ≡ files_held fs q
+  pub set_ordered : (m : MemFile) → IsFor side name m → AreInOrder fs → AreInOrder (slice_set fs i m)
 
 -- no file is created there
 abbrev pub IsUncreated : Option File → Type 0

@@ -3,7 +3,7 @@
 ghost use Rattle.std.specs.Prelude.{◌≡◌, ◌↔◌, ℕ, ◌+◌, ◌<◌, ◌≤◌, ◌^◌, length, take, drop, IfOk, IfSome, IfNone, IsTrue};
 ghost use Rattle.disk_face.specs.Image.{IsChanceFree};
 ghost use Rattle.crc_chunk.specs.Chunk.{IsChunkOf};
-ghost use Rattle.mem_disk.specs.Mem.{held, IsOrdered};
+ghost use Rattle.mem_disk.specs.Mem.{files_held, AreInOrder};
 ghost use Rattle.mem_disk.specs.Picks.{picked_dirs};
 ghost use Rattle.mem_disk.specs.Sent.{IsSentAt, AreChunksSent, IsFileSent, AreFilesSent};
 
@@ -90,8 +90,8 @@ pub fn is_chance_free(
     files: &[MemFile],
     picks: &[FilePick],
 ) -> Result<bool, NoMemory>
-    requires ordered { IsOrdered files.now }
-    ensures { IfOk result (λ free. IsTrue free ↔ IsChanceFree IsChunkOf (held files.now) (picked_dirs (held files.now) picks.now)) }
+    requires ordered { AreInOrder files.now }
+    ensures { IfOk result (λ free. IsTrue free ↔ IsChanceFree IsChunkOf (files_held files.now) (picked_dirs (files_held files.now) picks.now)) }
 {
     are_files_sent(alloc, files, picks)
 }

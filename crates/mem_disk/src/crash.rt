@@ -2,7 +2,7 @@
 
 ghost use Rattle.std.specs.Prelude.{◌≡◌, IfOk, OnOk};
 ghost use Rattle.disk_face.specs.View.{Place};
-ghost use Rattle.mem_disk.specs.Mem.{held, IsOrdered};
+ghost use Rattle.mem_disk.specs.Mem.{files_held, AreInOrder};
 ghost use Rattle.mem_disk.specs.Picks.{picked_dirs, whole_files};
 ghost use Rattle.mem_disk.specs.Leaving.{IsLeft, IsOneMoreLeft, AreLeft};
 
@@ -68,9 +68,9 @@ pub fn files_left(
     files: Vec<MemFile>,
     picks: &[FilePick],
 ) -> Result<Vec<MemFile>, NoMemory>
-    requires ordered { IsOrdered files.items }
-    ensures files { IfOk result (λ left. (p : Place) → held left.items p ≡ whole_files (picked_dirs (held files.items) picks.now) p) }
-    ensures ordered { IfOk result (λ left. IsOrdered left.items) }
+    requires ordered { AreInOrder files.items }
+    ensures files { IfOk result (λ left. (p : Place) → files_held left.items p ≡ whole_files (picked_dirs (files_held files.items) picks.now) p) }
+    ensures ordered { IfOk result (λ left. AreInOrder left.items) }
 {
     all_left(alloc, files, picks)
 }

@@ -3,9 +3,9 @@
 ghost use Rattle.std.specs.Prelude.{◌≡◌, ◌+◌, ◌≤◌, ◌<◌, length, drop, OnOk, OnErr, IfOk, IfNone, IfSome, Some, None};
 ghost use Rattle.disk_face.specs.View.{segment, File};
 ghost use Rattle.disk_face.specs.Image.{as_read, as_sent};
-ghost use Rattle.disk_face.specs.Calls.{AfterDone, MayStart, flight_of, place_of, bytes_of, after_start, fresh, FillsFrom};
+ghost use Rattle.disk_face.specs.Calls.{AfterDone, MayStart, flight_of, place_of, bytes_sent_by, after_start, fresh, FillsFrom};
 ghost use Rattle.disk_face.specs.Tables.{whole};
-ghost use Rattle.mem_disk.specs.Mem.{held, file_of, is_at, index_at, undo_at, act_of, ChangesAt, FoundAt, IsUncreated, IsCreated, IsExtended, IsOrdered};
+ghost use Rattle.mem_disk.specs.Mem.{files_held, file_of, is_at, index_at, undo_at, act_in_memory, ChangesAt, FoundAt, IsUncreated, IsCreated, IsExtended, AreInOrder};
 
 use crate::order::{insert_file, is_side};
 use crate::parts::{MemAct, MemFile, Undo};
@@ -32,7 +32,7 @@ fn first_at(files: &[MemFile], side: Side, name: SegName) -> Option<usize>
 
 /// Where the file of that segment stands.
 pub fn find(files: &[MemFile], side: Side, name: SegName) -> Option<usize>
-    ensures none { IfNone result (held files.now (segment side name) ≡ None) }
+    ensures none { IfNone result (files_held files.now (segment side name) ≡ None) }
     ensures some { IfSome result (FoundAt side name files.now) }
 {
     first_at(files, side, name)
@@ -40,7 +40,7 @@ pub fn find(files: &[MemFile], side: Side, name: SegName) -> Option<usize>
 
 /// What takes the next change of this file back.
 pub fn undo_of(files: &Vec<MemFile>, side: Side, name: SegName) -> Undo
-    ensures { result ≡ undo_at side name (held files.now.items (segment side name)) }
+    ensures { result ≡ undo_at side name (files_held files.now.items (segment side name)) }
 {
     let mut undo = Undo {
         side,
@@ -67,8 +67,8 @@ pub fn undo_of(files: &Vec<MemFile>, side: Side, name: SegName) -> Undo
 
 /// The operation on this file is done.
 pub fn settle(files: &mut Vec<MemFile>, side: Side, name: SegName, act: MemAct)
-    ensures changes { ChangesAt (segment side name) (AfterDone (act_of act)) (held files.old.items) (held files.new.items) }
-    ensures ordered { IsOrdered files.old.items → IsOrdered files.new.items }
+    ensures changes { ChangesAt (segment side name) (AfterDone (act_in_memory act)) (files_held files.old.items) (files_held files.new.items) }
+    ensures ordered { AreInOrder files.old.items → AreInOrder files.new.items }
 {
     let Some(at) = find(files, side, name) else {
         return;
@@ -94,10 +94,10 @@ pub fn settle(files: &mut Vec<MemFile>, side: Side, name: SegName, act: MemAct)
 
 /// Starts an operation: what it does to the files at once.
 pub fn begin(alloc: Global, files: &mut Vec<MemFile>, op: DiskOp<'_>) -> Result<(), NoMemory>
-    requires { MayStart (flight_of op).act (held files.old.items (place_of op)) }
-    ensures ok { OnOk result (ChangesAt (place_of op.entry) (λ f g. g ≡ after_start (flight_of op.entry).act (bytes_of op.entry) f) (held files.old.items) (held files.new.items)) }
-    ensures err { OnErr result (held files.new.items ≡ held files.old.items) }
-    ensures ordered { IsOrdered files.old.items → IsOrdered files.new.items }
+    requires { MayStart (flight_of op).act (files_held files.old.items (place_of op)) }
+    ensures ok { OnOk result (ChangesAt (place_of op.entry) (λ f g. g ≡ after_start (flight_of op.entry).act (bytes_sent_by op.entry) f) (files_held files.old.items) (files_held files.new.items)) }
+    ensures err { OnErr result (files_held files.new.items ≡ files_held files.old.items) }
+    ensures ordered { AreInOrder files.old.items → AreInOrder files.new.items }
 {
     match op {
         DiskOp::Create { side, name } => create(alloc, files, side, name),
@@ -112,10 +112,10 @@ fn create(
     side: Side,
     name: SegName,
 ) -> Result<(), NoMemory>
-    requires { IsUncreated (held files.old.items (segment side name)) }
-    ensures ok { OnOk result (ChangesAt (segment side name) (λ f g. g ≡ Some fresh) (held files.old.items) (held files.new.items)) }
+    requires { IsUncreated (files_held files.old.items (segment side name)) }
+    ensures ok { OnOk result (ChangesAt (segment side name) (λ f g. g ≡ Some fresh) (files_held files.old.items) (files_held files.new.items)) }
     ensures err { OnErr result (files.new.items ≡ files.old.items) }
-    ensures ordered { IsOrdered files.old.items → IsOrdered files.new.items }
+    ensures ordered { AreInOrder files.old.items → AreInOrder files.new.items }
 {
     match find(files, side, name) {
         Some(_) => Ok(()),
@@ -124,10 +124,10 @@ fn create(
 }
 
 fn add(alloc: Global, files: &mut Vec<MemFile>, side: Side, name: SegName) -> Result<(), NoMemory>
-    requires { held files.old.items (segment side name) ≡ None }
-    ensures ok { OnOk result (ChangesAt (segment side name) (λ f g. g ≡ Some fresh) (held files.old.items) (held files.new.items)) }
+    requires { files_held files.old.items (segment side name) ≡ None }
+    ensures ok { OnOk result (ChangesAt (segment side name) (λ f g. g ≡ Some fresh) (files_held files.old.items) (files_held files.new.items)) }
     ensures err { OnErr result (files.new.items ≡ files.old.items) }
-    ensures ordered { IsOrdered files.old.items → IsOrdered files.new.items }
+    ensures ordered { AreInOrder files.old.items → AreInOrder files.new.items }
 {
     let file = MemFile {
         side,
@@ -148,10 +148,10 @@ pub fn place(
     name: SegName,
     bytes: &[u8],
 ) -> Result<(), NoMemory>
-    requires { held files.old.items (segment side name) ≡ None }
-    ensures ok { OnOk result (ChangesAt (segment side name) (λ f g. g ≡ Some (whole bytes.now)) (held files.old.items) (held files.new.items)) }
+    requires { files_held files.old.items (segment side name) ≡ None }
+    ensures ok { OnOk result (ChangesAt (segment side name) (λ f g. g ≡ Some (whole bytes.now)) (files_held files.old.items) (files_held files.new.items)) }
     ensures err { OnErr result (files.new.items ≡ files.old.items) }
-    ensures ordered { IsOrdered files.old.items → IsOrdered files.new.items }
+    ensures ordered { AreInOrder files.old.items → AreInOrder files.new.items }
 {
     let sent = Vec::from_slice(alloc, bytes)?;
     let file = MemFile {
@@ -166,10 +166,10 @@ pub fn place(
 }
 
 fn extend(files: &mut [MemFile], side: Side, name: SegName, bytes: &[u8]) -> Result<(), NoMemory>
-    requires { IsCreated (held files.old (segment side name)) }
-    ensures ok { OnOk result (ChangesAt (segment side name) (IsExtended bytes.now) (held files.old) (held files.new)) }
-    ensures err { OnErr result (held files.new ≡ held files.old) }
-    ensures ordered { IsOrdered files.old → IsOrdered files.new }
+    requires { IsCreated (files_held files.old (segment side name)) }
+    ensures ok { OnOk result (ChangesAt (segment side name) (IsExtended bytes.now) (files_held files.old) (files_held files.new)) }
+    ensures err { OnErr result (files_held files.new ≡ files_held files.old) }
+    ensures ordered { AreInOrder files.old → AreInOrder files.new }
 {
     let Some(at) = find(files, side, name) else {
         return Err(NoMemory);
@@ -181,8 +181,8 @@ fn extend(files: &mut [MemFile], side: Side, name: SegName, bytes: &[u8]) -> Res
 
 /// What a read gives. `None` exactly where no file of that segment is created.
 pub fn content_of(files: &Vec<MemFile>, side: Side, name: SegName) -> Option<&[u8]>
-    ensures some { IfSome result (λ bytes. as_read (held files.now.items (segment side name)) ≡ Some bytes.now) }
-    ensures none { IfNone result (as_read (held files.now.items (segment side name)) ≡ None) }
+    ensures some { IfSome result (λ bytes. as_read (files_held files.now.items (segment side name)) ≡ Some bytes.now) }
+    ensures none { IfNone result (as_read (files_held files.now.items (segment side name)) ≡ None) }
 {
     let at = find(files, side, name)?;
     let found = &files[at];
@@ -206,8 +206,8 @@ pub fn sent_in(file: &MemFile) -> &[u8]
 
 /// What was sent. `None` exactly where no file of that segment is.
 pub fn sent_of(files: &Vec<MemFile>, side: Side, name: SegName) -> Option<&[u8]>
-    ensures some { IfSome result (λ bytes. as_sent (held files.now.items (segment side name)) ≡ Some bytes.now) }
-    ensures none { IfNone result (held files.now.items (segment side name) ≡ None) }
+    ensures some { IfSome result (λ bytes. as_sent (files_held files.now.items (segment side name)) ≡ Some bytes.now) }
+    ensures none { IfNone result (files_held files.now.items (segment side name) ≡ None) }
 {
     let at = find(files, side, name)?;
     Some(sent_in(&files[at]))
@@ -230,8 +230,8 @@ fn copy_out(content: &[u8], at: u64, buf: &mut [u8]) -> usize
 
 /// Reads from a place of a file into the front of the buffer.
 pub fn read_file(files: &Vec<MemFile>, side: Side, name: SegName, at: u64, buf: &mut [u8]) -> usize
-    ensures fills { (f : File) → held files.now.items (segment side name) ≡ Some f → FillsFrom f.reads at buf.new result }
-    ensures no_file { held files.now.items (segment side name) ≡ None → result ≡ 0 }
+    ensures fills { (f : File) → files_held files.now.items (segment side name) ≡ Some f → FillsFrom f.reads at buf.new result }
+    ensures no_file { files_held files.now.items (segment side name) ≡ None → result ≡ 0 }
     ensures within { result ≤ length buf.new }
     ensures behind { drop result buf.new ≡ drop result buf.old }
 {

@@ -2,7 +2,7 @@
 
 ghost use Rattle.std.specs.Prelude.{◌≡◌, ◌++◌, IfOk, OnOk, IsErrOf};
 ghost use Rattle.disk_face.specs.Listing.{IsAscending, AreSegmentNames, IsListing};
-ghost use Rattle.mem_disk.specs.Mem.{held, IsOrdered, listed_one, listed_of, is_named};
+ghost use Rattle.mem_disk.specs.Mem.{files_held, AreInOrder, listed_one, listed_of, is_named};
 
 use crate::order::is_side;
 use crate::parts::MemFile;
@@ -51,10 +51,10 @@ fn collect(alloc: Global, files: &[MemFile], side: Side) -> Result<Names, NoMemo
 /// The created files of one side whose names are in range, each with how many bytes a read gives.
 /// It never fails.
 pub fn list_files(alloc: Global, files: &[MemFile], side: Side) -> Result<Names, DiskErr>
-    requires ordered { IsOrdered files.now }
+    requires ordered { AreInOrder files.now }
     ensures ascending { IfOk result IsAscending }
     ensures numbers { IfOk result AreSegmentNames }
-    ensures listed { IfOk result (IsListing (held files.now) side) }
+    ensures listed { IfOk result (IsListing (files_held files.now) side) }
     ensures no_failure { IsErrOf result DiskErr.Failed → ⊥ }
 {
     let names = collect(alloc, files, side)?;

@@ -7,14 +7,14 @@ ghost use Rattle.disk_face.specs.View.{Place, File, segment, files, by_side, was
 ghost use Rattle.disk_face.specs.Image.{IsImage, IsChanceFree, IsRested, as_read, as_sent, dirs_as_read};
 ghost use Rattle.disk_face.specs.Listing.{IsAscending, AreSegmentNames, IsListing};
 ghost use Rattle.disk_face.specs.Asked.{answered};
-ghost use Rattle.disk_face.specs.Calls.{side_of, flight_of, place_of, bytes_of, MayStart, after_start, GoesOn, SameDisk, Starts, ChangesFile, Polled, FillsFrom, Stalls};
+ghost use Rattle.disk_face.specs.Calls.{side_of, flight_of, place_of, bytes_sent_by, MayStart, after_start, GoesOn, SameDisk, Starts, ChangesFile, Polled, FillsFrom, Stalls};
 ghost use Rattle.disk_face.specs.Tables.{whole};
 ghost use Rattle.wal_base.specs.Faults.{Rose};
 ghost use Rattle.crc_chunk.specs.Chunk.{IsChunkOf};
 ghost use Rattle.mem_disk.specs.Picks.{picked_dirs, whole_files};
 ghost use Rattle.mem_disk.specs.Plan.{Plan, FailsNext, after_call, after_op, AnswersAsPlanned};
 ghost use Rattle.mem_disk.specs.Finite.{finite_mem, sound_mem};
-ghost use Rattle.mem_disk.specs.Mem.{held, live_in, mem_view, IsOrdered};
+ghost use Rattle.mem_disk.specs.Mem.{files_held, live_in, mem_view, AreInOrder};
 
 use crate::chance::is_chance_free;
 use crate::counts::{BySide, CallFaults};
@@ -54,7 +54,7 @@ pub struct MemDisk {
     fail_ops: Vec<u64>,
     calls: CallFaults,
     log: CallLog,
-    ghost ordered: { IsOrdered files.items },
+    ghost ordered: { AreInOrder files.items },
     ghost room: { length undos.items + live_in ops.items ≤ vec_capacity undos },
 }
 
@@ -169,8 +169,8 @@ impl MemDisk {
 
 /// A disk that holds these files, on which nothing has happened yet.
 fn holding(alloc: Global, kept: Vec<MemFile>) -> MemDisk
-    requires ordered { IsOrdered kept.items }
-    ensures kept { files (⟦<MemDisk as Disk>⟧.view result) ≡ held kept.items }
+    requires ordered { AreInOrder kept.items }
+    ensures kept { files (⟦<MemDisk as Disk>⟧.view result) ≡ files_held kept.items }
     ensures no_faults { (s : Side) → (⟦<MemDisk as Disk>⟧.view result).faults s ≡ 0 }
     ensures no_polls { (s : Side) → (⟦<MemDisk as Disk>⟧.view result).polls_left s ≡ 0 }
     ensures no_plan { ⟦<MemDisk as Planned>⟧.plan result ≡ record { failing_ops = []; starts = 0; failing_calls = []; calls = 0 } }
@@ -263,7 +263,7 @@ impl Disk for MemDisk {
         requires may { MayStart (flight_of op).act (files (⟦<MemDisk as Disk>⟧.view self.old) (place_of op)) }
         ensures goes_on { GoesOn (⟦<MemDisk as Disk>⟧.view self.old) (⟦<MemDisk as Disk>⟧.view self.new) }
         ensures starts { IfOk result (λ id. Starts (flight_of op.entry) (side_of op.entry) id (⟦<MemDisk as Disk>⟧.view self.old) (⟦<MemDisk as Disk>⟧.view self.new)) }
-        ensures file { OnOk result (ChangesFile (place_of op.entry) (λ f g. g ≡ after_start (flight_of op.entry).act (bytes_of op.entry) f) (⟦<MemDisk as Disk>⟧.view self.old) (⟦<MemDisk as Disk>⟧.view self.new)) }
+        ensures file { OnOk result (ChangesFile (place_of op.entry) (λ f g. g ≡ after_start (flight_of op.entry).act (bytes_sent_by op.entry) f) (⟦<MemDisk as Disk>⟧.view self.old) (⟦<MemDisk as Disk>⟧.view self.new)) }
         ensures err { OnErr result ((⟦<MemDisk as Disk>⟧.view self.new) ≡ (⟦<MemDisk as Disk>⟧.view self.old)) }
         ensures noted { IfOk result (λ id. (⟦<MemDisk as Disk>⟧.view self.new).calls ≡ was_started id ∷ (⟦<MemDisk as Disk>⟧.view self.old).calls) }
 

@@ -4,7 +4,7 @@ ghost use Rattle.std.specs.Prelude.{length, ◌≡◌, ◌≢◌, ◌+◌, ◌<�
 ghost use Rattle.disk_face.specs.declared.OpId.{OpId};
 ghost use Rattle.disk_face.specs.View.{segment};
 ghost use Rattle.disk_face.specs.Calls.{flight_of, place_of, side_of};
-ghost use Rattle.mem_disk.specs.Mem.{flight_in, live_in, act_of};
+ghost use Rattle.mem_disk.specs.Mem.{flight_in, live_in, act_in_memory};
 
 use crate::parts::{MemAct, MemOp};
 use disk_face::{DiskOp, OpId, Side};
@@ -13,7 +13,7 @@ use disk_face::{DiskOp, OpId, Side};
 pub fn op_of(op: DiskOp<'_>) -> MemOp
     ensures place { segment result.side result.name ≡ place_of op.entry }
     ensures side { result.side ≡ side_of op.entry }
-    ensures act { act_of result.act ≡ (flight_of op.entry).act }
+    ensures act { act_in_memory result.act ≡ (flight_of op.entry).act }
     ensures live { result.live ≡ true }
 {
     match op {
@@ -41,7 +41,7 @@ pub fn op_of(op: DiskOp<'_>) -> MemOp
 /// Ends an operation that is in flight.
 pub fn end_op(ops: &mut Vec<MemOp>, id: OpId) -> MemOp
     requires { IsSome (flight_in ops.old.items id) }
-    ensures flight { flight_in ops.old.items id ≡ Some (record { place = segment result.side result.name; act = act_of result.act }) }
+    ensures flight { flight_in ops.old.items id ≡ Some (record { place = segment result.side result.name; act = act_in_memory result.act }) }
     ensures gone { flight_in ops.new.items id ≡ None }
     ensures others { (q : OpId) → q ≢ id → flight_in ops.new.items q ≡ flight_in ops.old.items q }
     ensures count { live_in ops.new.items + 1 ≡ live_in ops.old.items }
@@ -58,7 +58,7 @@ pub fn begin_op(ops: &mut Vec<MemOp>, op: MemOp) -> u64
     requires room { vec_len ops.old < vec_capacity ops.old }
     requires live { op.live ≡ true }
     ensures absent { flight_in ops.old.items (record { side = op.side; number = result }) ≡ None }
-    ensures here { flight_in ops.new.items (record { side = op.side; number = result }) ≡ Some (record { place = segment op.side op.name; act = act_of op.act }) }
+    ensures here { flight_in ops.new.items (record { side = op.side; number = result }) ≡ Some (record { place = segment op.side op.name; act = act_in_memory op.act }) }
     ensures others { (q : OpId) → q ≢ record { side = op.side; number = result } → flight_in ops.new.items q ≡ flight_in ops.old.items q }
     ensures count { live_in ops.new.items ≡ live_in ops.old.items + 1 }
     ensures number { result ≡ length ops.old.items }

@@ -3,7 +3,7 @@
 ghost use Rattle.std.specs.Prelude.{◌≡◌, ◌≤◌, length, insert, OnOk, OnErr, Some, None};
 ghost use Rattle.disk_face.specs.View.{segment};
 ghost use Rattle.mem_disk.specs.declared.parts.MemFile.{MemFile};
-ghost use Rattle.mem_disk.specs.Mem.{held, file_of, is_before, side_eq, put, goes_before, IsOrdered, ChangesAt};
+ghost use Rattle.mem_disk.specs.Mem.{files_held, file_of, is_before, side_eq, put, goes_before, AreInOrder, ChangesAt};
 
 use crate::parts::MemFile;
 use disk_face::{SegName, Side};
@@ -47,10 +47,10 @@ fn place_for(files: &Vec<MemFile>, side: Side, name: SegName) -> usize
 
 /// Puts in a file, where there is none of its segment.
 pub fn insert_file(files: &mut Vec<MemFile>, file: MemFile) -> Result<(), NoMemory>
-    requires absent { held files.old.items (segment file.side file.name) ≡ None }
-    ensures ok { OnOk result (ChangesAt (segment file.side file.name) (λ f g. g ≡ Some (file_of file)) (held files.old.items) (held files.new.items)) }
+    requires absent { files_held files.old.items (segment file.side file.name) ≡ None }
+    ensures ok { OnOk result (ChangesAt (segment file.side file.name) (λ f g. g ≡ Some (file_of file)) (files_held files.old.items) (files_held files.new.items)) }
     ensures err { OnErr result (files.new.items ≡ files.old.items) }
-    ensures ordered { IsOrdered files.old.items → IsOrdered files.new.items }
+    ensures ordered { AreInOrder files.old.items → AreInOrder files.new.items }
 {
     let at = place_for(files, file.side, file.name);
     files.insert(at, file)?;

@@ -9,12 +9,12 @@ pub record Queue : Type 0 where
   pub spare : ℕ
 
 -- the number behind the last record that a queue holds
-abbrev pub end_of : Queue → ℕ
-end_of queue = queue.start + length queue.records
+abbrev pub queue_end : Queue → ℕ
+queue_end queue = queue.start + length queue.records
 
 -- The queue holds the record of this number.
 abbrev pub Holds : Queue → ℕ → Type 0
-Holds queue number = (queue.start ≤ number) × (number < end_of queue)
+Holds queue number = (queue.start ≤ number) × (number < queue_end queue)
 
 -- This is the record of a number that the queue holds.
 abbrev pub IsRecordOf : Queue → ℕ → Batch → Type 0

@@ -2,7 +2,7 @@
 
 ghost use Rattle.std.specs.Prelude.{◌≡◌, ◌+◌, ◌-◌, ◌≤◌, ◌↔◌, [], ◌∷◌, ◌++◌, drop, max, IfOk, IfSome, IsSome, OnErr, OnOk};
 ghost use Rattle.std.specs.VecDeque.{deque_capacity, deque_len};
-ghost use Rattle.record_queue.specs.Queue.{end_of, Holds, IsRecordOf};
+ghost use Rattle.record_queue.specs.Queue.{queue_end, Holds, IsRecordOf};
 
 use batch_repr::Numbered;
 use std::alloc::Global;
@@ -63,7 +63,7 @@ impl RecordQueue {
 
     /// The number behind the last record: the next one pushed has it.
     pub fn end(&self) -> u64
-        ensures { result ≡ end_of self.now }
+        ensures { result ≡ queue_end self.now }
     {
         self.start + self.records.len() as u64
     }
@@ -112,10 +112,10 @@ impl RecordQueue {
     /// Drops every record below a number. It takes no memory, and time that grows with what is dropped, not with what
     /// is held.
     pub fn release(&mut self, upto: u64)
-        requires { upto ≤ end_of self.old }
+        requires { upto ≤ queue_end self.old }
         ensures start { self.new.start ≡ max self.old.start upto }
         ensures records { self.new.records ≡ drop (upto - self.old.start) self.old.records }
-        ensures end { end_of self.new ≡ end_of self.old }
+        ensures end { queue_end self.new ≡ queue_end self.old }
         ensures spare { self.old.spare ≤ self.new.spare }
     {
         if self.start < upto {

@@ -9,8 +9,8 @@ use Rattle.segment_merge.specs.declared.fault.MergeFault.{MergeFault}
 use Rattle.segment_merge.specs.declared.fault.MergeFault.TheVariants as faults
 use Rattle.segment_merge.specs.Rows.{IsNumbered, batches_in}
 use Rattle.segment_merge.specs.Merging.{Merged, all_of, greatest_end}
-use Rattle.segment_merge.specs.Refusals.{expected_after, IsFirstWrong, IsGap, IsConflict, IsRefused}
-use Rattle.segment_merge.specs.Returned.{OkOrMemory, ErrOrMemory, MemoryOr}
+use Rattle.segment_merge.specs.Refusals.{expected_after, IsFirstWrong, IsGap, IsConflict, IsRowRefused}
+use Rattle.segment_merge.specs.Returned.{MergedOrMemory, RefusedOrMemory, MemoryOrRefusal}
 use Rattle.segment_merge.specs.Keeping.{Kept}
 use Rattle.segment_merge.specs.Steps.{Follows, IsAppended, IsSkipped, IsDenied, Steps, KeepsMerged}
 use Rattle.segment_merge.proofs.Contiguous.{end_append}
@@ -158,7 +158,7 @@ module _ (first : ℕ) (before : List SegmentRead) (segment : SegmentRead) (kept
       (more first before (take i segment.batches) kept batch expected is_first up numbered new s.0 s.1)
 
   pub up_to_refused : (new : Kept) (fault : MergeFault) → Steps kept new expected is_first segment.index batch (Err fault)
-      → (later : List SegmentRead) → MemoryOr (IsRefused first (before ++ segment ∷ later)) fault
+      → (later : List SegmentRead) → MemoryOrRefusal (IsRowRefused first (before ++ segment ∷ later)) fault
   up_to_refused new (faults.Gap k e f) s later =
       rw (s.0, s.1, s.2) (gap_here first before (take i segment.batches) kept batch expected is_first up numbered segment (drop (i + 1) segment.batches) cut_here later s.3)
   up_to_refused new (faults.Conflict k f) s later =
@@ -192,28 +192,28 @@ module _ (segments : List SegmentRead) (i : ℕ) (segment : SegmentRead) (below 
 -- The merged list, or why there is none.
 abbrev pub Answers : ℕ → List SegmentRead → Result (List Batch) MergeFault → Type 0
 Answers first segments (Ok merged) = Merged first (batches_in segments) merged
-Answers first segments (Err fault) = MemoryOr (IsRefused first segments) fault
+Answers first segments (Err fault) = MemoryOrRefusal (IsRowRefused first segments) fault
 
-pub why_refused : (first : ℕ) (segments : List SegmentRead) (result : Result (List Batch) MergeFault) → Answers first segments result → IfErr result (MemoryOr (IsRefused first segments))
+pub why_refused : (first : ℕ) (segments : List SegmentRead) (result : Result (List Batch) MergeFault) → Answers first segments result → IfErr result (MemoryOrRefusal (IsRowRefused first segments))
 why_refused first segments (Ok kept) a = tt
 why_refused first segments (Err fault) a = a
 
 pub only_merged : (first : ℕ) (segments : List SegmentRead) (result : Result (List Batch) MergeFault) → Answers first segments result → (merged : List Batch) → Merged first (batches_in segments) merged
-    → OkOrMemory result merged
+    → MergedOrMemory result merged
 only_merged first segments (Ok kept) a whole m = one_merged first (batches_in segments) kept whole a m
 only_merged first segments (Err (faults.Gap i e f)) a whole m = merged_or_wrong first segments whole i e a.batch m a.wrong
 only_merged first segments (Err (faults.Conflict i f)) a whole m = merged_or_wrong first segments whole i a.expected a.batch m a.wrong
 only_merged first segments (Err faults.NoMemory) a whole m = tt
 
 pub only_gap : (first : ℕ) (segments : List SegmentRead) (result : Result (List Batch) MergeFault) → Answers first segments result → (i e f : ℕ) → IsGap first segments i e f
-    → ErrOrMemory result (faults.Gap i e f)
+    → RefusedOrMemory result (faults.Gap i e f)
 only_gap first segments (Ok kept) a i e f g = merged_or_wrong first segments kept i e g.batch a g.wrong
 only_gap first segments (Err (faults.Gap i' e' f')) a i e f g = one_gap first segments i' e' f' i e f a g
 only_gap first segments (Err (faults.Conflict i' f')) a i e f g = absurd (gap_or_conflict first segments i e f i' f' g a)
 only_gap first segments (Err faults.NoMemory) a i e f g = tt
 
 pub only_conflict : (first : ℕ) (segments : List SegmentRead) (result : Result (List Batch) MergeFault) → Answers first segments result → (i f : ℕ) → IsConflict first segments i f
-    → ErrOrMemory result (faults.Conflict i f)
+    → RefusedOrMemory result (faults.Conflict i f)
 only_conflict first segments (Ok kept) a i f g = merged_or_wrong first segments kept i g.expected g.batch a g.wrong
 only_conflict first segments (Err (faults.Gap i' e' f')) a i f g = absurd (gap_or_conflict first segments i' e' f' i f a g)
 only_conflict first segments (Err (faults.Conflict i' f')) a i f g = one_conflict first segments i' f' i f a g

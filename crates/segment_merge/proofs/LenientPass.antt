@@ -10,8 +10,8 @@ use Rattle.segment_merge.specs.declared.fault.MergeFault.{MergeFault}
 use Rattle.segment_merge.specs.declared.fault.MergeFault.TheVariants as faults
 use Rattle.segment_merge.specs.Rows.{IsNumbered, batches_in}
 use Rattle.segment_merge.specs.Merging.{all_of, IsAscending}
-use Rattle.segment_merge.specs.Lenient.{IsPast, IsNewOrKept, IsAccepted, IsLenientlyRefused}
-use Rattle.segment_merge.specs.Returned.{MemoryOr}
+use Rattle.segment_merge.specs.Lenient.{IsPast, IsNewOrKept, IsAccepted, IsRowLenientlyRefused}
+use Rattle.segment_merge.specs.Returned.{MemoryOrRefusal}
 use Rattle.segment_merge.specs.Keeping.{Kept}
 use Rattle.segment_merge.specs.Steps.{IsAppendedBehind, IsSkipped, LenientSteps, KeepsLenient}
 use Rattle.segment_merge.proofs.Members.{none_within, within_head, within_tail, within_cases}
@@ -157,7 +157,7 @@ module _ (before : List SegmentRead) (segment : SegmentRead) (kept : Kept) (i : 
   keeps_more new done (inl a) = subst (λ xs. KeepsLenient xs new) (sym all_more) (appended (all_of (batches_in before) ++ take i segment.batches) kept batch k new numbered.some a)
   keeps_more new done (inr s) = subst (λ xs. KeepsLenient xs new) (sym all_more) (skipped (all_of (batches_in before) ++ take i segment.batches) kept batch k new s)
 
-  pub keeps_refused : (new : Kept) (fault : MergeFault) → LenientSteps kept new segment.index batch (Err fault) → (after : List SegmentRead) → MemoryOr (IsLenientlyRefused (before ++ segment ∷ after)) fault
+  pub keeps_refused : (new : Kept) (fault : MergeFault) → LenientSteps kept new segment.index batch (Err fault) → (after : List SegmentRead) → MemoryOrRefusal (IsRowLenientlyRefused (before ++ segment ∷ after)) fault
   keeps_refused new (faults.Gap j e f) s after = s
   keeps_refused new (faults.Conflict j f) s after = record {
     before = before;

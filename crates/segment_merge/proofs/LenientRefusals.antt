@@ -9,8 +9,8 @@ use Rattle.segment_merge.specs.declared.fault.MergeFault.{MergeFault}
 use Rattle.segment_merge.specs.declared.fault.MergeFault.TheVariants as faults
 use Rattle.segment_merge.specs.Rows.{batches_in}
 use Rattle.segment_merge.specs.Merging.{all_of}
-use Rattle.segment_merge.specs.Lenient.{IsAccepted, MergedLenient, IsLenientConflict, IsLenientlyRefused}
-use Rattle.segment_merge.specs.Returned.{OkOrMemory, ErrOrMemory, MemoryOr, IsNoGap}
+use Rattle.segment_merge.specs.Lenient.{IsAccepted, MergedLenient, IsLenientConflict, IsRowLenientlyRefused}
+use Rattle.segment_merge.specs.Returned.{MergedOrMemory, RefusedOrMemory, MemoryOrRefusal, IsNoGap}
 use Rattle.segment_merge.specs.Keeping.{Kept}
 use Rattle.segment_merge.specs.Steps.{KeepsLenient}
 use Rattle.segment_merge.proofs.Places.{Places, sooner, one, later, places}
@@ -64,14 +64,14 @@ one_conflict segments i f i' f' w v = of_rows (places w.before w.segment w.after
     of_rows (one befores segs afters) = of_batches befores segs (places w.front w.batch w.back v.front v.batch v.back (sym w.cut ∙ ap (λ (s : SegmentRead). s.batches) segs ∙ v.cut))
     of_rows (later mid is) = absurd (row_sooner segments i' f' i f v w mid is)
 
-pub one_refusal : (segments : List SegmentRead) (one other : MergeFault) → IsLenientlyRefused segments one → IsLenientlyRefused segments other → one ≡ other
+pub one_refusal : (segments : List SegmentRead) (one other : MergeFault) → IsRowLenientlyRefused segments one → IsRowLenientlyRefused segments other → one ≡ other
 one_refusal segments (faults.Conflict i f) (faults.Conflict i' f') a g = one_conflict segments i f i' f' a g
 one_refusal segments (faults.Conflict i f) (faults.Gap i' e' f') a g = absurd g
 one_refusal segments (faults.Conflict i f) faults.NoMemory a g = absurd g
 one_refusal segments (faults.Gap i e f) other a g = absurd a
 one_refusal segments faults.NoMemory other a g = absurd a
 
-pub merged_or_refused : (segments : List SegmentRead) (merged : List Batch) (fault : MergeFault) → MergedLenient (batches_in segments) merged → IsLenientlyRefused segments fault → ⊥
+pub merged_or_refused : (segments : List SegmentRead) (merged : List Batch) (fault : MergeFault) → MergedLenient (batches_in segments) merged → IsRowLenientlyRefused segments fault → ⊥
 merged_or_refused segments merged (faults.Conflict i f) m r = merged_or_conflict segments merged i f m r
 merged_or_refused segments merged (faults.Gap i e f) m r = r
 merged_or_refused segments merged faults.NoMemory m r = r
@@ -81,12 +81,12 @@ merged_or_refused segments merged faults.NoMemory m r = r
 -- The list without repeated batches, or why there is none.
 abbrev pub Answers : List SegmentRead → Result (List Batch) MergeFault → Type 0
 Answers segments (Ok merged) = MergedLenient (batches_in segments) merged
-Answers segments (Err fault) = MemoryOr (IsLenientlyRefused segments) fault
+Answers segments (Err fault) = MemoryOrRefusal (IsRowLenientlyRefused segments) fault
 
 pub is_merged : (segments : List SegmentRead) (kept : Kept) → KeepsLenient (all_of (batches_in segments)) kept → MergedLenient (batches_in segments) kept.batches
 is_merged segments kept k = record { ascending = k.ascending; same = k.same; accepted = k.accepted }
 
-pub why_refused : (segments : List SegmentRead) (result : Result (List Batch) MergeFault) → Answers segments result → IfErr result (MemoryOr (IsLenientlyRefused segments))
+pub why_refused : (segments : List SegmentRead) (result : Result (List Batch) MergeFault) → Answers segments result → IfErr result (MemoryOrRefusal (IsRowLenientlyRefused segments))
 why_refused segments (Ok kept) a = tt
 why_refused segments (Err fault) a = a
 
@@ -97,14 +97,14 @@ never_gap segments (Err (faults.Conflict i f)) a = tt
 never_gap segments (Err faults.NoMemory) a = tt
 
 pub only_merged : (segments : List SegmentRead) (result : Result (List Batch) MergeFault) → Answers segments result → (merged : List Batch) → MergedLenient (batches_in segments) merged
-    → OkOrMemory result merged
+    → MergedOrMemory result merged
 only_merged segments (Ok kept) a whole m = one_lenient (batches_in segments) kept whole a m
 only_merged segments (Err (faults.Gap i e f)) a whole m = a
 only_merged segments (Err (faults.Conflict i f)) a whole m = merged_or_conflict segments whole i f m a
 only_merged segments (Err faults.NoMemory) a whole m = tt
 
 pub only_conflict : (segments : List SegmentRead) (result : Result (List Batch) MergeFault) → Answers segments result → (i f : ℕ) → IsLenientConflict segments i f
-    → ErrOrMemory result (faults.Conflict i f)
+    → RefusedOrMemory result (faults.Conflict i f)
 only_conflict segments (Ok kept) a i f g = merged_or_conflict segments kept i f a g
 only_conflict segments (Err (faults.Gap i' e' f')) a i f g = absurd a
 only_conflict segments (Err (faults.Conflict i' f')) a i f g = one_conflict segments i' f' i f a g

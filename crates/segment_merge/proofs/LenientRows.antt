@@ -6,8 +6,8 @@ use Rattle.segment_merge.specs.declared.segment.SegmentRead.{SegmentRead}
 use Rattle.segment_merge.specs.declared.fault.MergeFault.{MergeFault}
 use Rattle.segment_merge.specs.Rows.{batches_in}
 use Rattle.segment_merge.specs.Merging.{all_of, IsAscending}
-use Rattle.segment_merge.specs.Lenient.{AreMergedOf, IsLenientlyRefused}
-use Rattle.segment_merge.specs.Returned.{MemoryOr}
+use Rattle.segment_merge.specs.Lenient.{AreMergedOf, IsRowLenientlyRefused}
+use Rattle.segment_merge.specs.Returned.{MemoryOrRefusal}
 use Rattle.segment_merge.specs.Keeping.{Kept}
 use Rattle.segment_merge.specs.Steps.{KeepsLenient, LenientAnswers, RowAnswers}
 use Rattle.segment_merge.proofs.Answered.{row_more, whole_row}
@@ -25,9 +25,9 @@ module _ (before row : List SegmentRead) (i : ℕ) (segment : SegmentRead) (belo
       subst (λ (s : List SegmentRead). KeepsLenient (all_of (batches_in s)) kept)
       (append_assoc before (take i row) (segment ∷ []) ∙ ap (λ (s : List SegmentRead). before ++ s) (sym (row_more row i segment below is))) k
 
-  pub row_refused : (kept : Kept) (fault : MergeFault) → LenientAnswers (before ++ take i row) segment kept (Err fault) → MemoryOr (IsLenientlyRefused (before ++ row)) fault
+  pub row_refused : (kept : Kept) (fault : MergeFault) → LenientAnswers (before ++ take i row) segment kept (Err fault) → MemoryOrRefusal (IsRowLenientlyRefused (before ++ row)) fault
   row_refused kept fault k =
-      subst (λ (s : List SegmentRead). MemoryOr (IsLenientlyRefused s) fault)
+      subst (λ (s : List SegmentRead). MemoryOrRefusal (IsRowLenientlyRefused s) fault)
       (append_assoc before (take i row) (segment ∷ drop (i + 1) row) ∙ ap (λ (s : List SegmentRead). before ++ s) (whole_row row i segment below is)) (k (drop (i + 1) row))
 
 -- ---- from row to row

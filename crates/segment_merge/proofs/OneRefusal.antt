@@ -6,7 +6,7 @@ use Rattle.segment_merge.specs.declared.fault.MergeFault.{MergeFault}
 use Rattle.segment_merge.specs.declared.fault.MergeFault.TheVariants as faults
 use Rattle.segment_merge.specs.Rows.{batches_in}
 use Rattle.segment_merge.specs.Merging.{Merged}
-use Rattle.segment_merge.specs.Refusals.{expected_after, IsFirstWrong, IsGap, IsConflict, IsRefused}
+use Rattle.segment_merge.specs.Refusals.{expected_after, IsFirstWrong, IsGap, IsConflict, IsRowRefused}
 use Rattle.segment_merge.proofs.Places.{Places, sooner, one, later, places}
 use Rattle.segment_merge.proofs.Refused.{grows, merged_or_wrong, cut_row}
 
@@ -72,7 +72,7 @@ gap_or_conflict first segments i e f i' f' a g =
     let s = one_wrong first segments i e a.batch i' g.expected g.batch a.wrong g.wrong in
     omega (arith, g.within, a.above, s.expected, ap (λ (b : Batch). b.first) s.batch)
 
-pub one_refusal : (first : ℕ) (segments : List SegmentRead) (one other : MergeFault) → IsRefused first segments one → IsRefused first segments other → one ≡ other
+pub one_refusal : (first : ℕ) (segments : List SegmentRead) (one other : MergeFault) → IsRowRefused first segments one → IsRowRefused first segments other → one ≡ other
 one_refusal first segments (faults.Gap i e f) (faults.Gap i' e' f') a g = one_gap first segments i e f i' e' f' a g
 one_refusal first segments (faults.Gap i e f) (faults.Conflict i' f') a g = absurd (gap_or_conflict first segments i e f i' f' a g)
 one_refusal first segments (faults.Conflict i f) (faults.Gap i' e' f') a g = absurd (gap_or_conflict first segments i' e' f' i f g a)
@@ -82,7 +82,7 @@ one_refusal first segments (faults.Gap i e f) faults.NoMemory a g = absurd g
 one_refusal first segments (faults.Conflict i f) faults.NoMemory a g = absurd g
 
 -- A row that is merged is not refused.
-pub merged_or_refused : (first : ℕ) (segments : List SegmentRead) (merged : List Batch) (fault : MergeFault) → Merged first (batches_in segments) merged → IsRefused first segments fault → ⊥
+pub merged_or_refused : (first : ℕ) (segments : List SegmentRead) (merged : List Batch) (fault : MergeFault) → Merged first (batches_in segments) merged → IsRowRefused first segments fault → ⊥
 merged_or_refused first segments merged (faults.Gap i e f) m r = merged_or_wrong first segments merged i e r.batch m r.wrong
 merged_or_refused first segments merged (faults.Conflict i f) m r = merged_or_wrong first segments merged i r.expected r.batch m r.wrong
 merged_or_refused first segments merged faults.NoMemory m r = r

@@ -46,6 +46,6 @@ pub record IsLenientConflict (segments : List SegmentRead) (index found : ℕ) :
   pub found_is : found ≡ batch.first
 
 -- This is why the row is refused where gaps are accepted.
-abbrev pub IsLenientlyRefused : List SegmentRead → MergeFault → Type 0
-IsLenientlyRefused segments (faults.Conflict index found) = IsLenientConflict segments index found
-IsLenientlyRefused segments fault = ⊥
+abbrev pub IsRowLenientlyRefused : List SegmentRead → MergeFault → Type 0
+IsRowLenientlyRefused segments (faults.Conflict index found) = IsLenientConflict segments index found
+IsRowLenientlyRefused segments fault = ⊥

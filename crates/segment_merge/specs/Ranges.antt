@@ -13,8 +13,8 @@ pub record Range : Type 0 where
   pub to : ℕ
 
 -- the records of a range
-abbrev pub part : List Batch → Range → List Batch
-part records range = between range.from range.to records
+abbrev pub records_in : List Batch → Range → List Batch
+records_in records range = between range.from range.to records
 
 -- Each begins at or below the greatest synced of those before it. (The number is that greatest so far.)
 unfoldable pub AreRanges : ℕ → ℕ → List Range → Type 0

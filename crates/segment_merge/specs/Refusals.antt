@@ -43,7 +43,7 @@ pub record IsConflict (first : ℕ) (segments : List SegmentRead) (index found :
   pub found_is : found ≡ batch.first
 
 -- This is why the row is refused.
-abbrev pub IsRefused : ℕ → List SegmentRead → MergeFault → Type 0
-IsRefused first segments (faults.Gap index expected found) = IsGap first segments index expected found
-IsRefused first segments (faults.Conflict index found) = IsConflict first segments index found
-IsRefused first segments faults.NoMemory = ⊥
+abbrev pub IsRowRefused : ℕ → List SegmentRead → MergeFault → Type 0
+IsRowRefused first segments (faults.Gap index expected found) = IsGap first segments index expected found
+IsRowRefused first segments (faults.Conflict index found) = IsConflict first segments index found
+IsRowRefused first segments faults.NoMemory = ⊥

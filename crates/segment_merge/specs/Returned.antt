@@ -5,21 +5,21 @@ use Rattle.segment_merge.specs.declared.fault.MergeFault.{MergeFault}
 use Rattle.segment_merge.specs.declared.fault.MergeFault.TheVariants as faults
 
 -- It is this list, unless memory ran out.
-abbrev pub OkOrMemory : Result (List Batch) MergeFault → List Batch → Type 0
-OkOrMemory (Ok kept) merged = kept ≡ merged
-OkOrMemory (Err faults.NoMemory) merged = Unit {0}
-OkOrMemory (Err fault) merged = ⊥
+abbrev pub MergedOrMemory : Result (List Batch) MergeFault → List Batch → Type 0
+MergedOrMemory (Ok kept) merged = kept ≡ merged
+MergedOrMemory (Err faults.NoMemory) merged = Unit {0}
+MergedOrMemory (Err fault) merged = ⊥
 
 -- It is this fault, unless memory ran out.
-abbrev pub ErrOrMemory : Result (List Batch) MergeFault → MergeFault → Type 0
-ErrOrMemory (Ok kept) other = ⊥
-ErrOrMemory (Err faults.NoMemory) other = Unit {0}
-ErrOrMemory (Err fault) other = fault ≡ other
+abbrev pub RefusedOrMemory : Result (List Batch) MergeFault → MergeFault → Type 0
+RefusedOrMemory (Ok kept) other = ⊥
+RefusedOrMemory (Err faults.NoMemory) other = Unit {0}
+RefusedOrMemory (Err fault) other = fault ≡ other
 
 -- The fault is want of memory, or this holds of it.
-abbrev pub MemoryOr : (MergeFault → Type 0) → MergeFault → Type 0
-MemoryOr P faults.NoMemory = Unit {0}
-MemoryOr P fault = P fault
+abbrev pub MemoryOrRefusal : (MergeFault → Type 0) → MergeFault → Type 0
+MemoryOrRefusal P faults.NoMemory = Unit {0}
+MemoryOrRefusal P fault = P fault
 
 -- It is no gap.
 abbrev pub IsNoGap : MergeFault → Type 0

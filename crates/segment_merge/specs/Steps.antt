@@ -8,9 +8,9 @@ use Rattle.segment_merge.specs.declared.fault.MergeFault.TheVariants as faults
 use Rattle.segment_merge.specs.Rows.{batches_in}
 use Rattle.segment_merge.specs.Keeping.{Kept}
 use Rattle.segment_merge.specs.Merging.{Merged, all_of, IsAscending}
-use Rattle.segment_merge.specs.Refusals.{IsRefused}
-use Rattle.segment_merge.specs.Lenient.{IsAccepted, IsLenientlyRefused}
-use Rattle.segment_merge.specs.Returned.{MemoryOr}
+use Rattle.segment_merge.specs.Refusals.{IsRowRefused}
+use Rattle.segment_merge.specs.Lenient.{IsAccepted, IsRowLenientlyRefused}
+use Rattle.segment_merge.specs.Returned.{MemoryOrRefusal}
 
 -- The first batch of a segment begins at most at the expected number, and each later one there.
 abbrev pub Follows : Bool → ℕ → ℕ → Type 0
@@ -49,7 +49,7 @@ pub record KeepsMerged (first : ℕ) (segments : List (List Batch)) (kept : Kept
 -- What merging one more segment answers, whatever segments follow.
 abbrev pub SegmentAnswers : ℕ → List SegmentRead → SegmentRead → Kept → Result (Unit {0}) MergeFault → Type 0
 SegmentAnswers first before segment kept (Ok done) = KeepsMerged first (batches_in (before ++ segment ∷ [])) kept
-SegmentAnswers first before segment kept (Err fault) = (later : List SegmentRead) → MemoryOr (IsRefused first (before ++ segment ∷ later)) fault
+SegmentAnswers first before segment kept (Err fault) = (later : List SegmentRead) → MemoryOrRefusal (IsRowRefused first (before ++ segment ∷ later)) fault
 
 -- ---- where gaps are accepted
 
@@ -76,9 +76,9 @@ pub record KeepsLenient (all : List Batch) (kept : Kept) : Type 0 where
 -- What merging one more segment answers, whatever segments follow.
 abbrev pub LenientAnswers : List SegmentRead → SegmentRead → Kept → Result (Unit {0}) MergeFault → Type 0
 LenientAnswers before segment kept (Ok done) = KeepsLenient (all_of (batches_in (before ++ segment ∷ []))) kept
-LenientAnswers before segment kept (Err fault) = (later : List SegmentRead) → MemoryOr (IsLenientlyRefused (before ++ segment ∷ later)) fault
+LenientAnswers before segment kept (Err fault) = (later : List SegmentRead) → MemoryOrRefusal (IsRowLenientlyRefused (before ++ segment ∷ later)) fault
 
 -- What merging more segments answers.
 abbrev pub RowAnswers : List SegmentRead → List SegmentRead → Kept → Result (Unit {0}) MergeFault → Type 0
 RowAnswers before row kept (Ok done) = KeepsLenient (all_of (batches_in (before ++ row))) kept
-RowAnswers before row kept (Err fault) = MemoryOr (IsLenientlyRefused (before ++ row)) fault
+RowAnswers before row kept (Err fault) = MemoryOrRefusal (IsRowLenientlyRefused (before ++ row)) fault

@@ -6,8 +6,8 @@ ghost use Rattle.segment_merge.specs.declared.segment.SegmentRead.{SegmentRead};
 ghost use Rattle.segment_merge.specs.declared.fault.MergeFault.TheVariants as faults;
 ghost use Rattle.segment_merge.specs.Rows.{IsNumbered, IsNumberedSegment, IsRow, batches_in};
 ghost use Rattle.segment_merge.specs.Merging.{all_of};
-ghost use Rattle.segment_merge.specs.Lenient.{MergedLenient, AreMergedOf, IsLenientConflict, IsLenientlyRefused};
-ghost use Rattle.segment_merge.specs.Returned.{OkOrMemory, ErrOrMemory, MemoryOr, IsNoGap};
+ghost use Rattle.segment_merge.specs.Lenient.{MergedLenient, AreMergedOf, IsLenientConflict, IsRowLenientlyRefused};
+ghost use Rattle.segment_merge.specs.Returned.{MergedOrMemory, RefusedOrMemory, MemoryOrRefusal, IsNoGap};
 ghost use Rattle.segment_merge.specs.Steps.{KeepsLenient, LenientSteps, LenientAnswers, RowAnswers};
 
 use crate::fault::MergeFault;
@@ -90,9 +90,9 @@ impl LenientMerge {
     pub fn add(self, row: Segments) -> Result<LenientMerge, MergeFault>
         requires { All IsNumberedSegment row }
         ensures found { (before : List SegmentRead) → AreMergedOf before self → IfOk result (AreMergedOf (before ++ row)) }
-        ensures merged { (before : List SegmentRead) (merged : List Batch) → AreMergedOf before self → AreMergedOf (before ++ row) merged → OkOrMemory result merged }
-        ensures refused { (before : List SegmentRead) → AreMergedOf before self → IfErr result (MemoryOr (IsLenientlyRefused (before ++ row))) }
-        ensures conflict { (before : List SegmentRead) (index number : ℕ) → AreMergedOf before self → IsLenientConflict (before ++ row) index number → ErrOrMemory result (faults.Conflict index number) }
+        ensures merged { (before : List SegmentRead) (merged : List Batch) → AreMergedOf before self → AreMergedOf (before ++ row) merged → MergedOrMemory result merged }
+        ensures refused { (before : List SegmentRead) → AreMergedOf before self → IfErr result (MemoryOrRefusal (IsRowLenientlyRefused (before ++ row))) }
+        ensures conflict { (before : List SegmentRead) (index number : ℕ) → AreMergedOf before self → IsLenientConflict (before ++ row) index number → RefusedOrMemory result (faults.Conflict index number) }
     {
         let mut kept = self.kept;
         merge_row(&mut kept, row)?;
@@ -115,9 +115,9 @@ impl LenientMerge {
 pub fn merge_lenient(alloc: Global, segs: Segments) -> Result<Batches, MergeFault>
     requires { IsRow segs }
     ensures found { IfOk result (λ merged. MergedLenient (batches_in segs) merged) }
-    ensures merged { (merged : List Batch) → MergedLenient (batches_in segs) merged → OkOrMemory result merged }
-    ensures refused { IfErr result (MemoryOr (IsLenientlyRefused segs)) }
-    ensures conflict { (index number : ℕ) → IsLenientConflict segs index number → ErrOrMemory result (faults.Conflict index number) }
+    ensures merged { (merged : List Batch) → MergedLenient (batches_in segs) merged → MergedOrMemory result merged }
+    ensures refused { IfErr result (MemoryOrRefusal (IsRowLenientlyRefused segs)) }
+    ensures conflict { (index number : ℕ) → IsLenientConflict segs index number → RefusedOrMemory result (faults.Conflict index number) }
     ensures no_gap { IfErr result IsNoGap }
 {
     let merge = LenientMerge::new(alloc).add(segs)?;

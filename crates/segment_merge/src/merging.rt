@@ -6,8 +6,8 @@ ghost use Rattle.segment_merge.specs.declared.segment.SegmentRead.{SegmentRead};
 ghost use Rattle.segment_merge.specs.declared.fault.MergeFault.TheVariants as faults;
 ghost use Rattle.segment_merge.specs.Rows.{IsNumbered, IsNumberedSegment, IsRow, batches_in};
 ghost use Rattle.segment_merge.specs.Merging.{Merged};
-ghost use Rattle.segment_merge.specs.Refusals.{IsGap, IsConflict, IsRefused};
-ghost use Rattle.segment_merge.specs.Returned.{OkOrMemory, ErrOrMemory, MemoryOr};
+ghost use Rattle.segment_merge.specs.Refusals.{IsGap, IsConflict, IsRowRefused};
+ghost use Rattle.segment_merge.specs.Returned.{MergedOrMemory, RefusedOrMemory, MemoryOrRefusal};
 ghost use Rattle.segment_merge.specs.Steps.{KeepsMerged, Steps, SegmentAnswers};
 
 use crate::fault::MergeFault;
@@ -75,10 +75,10 @@ fn merge_segment(kept: &mut Kept, segment: SegmentRead) -> Result<(), MergeFault
 pub fn merge(alloc: Global, first: u64, segs: Segments) -> Result<Batches, MergeFault>
     requires { IsRow segs }
     ensures found { IfOk result (λ merged. Merged first (batches_in segs) merged) }
-    ensures merged { (merged : List Batch) → Merged first (batches_in segs) merged → OkOrMemory result merged }
-    ensures refused { IfErr result (MemoryOr (IsRefused first segs)) }
-    ensures gap { (index expected found : ℕ) → IsGap first segs index expected found → ErrOrMemory result (faults.Gap index expected found) }
-    ensures conflict { (index number : ℕ) → IsConflict first segs index number → ErrOrMemory result (faults.Conflict index number) }
+    ensures merged { (merged : List Batch) → Merged first (batches_in segs) merged → MergedOrMemory result merged }
+    ensures refused { IfErr result (MemoryOrRefusal (IsRowRefused first segs)) }
+    ensures gap { (index expected found : ℕ) → IsGap first segs index expected found → RefusedOrMemory result (faults.Gap index expected found) }
+    ensures conflict { (index number : ℕ) → IsConflict first segs index number → RefusedOrMemory result (faults.Conflict index number) }
 {
     let mut kept = Kept::new(alloc, first);
     for segment in segs.into_vec() {

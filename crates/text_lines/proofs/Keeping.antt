@@ -12,7 +12,7 @@ use Rattle.std.proofs.lemmas.Cmp.{tied_itself}
 use Rattle.std.proofs.lemmas.Map.Text.{is_eq-slice_cmp}
 use Rattle.std.specs.Map.{keys_of, lookup}
 use Rattle.text_lines.specs.Holding.{shown}
-use Rattle.text_lines.specs.Store.{Held, IsBefore, Ascends}
+use Rattle.text_lines.specs.Store.{Held, IsKeyBefore, Ascends}
 
 abbrev Pairs : Type 0
 Pairs = List (Bor (List ℕ) × Bor (List ℕ))
@@ -33,10 +33,10 @@ contains_later first x others (k, below, is) = (suc k, omega arith, is)
 abbrev cmp : Bor (List ℕ) → Bor (List ℕ) → Ordering
 cmp x y = slice_cmp nat_cmp x.now y.now
 
-before_each : (key : Bor (List ℕ)) (es : Pairs) → AllByRecursion (λ y. cmp key y ≡ Less) (keys_of es) → (other : Held) → Contains (map shown es) other → IsBefore key.now other.key
+before_each : (key : Bor (List ℕ)) (es : Pairs) → AllByRecursion (λ y. cmp key y ≡ Less) (keys_of es) → (other : Held) → Contains (map shown es) other → IsKeyBefore key.now other.key
 before_each key [] all other has = absurd (omega (arith, has.1))
 before_each key (e ∷ es) all other has =
-    ⊎_elim (λ (is : shown e ≡ other). subst (λ (h : Held). IsBefore key.now h.key) is all.0) (λ (later : Contains (map shown es) other). before_each key es all.1 other later) (contains_cases (shown e) other (map shown es) has)
+    ⊎_elim (λ (is : shown e ≡ other). subst (λ (h : Held). IsKeyBefore key.now h.key) is all.0) (λ (later : Contains (map shown es) other). before_each key es all.1 other later) (contains_cases (shown e) other (map shown es) has)
 
 pub ascends : (es : Pairs) → IsStrictlySortedBy cmp (keys_of es) → Ascends (map shown es)
 unfolding IsStrictlySortedBy Ascends
@@ -55,7 +55,7 @@ found_here e es key is =
     rw here refl
 
 -- and passes a key that stands before it
-found_later : (e : Bor (List ℕ) × Bor (List ℕ)) (es : Pairs) (key : List ℕ) → IsBefore e.0.now key → found key (e ∷ es) ≡ found key es
+found_later : (e : Bor (List ℕ) × Bor (List ℕ)) (es : Pairs) (key : List ℕ) → IsKeyBefore e.0.now key → found key (e ∷ es) ≡ found key es
 found_later e es key before =
     let apart : is_eq (slice_cmp nat_cmp key e.0.now) ≡ false = ap is_eq (nat_list_cmp_total.antisymm key e.0.now ∙ ap ordering_reverse before) in
     rw apart refl

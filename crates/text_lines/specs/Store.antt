@@ -14,13 +14,13 @@ pub record Held : Type 0 where
   pub value : List ℕ
 
 -- The key stands before the other, in order of bytes.
-abbrev pub IsBefore : List ℕ → List ℕ → Type 0
-IsBefore key other = slice_cmp nat_cmp key other ≡ Less
+abbrev pub IsKeyBefore : List ℕ → List ℕ → Type 0
+IsKeyBefore key other = slice_cmp nat_cmp key other ≡ Less
 
 -- Each key stands before all later ones.
 unfoldable pub Ascends : List Held → Type 0
 Ascends [] = Unit {0}
-Ascends (held ∷ later) = ((other : Held) → Contains later other → IsBefore held.key other.key) × Ascends later
+Ascends (held ∷ later) = ((other : Held) → Contains later other → IsKeyBefore held.key other.key) × Ascends later
 
 -- These are the keys that have a value after all batches, each with it, in order of bytes.
 pub record IsStoreOf (batches : List Batch) (store : List Held) : Type 0 where

@@ -12,10 +12,10 @@ use Rattle.wal_recovery.specs.declared.fault.RecoverFault.TheVariants as faults
 use Rattle.wal_recovery.specs.declared.listing.Found.{Found}
 use Rattle.wal_recovery.specs.declared.reports.SegReport.{SegReport}
 use Rattle.wal_recovery.specs.Listing.{Stored, AreByIndex}
-use Rattle.wal_recovery.specs.Recovering.{counted}
+use Rattle.wal_recovery.specs.Recovering.{taking_numbers}
 use Rattle.wal_recovery.specs.Refused.{by_index}
 use Rattle.wal_recovery.specs.Answers.{DiskMemoryOr}
-use Rattle.wal_recovery.specs.Rows.{place_of, bytes_at, stored_in}
+use Rattle.wal_recovery.specs.Rows.{place_listed, bytes_at, stored_in}
 use Rattle.wal_recovery.specs.Gathered.{IsAsListed, AreAsListed, IsBadIn, IsFirstBadOf, read_as, counted_in, IsNumberedReport, AddsSegment, AddsSegments, GathersWal}
 
 zip_push : {A B : Type 0} (R : A → B → Type 0) (xs : List A) (ys : List B) (x : A) (y : B) → AllZip R xs ys → R x y → AllZip R (xs ++ x ∷ []) (ys ++ y ∷ [])
@@ -92,9 +92,9 @@ module _ (tells : Bool) (files : Files) where
     rows =
         let many : length (counted_in a.added.own) ≡ length (map (stored_in files) front) = counted_length a.added.own ∙ a.added.as_many ∙ sym (stored_length front) in
         b.rows ∙ ap (λ (l : List SegmentRead). l ++ read_as f.name.index b.report ∷ []) a.rows
-        ∙ sym (by_index_push (map (stored_in files) front) (counted_in a.added.own) (stored_in files f) (counted b.report.batches) many)
-        ∙ ap (λ (l : List Stored). by_index l (counted_in a.added.own ++ counted b.report.batches ∷ [])) (sym (mapped_push (stored_in files) front f))
-        ∙ ap (by_index (map (stored_in files) (front ++ f ∷ []))) (sym (mapped_push (λ (r : SegReport). counted r.batches) a.added.own b.report));
+        ∙ sym (by_index_push (map (stored_in files) front) (counted_in a.added.own) (stored_in files f) (taking_numbers b.report.batches) many)
+        ∙ ap (λ (l : List Stored). by_index l (counted_in a.added.own ++ taking_numbers b.report.batches ∷ [])) (sym (mapped_push (stored_in files) front f))
+        ∙ ap (by_index (map (stored_in files) (front ++ f ∷ []))) (sym (mapped_push (λ (r : SegReport). taking_numbers r.batches) a.added.own b.report));
   }
 
   -- ---- the rows are fit to be merged
@@ -134,7 +134,7 @@ module _ (tells : Bool) (files : Files) where
   cut_at segments i d lt = sym (ap (λ (l : List Found). take i segments ++ l) (sym (drop_more segments i d lt)) ∙ take-append-drop i segments)
 
   bad_here : (segments : List Found) (i : ℕ) (d : Found) (old mid : List SegReport) (fault : RecoverFault) → i < length segments → AddsSegments tells files (take i segments) old mid → IsTrue tells → AreAsListed files segments
-      → IsBadIn (get_or segments i d) (bytes_at files (place_of (get_or segments i d))) fault → IsFirstBadOf files segments fault
+      → IsBadIn (get_or segments i d) (bytes_at files (place_listed (get_or segments i d))) fault → IsFirstBadOf files segments fault
   bad_here segments i d old mid fault lt a told listed bad = record {
     before = take i segments;
     here = get_or segments i d;
@@ -147,14 +147,14 @@ module _ (tells : Bool) (files : Files) where
 
   -- a segment that is refused is the first that is
   pub first_bad : (before : Files) → before ≡ files → (segments : List Found) (i : ℕ) (d : Found) (old mid : List SegReport) (fault : RecoverFault) → i < length segments → AddsSegments tells files (take i segments) old mid → IsTrue tells → AreAsListed files segments
-      → (IsAsListed before (get_or segments i d) → DiskMemoryOr (IsBadIn (get_or segments i d) (bytes_at before (place_of (get_or segments i d)))) fault) → DiskMemoryOr (IsFirstBadOf files segments) fault
+      → (IsAsListed before (get_or segments i d) → DiskMemoryOr (IsBadIn (get_or segments i d) (bytes_at before (place_listed (get_or segments i d)))) fault) → DiskMemoryOr (IsFirstBadOf files segments) fault
   first_bad before same segments i d old mid fault lt a told listed bad_before = go fault (bad (listed i d lt)) (bad_here segments i d old mid fault lt a told listed)
     where
-      bad : IsAsListed files (get_or segments i d) → DiskMemoryOr (IsBadIn (get_or segments i d) (bytes_at files (place_of (get_or segments i d)))) fault
-      bad = subst (λ (fs : Files). IsAsListed fs (get_or segments i d) → DiskMemoryOr (IsBadIn (get_or segments i d) (bytes_at fs (place_of (get_or segments i d)))) fault) same bad_before
+      bad : IsAsListed files (get_or segments i d) → DiskMemoryOr (IsBadIn (get_or segments i d) (bytes_at files (place_listed (get_or segments i d)))) fault
+      bad = subst (λ (fs : Files). IsAsListed fs (get_or segments i d) → DiskMemoryOr (IsBadIn (get_or segments i d) (bytes_at fs (place_listed (get_or segments i d)))) fault) same bad_before
 
-      go : (f : RecoverFault) → DiskMemoryOr (IsBadIn (get_or segments i d) (bytes_at files (place_of (get_or segments i d)))) f
-          → (IsBadIn (get_or segments i d) (bytes_at files (place_of (get_or segments i d))) f → IsFirstBadOf files segments f) → DiskMemoryOr (IsFirstBadOf files segments) f
+      go : (f : RecoverFault) → DiskMemoryOr (IsBadIn (get_or segments i d) (bytes_at files (place_listed (get_or segments i d)))) f
+          → (IsBadIn (get_or segments i d) (bytes_at files (place_listed (get_or segments i d))) f → IsFirstBadOf files segments f) → DiskMemoryOr (IsFirstBadOf files segments) f
       go (faults.Disk side) h k = tt
       go (faults.DuplicateSegment wal index) h k = k h
       go (faults.BadBatch wal index place fault_) h k = k h

@@ -16,13 +16,13 @@ use Rattle.wal_recovery.specs.declared.listing.Found.{Found}
 use Rattle.wal_recovery.specs.declared.wals.FoundWal.{FoundWal}
 use Rattle.wal_recovery.specs.Rows.{item_of, Takes, Weaves, Groups}
 use Rattle.wal_recovery.proofs.AtWal.{StandsAt}
-use Rattle.wal_recovery.specs.Asking.{AsksOnce, ListsBoth, bytes_of, ReadsOnly, ListsRow, found_in}
+use Rattle.wal_recovery.specs.Asking.{AsksOnce, ListsBoth, length_in_row, ReadsOnly, ListsRow, found_in}
 
 -- how many bytes of this segment a segment of a row has
 abbrev bytes_here : Side → SegName → Found → ℕ
 bytes_here side name f = if side_eq side f.side && name_eq name f.name then f.len else 0
 
-bytes_append : (side : Side) (name : SegName) (front back : List Found) → bytes_of side name (front ++ back) ≡ bytes_of side name front + bytes_of side name back
+bytes_append : (side : Side) (name : SegName) (front back : List Found) → length_in_row side name (front ++ back) ≡ length_in_row side name front + length_in_row side name back
 bytes_append side name front back = sum_by-append (bytes_here side name) front back
 
 -- ---- calls that list nothing
@@ -86,7 +86,7 @@ lengths Secondary name ones others = length_among name others
 among_cons : (name : SegName) (item : Listed) (items : List Listed) → length_among name (item ∷ items) ≡ (if name_eq name item.name then item.len else 0) + length_among name items
 among_cons name item items = sum_by-cons (λ (x : Listed). if name_eq name x.name then x.len else 0) item items
 
-bytes_cons : (side : Side) (name : SegName) (f : Found) (row : List Found) → bytes_of side name (f ∷ row) ≡ bytes_here side name f + bytes_of side name row
+bytes_cons : (side : Side) (name : SegName) (f : Found) (row : List Found) → length_in_row side name (f ∷ row) ≡ bytes_here side name f + length_in_row side name row
 bytes_cons side name f row = sum_by-cons (bytes_here side name) f row
 
 before_none : (n : ℕ) → n ≡ 0 + n
@@ -106,7 +106,7 @@ taken Primary name f ones others a b (inr (is, other, one, before)) =
 taken Secondary name f ones others a b (inr (is, other, one, before)) =
     ap (length_among name) other ∙ among_cons name (item_of f) b ∙ ap (λ (s : Side). (if side_eq Secondary s && name_eq name f.name then f.len else 0) + length_among name b) (sym is)
 
-woven : (side : Side) (name : SegName) (row : List Found) (ones others : List Listed) → Weaves row ones others [] [] → lengths side name ones others ≡ bytes_of side name row
+woven : (side : Side) (name : SegName) (row : List Found) (ones others : List Listed) → Weaves row ones others [] [] → lengths side name ones others ≡ length_in_row side name row
 unfolding Weaves
 woven Primary name [] ones others w = ap (length_among name) w.0
 woven Secondary name [] ones others w = ap (length_among name) w.1
@@ -127,7 +127,7 @@ lists_row row ones others old mid new a b w = record {
     once Primary = refl
     once Secondary = refl
 
-    given : (side : Side) (name : SegName) → length_listed side name (was_listed Secondary others ∷ was_listed Primary ones ∷ []) ≡ bytes_of side name row
+    given : (side : Side) (name : SegName) → length_listed side name (was_listed Secondary others ∷ was_listed Primary ones ∷ []) ≡ length_in_row side name row
     given Primary name = (let e : 0 + 0 + length_among name ones ≡ length_among name ones = omega arith in e) ∙ woven Primary name row ones others w
     given Secondary name = between_none (length_among name others) ∙ woven Secondary name row ones others w
 

@@ -10,24 +10,24 @@ use Rattle.wal_recovery.specs.declared.listing.Found.{Found}
 use Rattle.wal_recovery.specs.declared.reports.SegReport.{SegReport}
 use Rattle.wal_recovery.specs.declared.wals.FoundWal.{FoundWal}
 use Rattle.wal_recovery.specs.Listing.{Stored}
-use Rattle.wal_recovery.specs.Recovering.{log_number, counted, HoldsBatches, HoldRow, WalMerges}
+use Rattle.wal_recovery.specs.Recovering.{log_number, taking_numbers, HoldsBatches, HoldRow, WalMerges}
 use Rattle.wal_recovery.specs.Refused.{by_index}
 use Rattle.wal_recovery.specs.Reports.{IsReport}
-use Rattle.wal_recovery.specs.Rows.{place_of, bytes_at, stored_in, wal_in}
+use Rattle.wal_recovery.specs.Rows.{place_listed, bytes_at, stored_in, wal_in}
 use Rattle.wal_recovery.specs.Gathered.{IsAsListed, IsReportOf, counted_in}
 use Rattle.wal_recovery.proofs.Filling.{bytes_are}
 
 -- each segment with the report on it
 abbrev pub AreReportsOf : Files → List Found → List SegReport → Type 0
-AreReportsOf files segments own = AllZip (λ (f : Found) (r : SegReport). IsReportOf f (bytes_at files (place_of f)) r) segments own
+AreReportsOf files segments own = AllZip (λ (f : Found) (r : SegReport). IsReportOf f (bytes_at files (place_listed f)) r) segments own
 
 -- each segment is of this WAL
 abbrev pub AreOfWal : ℕ → List Found → Type 0
 AreOfWal number segments = (f : Found) → Contains segments f → f.name.wal ≡ number
 
-pub report_holds : (number : ℕ) (f : Found) (bytes : List ℕ) (r : SegReport) → f.name.wal ≡ number → IsReportOf f bytes r → HoldsBatches (log_number number) bytes (counted r.batches)
+pub report_holds : (number : ℕ) (f : Found) (bytes : List ℕ) (r : SegReport) → f.name.wal ≡ number → IsReportOf f bytes r → HoldsBatches (log_number number) bytes (taking_numbers r.batches)
 report_holds number f bytes r is report =
-    subst (λ (n : ℕ). HoldsBatches (log_number n) bytes (counted r.batches)) is
+    subst (λ (n : ℕ). HoldsBatches (log_number n) bytes (taking_numbers r.batches)) is
     (record { records = report.records; ends_at = r.ends_at; torn = r.torn; read = report.read; all = r.batches; spelled = report.batches; counted_are = refl })
 
 -- the segments of a WAL hold the batches of their reports
@@ -37,15 +37,15 @@ row_holds files number [] [] all h = tt
 row_holds files number [] (r ∷ own) all h = absurd h
 row_holds files number (f ∷ segments) [] all h = absurd h
 row_holds files number (f ∷ segments) (r ∷ own) all h =
-    (report_holds number f (bytes_at files (place_of f)) r (all f (Contains-head f segments)) h.0, row_holds files number segments own (λ g at. all g (Contains-later f g segments at)) h.1)
+    (report_holds number f (bytes_at files (place_listed f)) r (all f (Contains-head f segments)) h.0, row_holds files number segments own (λ g at. all g (Contains-later f g segments at)) h.1)
 
-pub report_is : (files : Files) (number : ℕ) (f : Found) (r : SegReport) → f.name.wal ≡ number → IsAsListed files f → IsReportOf f (bytes_at files (place_of f)) r → IsReport number (stored_in files f) r
+pub report_is : (files : Files) (number : ℕ) (f : Found) (r : SegReport) → f.name.wal ≡ number → IsAsListed files f → IsReportOf f (bytes_at files (place_listed f)) r → IsReport number (stored_in files f) r
 report_is files number f r is listed report =
     subst (λ (n : ℕ). IsReport n (stored_in files f) r) is
     (record {
       side = report.side;
       name = report.name;
-      len = report.len ∙ sym (listed.3) ∙ sym (ap length (bytes_are files (place_of f) f.len listed));
+      len = report.len ∙ sym (listed.3) ∙ sym (ap length (bytes_are files (place_listed f) f.len listed));
       records = report.records;
       read = report.read;
       batches = report.batches;

@@ -9,7 +9,7 @@ use Rattle.disk_face.specs.Listing.{IsBefore}
 use Rattle.wal_recovery.specs.declared.listing.Found.{Found}
 use Rattle.wal_recovery.specs.declared.wals.FoundWal.{FoundWal}
 use Rattle.wal_recovery.specs.Listing.{Stored, name_in, place_in, StandsIn}
-use Rattle.wal_recovery.specs.Rows.{place_of, IsRowOf, BeginsElsewhere, IsGroup, Groups, bytes_at, bytes_or_none, stored_in}
+use Rattle.wal_recovery.specs.Rows.{place_listed, IsRowOf, BeginsElsewhere, IsGroup, Groups, bytes_at, bytes_or_none, stored_in}
 use Rattle.wal_recovery.proofs.Listed.{read_open, read_close}
 
 -- one WAL more
@@ -61,7 +61,7 @@ module _ (files : Files) where
       let there = (is f).0 at in
       let has = there.1 in
       let here : StandsIn (dirs_as_read files) f.name.wal (stored_in files f) =
-      (there.0, let reads : as_read (files (place_of f)) ≡ Some has.0.reads = read_close (files (place_of f)) has.0 has.1 has.2 in reads ∙ ap Some (sym (ap bytes_or_none reads))) in
+      (there.0, let reads : as_read (files (place_listed f)) ≡ Some has.0.reads = read_close (files (place_listed f)) has.0 has.1 has.2 in reads ∙ ap Some (sym (ap bytes_or_none reads))) in
       subst (λ (n : ℕ). StandsIn (dirs_as_read files) n stored) wal (subst (λ (s : Stored). StandsIn (dirs_as_read files) f.name.wal s) e here)
 
   pub stands_found : (row : List Found) (number : ℕ) (stored : Stored) → IsRowOf files row → StandsIn (dirs_as_read files) number stored → IsStoredFound row number stored

@@ -10,7 +10,7 @@ use Rattle.segment_merge.specs.declared.fault.MergeFault.TheVariants as merges
 use Rattle.segment_merge.specs.Rows.{IsNumbered, IsNumberedSegment, batches_in}
 use Rattle.segment_merge.specs.Lenient.{MergedLenient, AreMergedOf, IsLenientConflict}
 use Rattle.segment_merge.specs.Lenient as lenient
-use Rattle.segment_merge.specs.Returned.{MemoryOr}
+use Rattle.segment_merge.specs.Returned.{MemoryOrRefusal}
 use Rattle.segment_merge.proofs.Laws.{merged_none}
 use Rattle.disk_face.specs.View.{Files}
 use Rattle.disk_face.specs.Image.{dirs_as_read}
@@ -20,7 +20,7 @@ use Rattle.wal_recovery.specs.declared.listing.Found.{Found}
 use Rattle.wal_recovery.specs.declared.reports.SegReport.{SegReport}
 use Rattle.wal_recovery.specs.declared.wals.FoundWal.{FoundWal}
 use Rattle.wal_recovery.specs.Listing.{Stored, Wal, IsListingOf}
-use Rattle.wal_recovery.specs.Recovering.{log_number, counted, HoldRow, HoldAll}
+use Rattle.wal_recovery.specs.Recovering.{log_number, taking_numbers, HoldRow, HoldAll}
 use Rattle.wal_recovery.specs.Refused.{by_index, segments_of, ReachesLenient, IsLenientlyRefused}
 use Rattle.wal_recovery.specs.Reports.{IsReport, ReportOnAll}
 use Rattle.wal_recovery.specs.Answers.{DiskMemoryOr}
@@ -43,7 +43,7 @@ wal_holds number (s ∷ segments) (r ∷ own) on =
     (record { records = on.0.records; ends_at = r.ends_at; torn = r.torn; read = on.0.read; all = r.batches; spelled = on.0.batches; counted_are = refl }, wal_holds number segments own on.1)
 
 counted_append : (old own : List SegReport) → counted_in (old ++ own) ≡ counted_in old ++ counted_in own
-counted_append old own = map-append (λ (r : SegReport). counted r.batches) old own
+counted_append old own = map-append (λ (r : SegReport). taking_numbers r.batches) old own
 
 pub reports_hold : (wals : List Wal) (reports : List SegReport) → ReportOnAll wals reports → HoldAll wals (counted_in reports)
 unfolding HoldAll ReportOnAll
@@ -94,7 +94,7 @@ as_row reports = map (read_as 0) reports
 
 row_counted : (reports : List SegReport) → batches_in (as_row reports) ≡ counted_in reports
 row_counted [] = refl
-row_counted (r ∷ reports) = ap (λ (l : List (List Batch)). counted r.batches ∷ l) (row_counted reports)
+row_counted (r ∷ reports) = ap (λ (l : List (List Batch)). taking_numbers r.batches ∷ l) (row_counted reports)
 
 row_numbered : (reports : List SegReport) → AllByRecursion IsNumberedReport reports → AllByRecursion IsNumberedSegment (as_row reports)
 row_numbered [] h = tt
@@ -134,14 +134,14 @@ module _ (tells : Bool) (files : Files) where
 
   module _ (wal : FoundWal) (own : IsOwnWal wal) where
     -- what refuses a merge of its row refuses the WAL
-    pub row_refused_behind : (before : List SegmentRead) (old new : List SegReport) (row : List SegmentRead) (fault : MergeFault) → GathersWal tells files wal.segments.items old new row → MemoryOr (lenient.IsLenientlyRefused (before ++ row)) fault
+    pub row_refused_behind : (before : List SegmentRead) (old new : List SegReport) (row : List SegmentRead) (fault : MergeFault) → GathersWal tells files wal.segments.items old new row → MemoryOrRefusal (lenient.IsRowLenientlyRefused (before ++ row)) fault
         → IsTrue tells → AreAsListed files wal.segments.items → DiskMemoryOr (IsLenientlyRefusedWal before (wal_in files wal)) (named_in_wal wal.number fault)
     row_refused_behind before old new row fault g wrong told listed = go fault wrong
       where
         held : HoldsRow (wal_in files wal)
         held = record { row = counted_in g.added.own; holds = row_holds files wal.number wal.segments.items g.added.own (own_of wal own) (g.added.holds told listed) }
 
-        go : (fault : MergeFault) → MemoryOr (lenient.IsLenientlyRefused (before ++ row)) fault → DiskMemoryOr (IsLenientlyRefusedWal before (wal_in files wal)) (named_in_wal wal.number fault)
+        go : (fault : MergeFault) → MemoryOrRefusal (lenient.IsRowLenientlyRefused (before ++ row)) fault → DiskMemoryOr (IsLenientlyRefusedWal before (wal_in files wal)) (named_in_wal wal.number fault)
         go (merges.Gap index expected found) h = absurd h
         go (merges.Conflict index first) h = (refl, held, subst (λ (r : List SegmentRead). IsLenientConflict (before ++ r) index first) g.rows h)
         go merges.NoMemory h = tt

@@ -6,7 +6,7 @@ use Rattle.batch_repr.specs.Batches.{end_after}
 use Rattle.segment_merge.specs.declared.fault.MergeFault.{MergeFault}
 use Rattle.segment_merge.specs.declared.fault.MergeFault.TheVariants as merges
 use Rattle.segment_merge.specs.Merging.{Merged}
-use Rattle.segment_merge.specs.Refusals.{IsRefused as IsRowRefused}
+use Rattle.segment_merge.specs.Refusals.{IsRowRefused}
 use Rattle.segment_merge.proofs.Laws.{end_append, one_refusal, merged_or_refused, Places, sooner, one, later, places}
 use Rattle.disk_face.specs.View.{Dirs}
 use Rattle.wal_recovery.specs.declared.fault.RecoverFault.{RecoverFault}

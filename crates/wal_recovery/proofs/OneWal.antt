@@ -9,8 +9,8 @@ use Rattle.segment_merge.specs.declared.fault.MergeFault.{MergeFault}
 use Rattle.segment_merge.specs.declared.fault.MergeFault.TheVariants as merges
 use Rattle.segment_merge.specs.Rows.{batches_in}
 use Rattle.segment_merge.specs.Merging.{Merged}
-use Rattle.segment_merge.specs.Refusals.{IsGap, IsConflict, IsRefused}
-use Rattle.segment_merge.specs.Returned.{MemoryOr}
+use Rattle.segment_merge.specs.Refusals.{IsGap, IsConflict, IsRowRefused}
+use Rattle.segment_merge.specs.Returned.{MemoryOrRefusal}
 use Rattle.segment_merge.proofs.Laws.{within_head}
 use Rattle.disk_face.specs.View.{Files, DiskView}
 use Rattle.wal_recovery.specs.declared.fault.RecoverFault.{RecoverFault}
@@ -20,7 +20,7 @@ use Rattle.wal_recovery.specs.declared.reports.SegReport.{SegReport}
 use Rattle.wal_recovery.specs.declared.wals.FoundWal.{FoundWal}
 use Rattle.wal_recovery.specs.Recovering.{log_number, WalMerges}
 use Rattle.wal_recovery.specs.Answers.{FaultRose, DiskMemoryOr}
-use Rattle.wal_recovery.specs.Rows.{place_of, bytes_at, stored_in, wal_in}
+use Rattle.wal_recovery.specs.Rows.{place_listed, bytes_at, stored_in, wal_in}
 use Rattle.wal_recovery.specs.Gathered.{IsAsListed, AreAsListed, counted_in, AddsSegments, GathersWal, IsFirstBadOf, IsOwnWal, named_in_wal}
 use Rattle.wal_recovery.specs.OneWal.{AddsReports, HoldsRow, IsRefusedWal}
 use Rattle.wal_recovery.proofs.Gathering.{AreOfWal, row_holds, reports_on, wal_merged}
@@ -50,14 +50,14 @@ module _ (tells : Bool) (files : Files) (wal : FoundWal) (own : IsOwnWal wal) wh
       wal_merged files next wal g.added.own merged (own_of wal own) (g.added.holds told listed) (subst (λ (r : List SegmentRead). Merged next (batches_in r) merged) g.rows m)
 
   -- what refuses a merge of its row refuses the WAL
-  pub row_refused : (old new : List SegReport) (row : List SegmentRead) (next : ℕ) (fault : MergeFault) → GathersWal tells files wal.segments.items old new row → MemoryOr (IsRefused next row) fault
+  pub row_refused : (old new : List SegReport) (row : List SegmentRead) (next : ℕ) (fault : MergeFault) → GathersWal tells files wal.segments.items old new row → MemoryOrRefusal (IsRowRefused next row) fault
       → IsTrue tells → AreAsListed files wal.segments.items → DiskMemoryOr (IsRefusedWal next (wal_in files wal)) (named_in_wal wal.number fault)
   row_refused old new row next fault g wrong told listed = go fault wrong
     where
       held : HoldsRow (wal_in files wal)
       held = record { row = counted_in g.added.own; holds = row_holds files wal.number wal.segments.items g.added.own (own_of wal own) (g.added.holds told listed) }
 
-      go : (fault : MergeFault) → MemoryOr (IsRefused next row) fault → DiskMemoryOr (IsRefusedWal next (wal_in files wal)) (named_in_wal wal.number fault)
+      go : (fault : MergeFault) → MemoryOrRefusal (IsRowRefused next row) fault → DiskMemoryOr (IsRefusedWal next (wal_in files wal)) (named_in_wal wal.number fault)
       go (merges.Gap index expected found) h = (refl, held, subst (λ (r : List SegmentRead). IsGap next r index expected found) g.rows h)
       go (merges.Conflict index first) h = (refl, held, subst (λ (r : List SegmentRead). IsConflict next r index first) g.rows h)
       go merges.NoMemory h = tt
@@ -83,7 +83,7 @@ module _ (tells : Bool) (files : Files) (wal : FoundWal) (own : IsOwnWal wal) wh
           records = b.bad.2;
           ends_at = b.bad.3;
           torn = b.bad.4;
-          read = subst (λ (n : ℕ). ReadsOut (bytes_at files (place_of b.here)) (log_number n) b.bad.2 b.bad.3 b.bad.4) here b.bad.5;
+          read = subst (λ (n : ℕ). ReadsOut (bytes_at files (place_listed b.here)) (log_number n) b.bad.2 b.bad.3 b.bad.4) here b.bad.5;
           bad = b.bad.6;
         },
       )

@@ -10,7 +10,7 @@ use Rattle.batch_repr.specs.Spelling.{SpellsBatch}
 use Rattle.block_record.specs.declared.records.Rec.{Rec}
 use Rattle.wal_recovery.specs.declared.decoding.DecodeFault.{DecodeFault}
 use Rattle.wal_recovery.specs.declared.decoding.DecodeFault.TheVariants as decodes
-use Rattle.wal_recovery.specs.Recovering.{Spell, takes_number, counted}
+use Rattle.wal_recovery.specs.Recovering.{Spell, takes_number, taking_numbers}
 use Rattle.wal_recovery.specs.Refused.{IsBadRecord}
 use Rattle.wal_recovery.specs.Decoded.{BadOrMemory, IsBadAt}
 
@@ -39,16 +39,16 @@ bad_in records batches i r (decodes.Bad place fault) lt is h bad =
 
 -- ---- those that take a number
 
-numbered_by : (records : List Rec) (batches : List Batch) → Spell records batches → AllByRecursion IsNumbered (counted batches)
+numbered_by : (records : List Rec) (batches : List Batch) → Spell records batches → AllByRecursion IsNumbered (taking_numbers batches)
 numbered_by [] [] h = tt
 numbered_by [] (b ∷ batches) h = absurd h
 numbered_by (r ∷ records) [] h = absurd h
 numbered_by (r ∷ records) (b ∷ batches) h = go (numbered_by records batches h.1) (takes_number b) refl
   where
-    go : AllByRecursion IsNumbered (counted batches) → (t : Bool) → takes_number b ≡ t → AllByRecursion IsNumbered (counted (b ∷ batches))
+    go : AllByRecursion IsNumbered (taking_numbers batches) → (t : Bool) → takes_number b ≡ t → AllByRecursion IsNumbered (taking_numbers (b ∷ batches))
     go later true e = rw e (record { some = grind (arith, nat_tests); within = h.0.numbers }, later)
     go later false e = rw e later
 
 -- each batch that takes a number ends within the numbers
-pub counted_numbered : (records : List Rec) (batches : List Batch) → Spell records batches → All IsNumbered (counted batches)
-counted_numbered records batches h = All-from_recursion IsNumbered (counted batches) (numbered_by records batches h)
+pub counted_numbered : (records : List Rec) (batches : List Batch) → Spell records batches → All IsNumbered (taking_numbers batches)
+counted_numbered records batches h = All-from_recursion IsNumbered (taking_numbers batches) (numbered_by records batches h)

@@ -10,7 +10,7 @@ use Rattle.disk_face.specs.Image.{IsSound, IsSoundFile, IsImageOf}
 use Rattle.disk_face.specs.Calls.{GoesOn, MayStart, Starts, ChangesFile, AfterDone, AfterFailed}
 use Rattle.disk_face.proofs.Laws.{same_place, same_id, sync_image, same_files, moments_from, moments_more, moments_stay, moments_joined}
 use Rattle.wal_recovery.specs.declared.listing.Found.{Found}
-use Rattle.wal_recovery.specs.Rows.{place_of}
+use Rattle.wal_recovery.specs.Rows.{place_listed}
 use Rattle.wal_recovery.specs.Resting.{AddsNoImage, IsSynced, IsAsOrSynced, OnlySynced, IsEnd, EndsBy}
 use Rattle.wal_recovery.proofs.Tools.{some_is}
 
@@ -151,10 +151,10 @@ module _ (tells : Bool) (place : Place) (side : Side) (id : OpId) (old started n
             done_synced (files end.mid place) (files new place) f (ap (λ (fs : Files). fs place) mid_files ∙ change.here ∙ is) (is_end.file told flight flies).here
 
 -- one segment more is synced
-pub synced_more : (mid new : Files) (segments : List Found) (i : ℕ) (d : Found) → i < length segments → All (λ (g : Found). IsSynced (mid (place_of g))) (take i segments) → OnlySynced mid new
-    → IsSynced (new (place_of (get_or segments i d))) → All (λ (g : Found). IsSynced (new (place_of g))) (take (i + 1) segments)
+pub synced_more : (mid new : Files) (segments : List Found) (i : ℕ) (d : Found) → i < length segments → All (λ (g : Found). IsSynced (mid (place_listed g))) (take i segments) → OnlySynced mid new
+    → IsSynced (new (place_listed (get_or segments i d))) → All (λ (g : Found). IsSynced (new (place_listed g))) (take (i + 1) segments)
 synced_more mid new segments i d lt before only here =
-    let kept : All (λ (g : Found). IsSynced (new (place_of g))) (take i segments) = λ k d low.
-    synced_stays (mid (place_of (get_or (take i segments) k d))) (new (place_of (get_or (take i segments) k d))) (before k d low) (only (place_of (get_or (take i segments) k d))) in
-    let pushed = All-push (λ (g : Found). IsSynced (new (place_of g))) (take i segments) (get_or segments i d) kept here in
-    subst (λ (l : List Found). All (λ (g : Found). IsSynced (new (place_of g))) l) (sym (take_more segments i d lt)) pushed
+    let kept : All (λ (g : Found). IsSynced (new (place_listed g))) (take i segments) = λ k d low.
+    synced_stays (mid (place_listed (get_or (take i segments) k d))) (new (place_listed (get_or (take i segments) k d))) (before k d low) (only (place_listed (get_or (take i segments) k d))) in
+    let pushed = All-push (λ (g : Found). IsSynced (new (place_listed g))) (take i segments) (get_or segments i d) kept here in
+    subst (λ (l : List Found). All (λ (g : Found). IsSynced (new (place_listed g))) l) (sym (take_more segments i d lt)) pushed

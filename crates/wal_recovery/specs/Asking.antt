@@ -26,8 +26,8 @@ pub record ListsBoth (old new : DiskView) : Type 0 where
 -- ---- on the way
 
 -- how many bytes the row was listed with of this segment
-abbrev pub bytes_of : Side → SegName → List Found → ℕ
-bytes_of side name row = sum_by (λ (f : Found). if side_eq side f.side && name_eq name f.name then f.len else 0) row
+abbrev pub length_in_row : Side → SegName → List Found → ℕ
+length_in_row side name row = sum_by (λ (f : Found). if side_eq side f.side && name_eq name f.name then f.len else 0) row
 
 -- The calls made since list no side, and ask for no more bytes of each segment than the row was listed with.
 pub record ReadsOnly (row : List Found) (old new : DiskView) : Type 0 where
@@ -35,7 +35,7 @@ pub record ReadsOnly (row : List Found) (old new : DiskView) : Type 0 where
   pub makes : Makes made old new
   pub lists : (side : Side) → listings side made ≡ 0
   pub listed : (side : Side) (name : SegName) → length_listed side name made ≡ 0
-  pub asked : (side : Side) (name : SegName) → bytes_asked side name made ≤ bytes_of side name row
+  pub asked : (side : Side) (name : SegName) → bytes_asked side name made ≤ length_in_row side name row
 
 -- The calls made since list each side once and read nothing, and the row has of each segment as many bytes as it was listed with.
 pub record ListsRow (row : List Found) (old new : DiskView) : Type 0 where
@@ -43,7 +43,7 @@ pub record ListsRow (row : List Found) (old new : DiskView) : Type 0 where
   pub makes : Makes made old new
   pub lists : (side : Side) → listings side made ≡ 1
   pub asked : (side : Side) (name : SegName) → bytes_asked side name made ≡ 0
-  pub listed : (side : Side) (name : SegName) → length_listed side name made ≡ bytes_of side name row
+  pub listed : (side : Side) (name : SegName) → length_listed side name made ≡ length_in_row side name row
 
 -- what a listing gave: nothing where it failed
 abbrev pub names_given : Result (List Listed) RecoverFault → List Listed

@@ -18,13 +18,13 @@ use Rattle.wal_recovery.specs.declared.listing.Found.{Found}
 use Rattle.wal_recovery.specs.declared.reports.SegReport.{SegReport}
 use Rattle.wal_recovery.specs.declared.wals.FoundWal.{FoundWal}
 use Rattle.wal_recovery.specs.Listing.{IsListingOf}
-use Rattle.wal_recovery.specs.Recovering.{log_number, counted, Spell}
+use Rattle.wal_recovery.specs.Recovering.{log_number, taking_numbers, Spell}
 use Rattle.wal_recovery.specs.Refused.{IsBadRecord, by_index}
-use Rattle.wal_recovery.specs.Rows.{place_of, bytes_at, stored_in, wals_in}
+use Rattle.wal_recovery.specs.Rows.{place_listed, bytes_at, stored_in, wals_in}
 
 -- The segment has as many bytes as it was listed with.
 abbrev pub IsAsListed : Files → Found → Type 0
-IsAsListed files segment = HasLength files (place_of segment) segment.len
+IsAsListed files segment = HasLength files (place_listed segment) segment.len
 
 -- each of them does
 abbrev pub AreAsListed : Files → List Found → Type 0
@@ -48,11 +48,11 @@ IsBadIn segment bytes fault = ⊥
 
 -- the batches of a report that take a number, under an index
 abbrev pub read_as : ℕ → SegReport → SegmentRead
-read_as index report = record { index = index; batches = counted report.batches }
+read_as index report = record { index = index; batches = taking_numbers report.batches }
 
 -- Each batch of the report that takes a number ends within the numbers.
 abbrev pub IsNumberedReport : SegReport → Type 0
-IsNumberedReport report = All IsNumbered (counted report.batches)
+IsNumberedReport report = All IsNumbered (taking_numbers report.batches)
 
 -- One segment more: its report is added, and the batches of it that take a number.
 pub record AddsSegment (tells : Bool) (files : Files) (segment : Found) (index : ℕ) (old new : List SegReport) (row longer : List SegmentRead) : Type 0 where
@@ -60,11 +60,11 @@ pub record AddsSegment (tells : Bool) (files : Files) (segment : Found) (index :
   pub reports : new ≡ old ++ report ∷ []
   pub rows : longer ≡ row ++ read_as index report ∷ []
   pub numbered : IsNumberedReport report
-  pub holds : IsTrue tells → IsAsListed files segment → IsReportOf segment (bytes_at files (place_of segment)) report
+  pub holds : IsTrue tells → IsAsListed files segment → IsReportOf segment (bytes_at files (place_listed segment)) report
 
 -- the batches of reports that take a number
 abbrev pub counted_in : List SegReport → List (List Batch)
-counted_in reports = map (λ (r : SegReport). counted r.batches) reports
+counted_in reports = map (λ (r : SegReport). taking_numbers r.batches) reports
 
 -- The batches of the reports that take a number, where gaps are accepted, are merged to these.
 pub record AreReportsMerged (reports : List SegReport) (merged : List Batch) : Type 0 where
@@ -77,7 +77,7 @@ pub record AddsSegments (tells : Bool) (files : Files) (segments : List Found) (
   pub reports : new ≡ old ++ own
   pub as_many : length own ≡ length segments
   pub numbered : All IsNumberedReport own
-  pub holds : IsTrue tells → AreAsListed files segments → AllZip (λ (f : Found) (r : SegReport). IsReportOf f (bytes_at files (place_of f)) r) segments own
+  pub holds : IsTrue tells → AreAsListed files segments → AllZip (λ (f : Found) (r : SegReport). IsReportOf f (bytes_at files (place_listed f)) r) segments own
 
 -- The row of a WAL, each segment under its own index.
 pub record GathersWal (tells : Bool) (files : Files) (segments : List Found) (old new : List SegReport) (row : List SegmentRead) : Type 0 where
@@ -91,8 +91,8 @@ pub record IsFirstBadOf (files : Files) (segments : List Found) (fault : Recover
   pub after : List Found
   pub cut : segments ≡ before ++ here ∷ after
   pub reports : List SegReport
-  pub right : AllZip (λ (f : Found) (r : SegReport). IsReportOf f (bytes_at files (place_of f)) r) before reports
-  pub bad : IsBadIn here (bytes_at files (place_of here)) fault
+  pub right : AllZip (λ (f : Found) (r : SegReport). IsReportOf f (bytes_at files (place_listed f)) r) before reports
+  pub bad : IsBadIn here (bytes_at files (place_listed here)) fault
 
 -- Each segment is of the WAL.
 abbrev pub IsOwnWal : FoundWal → Type 0

@@ -23,8 +23,8 @@ abbrev pub takes_number : Batch → Bool
 takes_number batch = nat_lt 0 (count_of batch.entries)
 
 -- the batches that take a number
-abbrev pub counted : List Batch → List Batch
-counted batches = filter takes_number batches
+abbrev pub taking_numbers : List Batch → List Batch
+taking_numbers batches = filter takes_number batches
 
 -- Each record spells a batch.
 abbrev pub Spell : List Rec → List Batch → Type 0
@@ -38,7 +38,7 @@ pub record HoldsBatches (log : ℕ) (content : List ℕ) (batches : List Batch) 
   pub read : ReadsOut content log records ends_at torn
   pub all : List Batch
   pub spelled : Spell records all
-  pub counted_are : batches ≡ counted all
+  pub counted_are : batches ≡ taking_numbers all
 
 -- Each segment holds a list of batches.
 abbrev pub HoldRow : ℕ → List Stored → List (List Batch) → Type 0

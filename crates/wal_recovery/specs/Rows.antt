@@ -15,8 +15,8 @@ use Rattle.wal_recovery.specs.declared.wals.FoundWal.{FoundWal}
 use Rattle.wal_recovery.specs.Listing.{Stored, Wal, IsDuplicate}
 
 -- where a listed segment stands
-abbrev pub place_of : Found → Place
-place_of f = segment f.side f.name
+abbrev pub place_listed : Found → Place
+place_listed f = segment f.side f.name
 
 -- a listed segment as its side lists it
 abbrev pub item_of : Found → Listed
@@ -29,7 +29,7 @@ Ascends (f ∷ row) = ((g : Found) → Contains row g → IsBefore f.name g.name
 
 -- The row has the created segments of both sides, each with its length, and nothing else.
 abbrev pub IsRowOf : Files → List Found → Type 0
-IsRowOf files row = (f : Found) → Contains row f ↔ (IsSegmentName f.name × HasLength files (place_of f) f.len)
+IsRowOf files row = (f : Found) → Contains row f ↔ (IsSegmentName f.name × HasLength files (place_listed f) f.len)
 
 -- The name stands before the first of the list.
 abbrev pub IsBeforeHead : SegName → List Listed → Type 0
@@ -103,7 +103,7 @@ bytes_at files place = bytes_or_none (as_read (files place))
 
 -- a listed segment with its bytes
 abbrev pub stored_in : Files → Found → Stored
-stored_in files f = record { side = f.side; index = f.name.index; content = bytes_at files (place_of f) }
+stored_in files f = record { side = f.side; index = f.name.index; content = bytes_at files (place_listed f) }
 
 -- a WAL with the bytes of its segments
 abbrev pub wal_in : Files → FoundWal → Wal

@@ -3,7 +3,7 @@
 ghost use Rattle.std.specs.Prelude.{◌≡◌, IfOk, IfErr};
 ghost use Rattle.batch_repr.specs.Batches.{count_of};
 ghost use Rattle.batch_repr.specs.Spelling.{SpellsBatch};
-ghost use Rattle.wal_recovery.specs.Recovering.{counted, Spell};
+ghost use Rattle.wal_recovery.specs.Recovering.{taking_numbers, Spell};
 ghost use Rattle.wal_recovery.specs.Refused.{IsBadRecord};
 ghost use Rattle.wal_recovery.specs.Decoded.{BadOrMemory, IsBadAt};
 
@@ -72,7 +72,7 @@ pub(crate) fn count(entries: &[Entry]) -> u64
 
 /// The batches that take a number, whose bytes are shared with those of the report.
 pub(crate) fn counted_of(alloc: Global, batches: &[Batch]) -> Result<Batches, NoMemory>
-    ensures { IfOk result (λ shared. shared ≡ counted batches.now) }
+    ensures { IfOk result (λ shared. shared ≡ taking_numbers batches.now) }
 {
     let mut counted = Batches::with_capacity(alloc, batches.len())?;
     for batch in batches {

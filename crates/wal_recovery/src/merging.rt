@@ -15,7 +15,7 @@ ghost use Rattle.wal_recovery.specs.Recovering.{FIRST_NUMBER, WalMerges, WalsMer
 ghost use Rattle.wal_recovery.specs.Refused.{IsRefused, IsLenientlyRefused};
 ghost use Rattle.wal_recovery.specs.Reports.{ReportOnAll};
 ghost use Rattle.wal_recovery.specs.Answers.{FaultRose, DiskMemoryOr};
-ghost use Rattle.wal_recovery.specs.Rows.{place_of, bytes_at, stored_in, wal_in, wals_in};
+ghost use Rattle.wal_recovery.specs.Rows.{place_listed, bytes_at, stored_in, wal_in, wals_in};
 ghost use Rattle.wal_recovery.specs.Gathered.{IsAsListed, AreAsListed, IsReportOf, IsBadIn, AddsSegment, GathersWal, AreReportsMerged, IsFirstBadOf, IsOwnWal, AreListedWals, named_in_wal, IsNoDisk};
 ghost use Rattle.wal_recovery.specs.OneWal.{AddsReports, IsRefusedWal, IsLenientlyRefusedWal};
 ghost use Rattle.wal_recovery.specs.Asking.{ReadsOnly, found_in};
@@ -77,7 +77,7 @@ fn read_segment<D: Disk>(
     ensures same { SameDisk (D.view disk.old) (D.view disk.new) }
     ensures rose { IfErr result (FaultRose (D.view disk.old) (D.view disk.new)) }
     ensures added { OnOk result (AddsSegment D.tells (files (D.view disk.old)) segment index reports.old reports.new row.old row.new) }
-    ensures bad { IfErr result (λ fault. IsTrue D.tells → IsAsListed (files (D.view disk.old)) segment → DiskMemoryOr (IsBadIn segment (bytes_at (files (D.view disk.old)) (place_of segment))) fault) }
+    ensures bad { IfErr result (λ fault. IsTrue D.tells → IsAsListed (files (D.view disk.old)) segment → DiskMemoryOr (IsBadIn segment (bytes_at (files (D.view disk.old)) (place_listed segment))) fault) }
 {
     let bytes = read_bytes(alloc, disk, segment)?;
     let report = report_of(alloc, segment, bytes)?;

@@ -6,7 +6,7 @@ ghost use Rattle.disk_face.specs.View.{files};
 ghost use Rattle.disk_face.specs.Listing.{HasLength};
 ghost use Rattle.disk_face.specs.Calls.{GoesOn, SameDisk};
 ghost use Rattle.wal_recovery.specs.Answers.{FaultRose};
-ghost use Rattle.wal_recovery.specs.Rows.{place_of, bytes_at, IsDiskOrMemory};
+ghost use Rattle.wal_recovery.specs.Rows.{place_listed, bytes_at, IsDiskOrMemory};
 ghost use Rattle.wal_recovery.specs.Asking.{ReadsOnly};
 
 use crate::fault::RecoverFault;
@@ -27,7 +27,7 @@ fn fill<D: Disk>(disk: &mut D, segment: Found, buffer: &mut [u8]) -> Result<usiz
     ensures asks { length buffer.old ≤ segment.len → ReadsOnly (segment ∷ []) (D.view disk.old) (D.view disk.new) }
     ensures same { SameDisk (D.view disk.old) (D.view disk.new) }
     ensures failed { IsErrOf result DiskErr.Failed → Rose ((D.view disk.old).faults segment.side) ((D.view disk.new).faults segment.side) }
-    ensures bytes { IfOk result (λ n. IsTrue D.tells → HasLength (files (D.view disk.old)) (place_of segment) (length buffer.old) → take n buffer.new ≡ bytes_at (files (D.view disk.old)) (place_of segment)) }
+    ensures bytes { IfOk result (λ n. IsTrue D.tells → HasLength (files (D.view disk.old)) (place_listed segment) (length buffer.old) → take n buffer.new ≡ bytes_at (files (D.view disk.old)) (place_listed segment)) }
 {
     if buffer.is_empty() {
         return Ok(0);
@@ -46,7 +46,7 @@ pub(crate) fn read_bytes<D: Disk>(
     ensures same { SameDisk (D.view disk.old) (D.view disk.new) }
     ensures fault { IfErr result IsDiskOrMemory }
     ensures rose { IfErr result (FaultRose (D.view disk.old) (D.view disk.new)) }
-    ensures bytes { IfOk result (λ bytes. IsTrue D.tells → HasLength (files (D.view disk.old)) (place_of segment) segment.len → bytes.items ≡ bytes_at (files (D.view disk.old)) (place_of segment)) }
+    ensures bytes { IfOk result (λ bytes. IsTrue D.tells → HasLength (files (D.view disk.old)) (place_listed segment) segment.len → bytes.items ≡ bytes_at (files (D.view disk.old)) (place_listed segment)) }
 {
     let Ok(len) = usize::try_from(segment.len) else {
         return Err(RecoverFault::NoMemory);

@@ -5,7 +5,7 @@ ghost use Rattle.disk_face.specs.View.{files, syncing, NothingInFlight, AtEachMo
 ghost use Rattle.disk_face.specs.Calls.{GoesOn, MayStart};
 ghost use Rattle.wal_recovery.specs.declared.listing.Found.{Found};
 ghost use Rattle.wal_recovery.specs.Answers.{FaultRose};
-ghost use Rattle.wal_recovery.specs.Rows.{place_of, IsDiskOrMemory};
+ghost use Rattle.wal_recovery.specs.Rows.{place_listed, IsDiskOrMemory};
 ghost use Rattle.wal_recovery.specs.Resting.{IsSynced, OnlySynced, EndsBy};
 ghost use Rattle.wal_recovery.specs.Asking.{ReadsOnly};
 
@@ -33,14 +33,14 @@ fn wait<D: Disk>(disk: &mut D, id: OpId) -> bool
 /// Syncs one segment.
 fn sync<D: Disk>(disk: &mut D, segment: Found) -> Result<(), RecoverFault>
     requires idle { NothingInFlight (D.view disk.old) }
-    requires there { IsTrue D.tells → MayStart syncing (files (D.view disk.old) (place_of segment)) }
+    requires there { IsTrue D.tells → MayStart syncing (files (D.view disk.old) (place_listed segment)) }
     ensures asks { ReadsOnly [] (D.view disk.old) (D.view disk.new) }
     ensures goes_on { GoesOn (D.view disk.old) (D.view disk.new) }
     ensures idle { NothingInFlight (D.view disk.new) }
     ensures fault { IfErr result IsDiskOrMemory }
     ensures rose { IfErr result (FaultRose (D.view disk.old) (D.view disk.new)) }
     ensures each_moment { IsTrue D.tells → AtEachMoment ((D.view disk.old).clock) (D.view disk.new) (OnlySynced (files (D.view disk.old))) }
-    ensures synced { OnOk result (IsTrue D.tells → IsSynced (files (D.view disk.new) (place_of segment))) }
+    ensures synced { OnOk result (IsTrue D.tells → IsSynced (files (D.view disk.new) (place_listed segment))) }
 {
     let Found { side, name, .. } = segment;
     let id = match disk.start(DiskOp::Sync { side, name }) {
@@ -57,14 +57,14 @@ fn sync<D: Disk>(disk: &mut D, segment: Found) -> Result<(), RecoverFault>
 /// Syncs each segment, one after another.
 pub(crate) fn sync_all<D: Disk>(disk: &mut D, segments: &[Found]) -> Result<(), RecoverFault>
     requires idle { NothingInFlight (D.view disk.old) }
-    requires there { IsTrue D.tells → All (λ (f : Found). MayStart syncing (files (D.view disk.old) (place_of f))) segments.now }
+    requires there { IsTrue D.tells → All (λ (f : Found). MayStart syncing (files (D.view disk.old) (place_listed f))) segments.now }
     ensures asks { ReadsOnly [] (D.view disk.old) (D.view disk.new) }
     ensures goes_on { GoesOn (D.view disk.old) (D.view disk.new) }
     ensures idle { NothingInFlight (D.view disk.new) }
     ensures fault { IfErr result IsDiskOrMemory }
     ensures rose { IfErr result (FaultRose (D.view disk.old) (D.view disk.new)) }
     ensures each_moment { IsTrue D.tells → AtEachMoment ((D.view disk.old).clock) (D.view disk.new) (OnlySynced (files (D.view disk.old))) }
-    ensures synced { OnOk result (IsTrue D.tells → All (λ (f : Found). IsSynced (files (D.view disk.new) (place_of f))) segments.now) }
+    ensures synced { OnOk result (IsTrue D.tells → All (λ (f : Found). IsSynced (files (D.view disk.new) (place_listed f))) segments.now) }
 {
     for segment in segments {
         sync(disk, *segment)?;

@@ -11,7 +11,7 @@ use Rattle.failover_writer.specs.declared.fault.DeadMark.{DeadMark}
 use Rattle.failover_writer.specs.declared.fault.JournalFault.{JournalFault}
 use Rattle.failover_writer.specs.declared.fault.JournalFault.TheVariants as faults
 use Rattle.failover_writer.specs.Answered.{IsMarked}
-use Rattle.failover_writer.specs.Sound.{IsSound}
+use Rattle.failover_writer.specs.Sound.{IsSoundJournal}
 use Rattle.failover_writer.specs.State.{State, len, acked}
 use Rattle.wal_top.specs.declared.replies.JournalEnd.{JournalEnd}
 use Rattle.wal_top.specs.Printing.{commit_line, end_line}
@@ -43,7 +43,7 @@ closes_stage tells died batches text limited old new before after runs lives dea
 }
 
 -- the last line behind a closing
-pub ends_run : (tells died : Bool) (old mid : Stage) (acked_now begun visible count : ℕ) (text : List ℕ) → Closes tells died old mid → IsSound mid.journal → acked_now ≡ acked mid.journal → begun ≡ length mid.journal.segments
+pub ends_run : (tells died : Bool) (old mid : Stage) (acked_now begun visible count : ℕ) (text : List ℕ) → Closes tells died old mid → IsSoundJournal mid.journal → acked_now ≡ acked mid.journal → begun ≡ length mid.journal.segments
     → visible ≡ end_after FIRST mid.batches → IsContiguous FIRST mid.batches → visible ≤ NUMBER_MAX → count ≡ len mid.journal → text ≡ mid.text ++ end_line visible count (record { acked = acked_now; segments = begun; died = died })
     → EndsRun tells (record { acked = acked_now; segments = begun; died = died }) old (record { batches = mid.batches; journal = mid.journal; view = mid.view; text = text; limited = mid.limited })
 ends_run tells died old mid acked_now begun visible count text c sound acked_is begun_is visible_is numbered within count_is text_is =

@@ -16,12 +16,12 @@ use Rattle.wal_top.specs.declared.script.Act.{Act}
 use Rattle.wal_top.specs.declared.replies.JournalEnd.{JournalEnd}
 use Rattle.wal_top.specs.declared.status.Status.{Status}
 use Rattle.wal_top.specs.declared.status.Status.TheVariants.{Done, Usage, Script, Read, Write, Disk, Refused, NoMemory, Limit}
-use Rattle.wal_top.specs.Call.{Call, Rises, HasCalmSource, HasCalmDisk}
+use Rattle.wal_top.specs.Call.{Invocation, Rises, HasCalmSource, HasCalmDisk}
 use Rattle.wal_top.specs.Words.{IsCommand, IsReplay, IsRecover, IsDump, RecoversIn, ReadsSource}
 use Rattle.wal_top.specs.Reading.{TellsScript, TellsNoScript}
 use Rattle.wal_top.specs.Replay.{IsReplayText, AllCommitted, LacksBatch}
 use Rattle.wal_top.specs.Log.{directories}
-use Rattle.wal_top.specs.Outcomes.{ReachesDisk, read, unread, Replays, IsDone, replayed, recovered, dumped, IsLimited, of_numbers, of_wals, FailsDisk, in_recovery, dead, RefusesDirectories, HasToSay}
+use Rattle.wal_top.specs.Outcomes.{ReachesDisk, read, unread, Replays, IsDoneRun, replayed, recovered, dumped, IsLimited, of_numbers, of_wals, FailsDisk, in_recovery, dead, RefusesDirectories, HasToSay}
 use Rattle.wal_top.specs.Run.{Run, YieldsTo, IsDoneUnless, MayBegin, end_of_script, ComesExactly}
 use Rattle.wal_top.proofs.Coming.{one_next_wal}
 use Rattle.wal_top.proofs.Counting.{all_numbers, none_lacks}
@@ -60,7 +60,7 @@ refused_leniently words Lenient view why dump is r = r
 refused_leniently words Strict view why dump (inl replay) r = absurd (not_dump words replay dump)
 refused_leniently words Strict view why dump (inr recover) r = absurd (not_shown words recover dump)
 
-module _ (c : Call) where
+module _ (c : Invocation) where
   -- ---- whoever says anything but the usage has a command
 
   failed_command : (text : List ℕ) → FailsDisk c text → IsCommand c.words
@@ -71,7 +71,7 @@ module _ (c : Call) where
   limited_replay text (of_numbers acts batches end r lives lacks) = r.words
   limited_replay text (of_wals l) = l.words
 
-  done_command : (text : List ℕ) → IsDone c text → IsCommand c.words
+  done_command : (text : List ℕ) → IsDoneRun c text → IsCommand c.words
   done_command text (replayed acts batches end r lives all) = inl r.words
   done_command text (recovered s) = inr (inl s.words)
   done_command text (dumped s) = inr (inr s.words)
@@ -107,7 +107,7 @@ module _ (c : Call) where
   limited_accepted text told (of_numbers acts batches end r lives lacks) = not_accepted c.left.before c.left.after acts told r.accepts
   limited_accepted text told (of_wals l) = not_accepted c.left.before c.left.after l.acts told l.accepts
 
-  done_accepted : (text : List ℕ) → ReadsSource c.words → TellsNoScript c.left.before → IsDone c text → ⊥
+  done_accepted : (text : List ℕ) → ReadsSource c.words → TellsNoScript c.left.before → IsDoneRun c text → ⊥
   done_accepted text words told (replayed acts batches end r lives all) = not_accepted c.left.before c.left.after acts told r.accepts
   done_accepted text words told (recovered s) = not_recover c.words words s.words
   done_accepted text words told (dumped s) = not_dump c.words words s.words
@@ -132,7 +132,7 @@ module _ (c : Call) where
     limited_unrefused text (of_wals l) =
         recovered_or_refused (directories c.disk.before) l.base why (l.recovers told) (refused_strictly c.words mode c.disk.before why (inl l.words) words is_refused)
 
-    done_unrefused : (text : List ℕ) → IsDone c text → ⊥
+    done_unrefused : (text : List ℕ) → IsDoneRun c text → ⊥
     done_unrefused text (replayed acts batches end r lives all) =
         recovered_or_refused (directories c.disk.before) r.done.base why (r.done.recovers told) (refused_strictly c.words mode c.disk.before why (inl r.words) words is_refused)
     done_unrefused text (recovered s) =
@@ -169,7 +169,7 @@ module _ (c : Call) where
         subst (λ (a : List Act). IsReplayText b.base a batches end text) (acts_told c.left.before c.left.after acts b.script r.accepts)
         (subst (λ (l : List Batch). IsReplayText l acts batches end text) (recovers_once (directories c.disk.before) r.done.base b.base (r.done.recovers b.tells) b.recovers) r.done.answers)
 
-    done_within : (text : List ℕ) → IsDone c text → (LAST_WAL < b.next) ⊎ (NUMBER_MAX < end_of_script b) → ⊥
+    done_within : (text : List ℕ) → IsDoneRun c text → (LAST_WAL < b.next) ⊎ (NUMBER_MAX < end_of_script b) → ⊥
     done_within text (replayed acts batches end r lives all) (inl past) = omega (arith, past, r.done.logs.within, one_next_wal c.disk.before r.done.logs.wal b.next (r.done.logs.next b.tells) b.next_is)
     done_within text (replayed acts batches end r lives all) (inr past) =
         omega (arith, past, all_numbers b.base b.script.good.acts batches end text (replay_told acts batches end text r) (subst (λ (a : List Act). AllCommitted a batches) (acts_told c.left.before c.left.after acts b.script r.accepts) all))

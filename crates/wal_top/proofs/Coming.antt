@@ -20,7 +20,7 @@ use Rattle.wal_top.specs.declared.replies.JournalEnd.{JournalEnd}
 use Rattle.wal_top.specs.declared.status.Status.{Status}
 use Rattle.wal_top.specs.Replay.{FIRST}
 use Rattle.wal_top.specs.declared.replaying.TheConstants.{LAST_WAL}
-use Rattle.wal_top.specs.Log.{directories, OthersStay, PollsLeft, EndsAs, LogsBatches}
+use Rattle.wal_top.specs.Log.{directories, OthersOnlySynced, PollsLeft, EndsAs, LogsBatches}
 use Rattle.wal_top.specs.Journaling.{OthersSame, HasEnded}
 use Rattle.wal_top.specs.Outcomes.{ReplaysActs}
 use Rattle.wal_top.specs.Doing.{ReplaysOver}
@@ -61,7 +61,7 @@ are_unsent wal old now v is sound next within only index low high =
 -- ---- what follows a recovery
 
 module _ (old mid new : DiskView) (wal : ℕ) (tells : Bool) (only : IsTrue tells → OnlySynced (files old) (files mid)) where
-  pub others_stay : (IsTrue tells → OthersSame wal (files mid) (files new)) → IsTrue tells → OthersStay wal (files old) (files new)
+  pub others_stay : (IsTrue tells → OthersSame wal (files mid) (files new)) → IsTrue tells → OthersOnlySynced wal (files old) (files new)
   others_stay same told p elsewhere = subst (IsAsOrSynced (files old p)) (sym (same told p elsewhere)) (only told p)
 
   module _ (base batches : List Batch) (end : JournalEnd) (goes : GoesOn old mid) (ended : HasEnded tells mid wal (end_after FIRST base) batches end new) where

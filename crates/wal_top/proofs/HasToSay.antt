@@ -18,7 +18,7 @@ use Rattle.wal_recovery.specs.Answers.{IsRefusedBy, IsRefusal, FaultRose, DiskMe
 use Rattle.wal_top.specs.declared.script.Act.{Act}
 use Rattle.wal_top.specs.declared.status.Status.{Status}
 use Rattle.wal_top.specs.declared.status.Status.TheVariants.{Done, Refused}
-use Rattle.wal_top.specs.Call.{Call, Stays}
+use Rattle.wal_top.specs.Call.{Invocation, Stays}
 use Rattle.wal_top.specs.Words.{IsReplay, IsRecover, IsDump, RecoversIn}
 use Rattle.wal_top.specs.Printing.{refusal_text, segments_text}
 use Rattle.wal_top.specs.Reading.{ReadsScript}
@@ -29,10 +29,10 @@ use Rattle.wal_top.specs.Doing.{IsShort, status_after, ReplaysOver}
 use Rattle.wal_top.specs.Outcomes.{ReachesDisk, ReplaysActs, Replays, replayed, recovered, dumped, of_numbers, in_recovery, dead, HasToSay}
 
 -- it has to say so by this status
-as_status : (c : Call) (text : List ℕ) (status said : Status) → status ≡ said → HasToSay c said text → HasToSay c status text
+as_status : (c : Invocation) (text : List ℕ) (status said : Status) → status ≡ said → HasToSay c said text → HasToSay c status text
 as_status c text status said is h = subst (λ (s : Status). HasToSay c s text) (sym is) h
 
-module _ (c : Call) (mode : Mode) (words : RecoversIn c.words mode) (reaches : ReachesDisk c) (only : IsTrue c.tells → OnlySynced (files c.disk.before) (files c.disk.after)) (rests : NothingInFlight c.disk.after) where
+module _ (c : Invocation) (mode : Mode) (words : RecoversIn c.words mode) (reaches : ReachesDisk c) (only : IsTrue c.tells → OnlySynced (files c.disk.before) (files c.disk.after)) (rests : NothingInFlight c.disk.after) where
   refuses : (fault : RecoverFault) (text : List ℕ) → text ≡ refusal_text fault → IsRefusal fault → (IsTrue c.tells → IsRefusedBy mode (directories c.disk.before) fault) → SameDisk c.disk.before c.disk.after → HasToSay c Refused text
   refuses why text text_is_ real_ is same_ = record { mode = mode; words = words; reaches = reaches; fault = why; real = real_; refused = is; text_is = text_is_; same = same_ }
 
@@ -48,7 +48,7 @@ module _ (c : Call) (mode : Mode) (words : RecoversIn c.words mode) (reaches : R
   says_unrecovered faults.NoMemory status text says rose is same = absurd says
 
 -- a replay says that its journal died, that a commit has no batch, or that it is done
-pub says_replayed : (c : Call) (acts : List Act) (base : List Batch) (wal : ℕ) (mid : DiskView) (status : Status) (text : List ℕ) → IsReplay c.words → ReadsScript c.left.before acts c.left.after
+pub says_replayed : (c : Invocation) (acts : List Act) (base : List Batch) (wal : ℕ) (mid : DiskView) (status : Status) (text : List ℕ) → IsReplay c.words → ReadsScript c.left.before acts c.left.after
     → (r : ReplaysOver base acts wal c.tells mid c.disk.after status text) → ReplaysActs acts c.tells c.disk.before c.disk.after r.batches r.end text → HasToSay c status text
 says_replayed c acts base wal mid status text is reads r replays_acts = as_status c text status (status_after r.end.died r.limited) r.status_is (by r.end.died refl r.limited refl)
   where
@@ -61,7 +61,7 @@ says_replayed c acts base wal mid status text is reads r replays_acts = as_statu
     by false e false l = replayed acts r.batches r.end all e (subst (λ (b : Bool). IsShort b acts r.batches) l (r.short e))
 
 -- the store and the segments, as recovery answers them and as they are printed
-module _ (c : Call) (batches' : List Batch) (next : ℕ) (text : List ℕ) (ends : next ≡ end_after FIRST batches') (unread' : Stays c.left) where
+module _ (c : Invocation) (batches' : List Batch) (next : ℕ) (text : List ℕ) (ends : next ≡ end_after FIRST batches') (unread' : Stays c.left) where
   pub says_store : (shown : List Batch) → shown ≡ batches' → IsRecover c.words → (IsTrue c.tells → Recovers (directories c.disk.before) batches') → (IsTrue c.tells → OnlySynced (files c.disk.before) (files c.disk.after))
       → (IsTrue c.tells → IsRested (files c.disk.before) → AreSegmentsStable (files c.disk.after)) → (lines : List ℕ) × IsStoreText shown lines × (text ≡ lines ++ recovered_end (length shown) next) → HasToSay c Done text
   says_store shown is words' recovers' only rested (lines, is_store, printed) = recovered (record {

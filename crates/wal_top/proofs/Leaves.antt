@@ -6,16 +6,16 @@ use Rattle.disk_face.proofs.Laws.{goes_on_from, same_from, moments_from}
 use Rattle.wal_recovery.specs.Listing.{IsNextWal}
 use Rattle.wal_recovery.specs.Resting.{AddsNoImage}
 use Rattle.wal_top.specs.declared.reading.TheConstants.{SCRIPT_MAX}
-use Rattle.wal_top.specs.Call.{Call, Stays}
+use Rattle.wal_top.specs.Call.{Invocation, Stays}
 use Rattle.wal_top.specs.Words.{IsReplay, StartsOperations}
 use Rattle.wal_top.specs.Reading.{TookAtMost}
-use Rattle.wal_top.specs.Log.{directories, OthersStay}
+use Rattle.wal_top.specs.Log.{directories, OthersOnlySynced}
 use Rattle.wal_top.specs.Run.{WritesNoJournal, Leaves}
 use Rattle.wal_top.proofs.Taking.{took_none}
 
 -- by a replay
-pub leaves_journal : (c : Call) → IsReplay c.words → TookAtMost (SCRIPT_MAX + 1) c.left.before c.left.after → GoesOn c.disk.before c.disk.after
-    → (IsTrue c.tells → (wal : ℕ) → IsNextWal (directories c.disk.before) wal → OthersStay wal (files c.disk.before) (files c.disk.after)) → Leaves c
+pub leaves_journal : (c : Invocation) → IsReplay c.words → TookAtMost (SCRIPT_MAX + 1) c.left.before c.left.after → GoesOn c.disk.before c.disk.after
+    → (IsTrue c.tells → (wal : ℕ) → IsNextWal (directories c.disk.before) wal → OthersOnlySynced wal (files c.disk.before) (files c.disk.after)) → Leaves c
 leaves_journal c words took' goes others' = record {
   took = took';
   goes_on = goes;
@@ -25,7 +25,7 @@ leaves_journal c words took' goes others' = record {
 }
 
 -- by another command, with the source as it was
-pub leaves_no_journal : (c : Call) → Stays c.left → GoesOn c.disk.before c.disk.after → WritesNoJournal c.tells c.disk → ((StartsOperations c.words → ⊥) → SameDisk c.disk.before c.disk.after) → Leaves c
+pub leaves_no_journal : (c : Invocation) → Stays c.left → GoesOn c.disk.before c.disk.after → WritesNoJournal c.tells c.disk → ((StartsOperations c.words → ⊥) → SameDisk c.disk.before c.disk.after) → Leaves c
 leaves_no_journal c stays goes none same = record {
   took = took_none c.left.before c.left.after (SCRIPT_MAX + 1) stays;
   goes_on = goes;

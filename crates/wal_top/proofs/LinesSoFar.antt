@@ -10,7 +10,7 @@ use Rattle.wal_top.specs.declared.pieces.Cut.TheVariants.{AtLineFeeds}
 use Rattle.wal_top.specs.declared.script.Act.{Act}
 use Rattle.wal_top.specs.declared.script.Act.TheVariants.{Commit, Get}
 use Rattle.wal_top.specs.Cutting.{is_cut, pieces, lines_of}
-use Rattle.wal_top.specs.Script.{LineSays, LinesSay, IsAccepted, IsFirstBad}
+use Rattle.wal_top.specs.Script.{LineSays, LinesSay, IsAcceptedLine, IsFirstBad}
 use Rattle.wal_top.specs.Replay.{numbers_taken}
 
 -- so many lines were taken, and these acts are what they say
@@ -37,11 +37,11 @@ one_more all old new acts acts' count line said s e l added = record {
   count_is = omega (arith, length-append s.done (line ∷ []), s.count_is);
 }
 
-accepted : (lines : List (List ℕ)) (acts : List Act) → LinesSay lines acts → AllByRecursion IsAccepted lines
+accepted : (lines : List (List ℕ)) (acts : List Act) → LinesSay lines acts → AllByRecursion IsAcceptedLine lines
 accepted [] acts h = tt
 accepted (line ∷ lines) acts h = ((h.0, h.2), accepted lines h.1 h.3)
 
-pub first_bad : (all old new : List (List ℕ)) (acts : List Act) (count n : ℕ) (line : List ℕ) → SoFar all old acts count → old ≡ line ∷ new → (IsAccepted line → ⊥) → n ≡ count + 1 → IsFirstBad all n
+pub first_bad : (all old new : List (List ℕ)) (acts : List Act) (count n : ℕ) (line : List ℕ) → SoFar all old acts count → old ≡ line ∷ new → (IsAcceptedLine line → ⊥) → n ≡ count + 1 → IsFirstBad all n
 first_bad all old new acts count n line s e bad number = record {
   before = s.done;
   line = line;

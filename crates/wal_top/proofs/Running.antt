@@ -11,15 +11,15 @@ use Rattle.disk_face.specs.View.{Place, DiskView, files, NothingInFlight}
 use Rattle.disk_face.specs.Calls.{GoesOn}
 use Rattle.disk_face.proofs.Laws.{goes_on_further, rose_later, rose_earlier}
 use Rattle.log_writer.specs.Writer.{Writer}
-use Rattle.log_writer.specs.Fits.{file_of}
+use Rattle.log_writer.specs.Fits.{place_of_writer}
 use Rattle.failover_writer.specs.declared.fault.DeadMark.{DeadMark}
-use Rattle.failover_writer.specs.State.{State, Held, with_room, len, acked, most_synced, broken_count}
+use Rattle.failover_writer.specs.State.{State, JournalView, with_room, len, acked, most_synced, broken_count}
 use Rattle.failover_writer.specs.Ranges.{AreJoined, StandsFor, KeepsRecords, AddsRecord}
 use Rattle.failover_writer.specs.Answered.{IsHarmed, IsSmooth, FaultsRose, PollsFell}
 use Rattle.failover_writer.specs.Moves.{Pushes}
 use Rattle.failover_writer.specs.Keeping.{IsElsewhere, KeepsBase, KeepsBases}
 use Rattle.failover_writer.specs.Lasting.{Lasts}
-use Rattle.failover_writer.specs.Sound.{IsSound}
+use Rattle.failover_writer.specs.Sound.{IsSoundJournal}
 use Rattle.failover_writer.proofs.Laws.{not_theirs, synced_within, run_kept_now, reads_as_image, base_recovers, none_of_opening}
 use Rattle.wal_top.specs.declared.replies.JournalEnd.{JournalEnd}
 use Rattle.wal_top.specs.Log.{PollsLeft, EndsAs}
@@ -50,7 +50,7 @@ module _ (tells : Bool) (start : DiskView) (wal base : ℕ) where
     harmed = λ harmed. r.harmed (was_harmed harmed);
     smooth = was_smooth r.smooth;
     kept = λ told b opening. keeps b (r.kept told b opening);
-    others = λ told p outside. r.others told p (λ has. outside (subst (λ (ws : List Writer). Contains (map file_of ws) p) (sym segments) has));
+    others = λ told p outside. r.others told p (λ has. outside (subst (λ (ws : List Writer). Contains (map place_of_writer ws) p) (sym segments) has));
   }
     where
       was_harmed : IsHarmed new → IsHarmed old
@@ -65,7 +65,7 @@ module _ (tells : Bool) (start : DiskView) (wal base : ℕ) where
       })
       was_smooth (inr x) = inr x
 
-  module _ {Disk : Type 0} (view : Disk → DiskView) (own : List Batch) (old new : Held Disk) where
+  module _ {Disk : Type 0} (view : Disk → DiskView) (own : List Batch) (old new : JournalView Disk) where
     -- a call that steps
     pub runs_further : Lasts tells view old new → KeepsBases tells view old new → Runs tells start wal base own old.state (view old.disk) → Runs tells start wal base own new.state (view new.disk)
     runs_further lasts keeps_base r = record {
@@ -98,10 +98,10 @@ module _ (tells : Bool) (start : DiskView) (wal base : ℕ) where
     pub runs_reserved : (spare : ℕ) → new ≡ with_room spare old → KeepsRecords tells view old new → KeepsBases tells view old new → Runs tells start wal base own old.state (view old.disk) → Runs tells start wal base own new.state (view new.disk)
     runs_reserved spare same keeps keeps_base r =
         let roomy : State = record old.state { queue = record old.state.queue { spare = spare } } in
-        subst (λ (h : Held Disk). Runs tells start wal base own h.state (view h.disk)) (sym same)
+        subst (λ (h : JournalView Disk). Runs tells start wal base own h.state (view h.disk)) (sym same)
         (runs_beside own own old.state roomy (view old.disk) refl refl refl refl refl
-        (subst (λ (h : Held Disk). StandsFor tells own h.state (view h.disk)) same (keeps own r.stands))
-        (λ b was. subst (λ (h : Held Disk). KeepsBase tells b h.state (view h.disk)) same (keeps_base b was)) r)
+        (subst (λ (h : JournalView Disk). StandsFor tells own h.state (view h.disk)) same (keeps own r.stands))
+        (λ b was. subst (λ (h : JournalView Disk). KeepsBase tells b h.state (view h.disk)) same (keeps_base b was)) r)
 
     -- a record was added
     pub runs_pushed : (added : Batch) (sync : Bool) → Pushes added sync old.state new.state → new.disk ≡ old.disk → AddsRecord tells view added old new → KeepsBases tells view old new
@@ -114,10 +114,10 @@ module _ (tells : Bool) (start : DiskView) (wal base : ℕ) where
         (λ b was. subst (λ (d : Disk). KeepsBase tells b new.state (view d)) disk (keeps_base b was)) r)
 
 -- room that was made is no part of what a push says
-pub pushes_over : {Disk : Type 0} (old mid : Held Disk) (new : State) (spare : ℕ) (added : Batch) (sync : Bool) → mid ≡ record old { state = record old.state { queue = record old.state.queue { spare = spare } } } → Pushes added sync mid.state new
+pub pushes_over : {Disk : Type 0} (old mid : JournalView Disk) (new : State) (spare : ℕ) (added : Batch) (sync : Bool) → mid ≡ record old { state = record old.state { queue = record old.state.queue { spare = spare } } } → Pushes added sync mid.state new
     → Pushes added sync old.state new
 pushes_over old mid new spare added sync same pushes =
-    let p : Pushes added sync (record old.state { queue = record old.state.queue { spare = spare } }) new = subst (λ (h : Held _). Pushes added sync h.state new) same pushes in
+    let p : Pushes added sync (record old.state { queue = record old.state.queue { spare = spare } }) new = subst (λ (h : JournalView _). Pushes added sync h.state new) same pushes in
     record { start = p.start; records = p.records; next = p.next; want = p.want; new_is = p.new_is }
 
 -- no batch came
@@ -135,7 +135,7 @@ runs_then tells old mid new before between after one two start wal first own r =
 -- ---- the end
 
 -- A segment of this WAL stands nowhere else.
-elsewhere_apart : (wal index synced : ℕ) (ws : List Writer) (p : Place) → AreJoined wal index synced ws → IsElsewhere wal p → AllByRecursion (λ (w : Writer). file_of w ≢ p) ws
+elsewhere_apart : (wal index synced : ℕ) (ws : List Writer) (p : Place) → AreJoined wal index synced ws → IsElsewhere wal p → AllByRecursion (λ (w : Writer). place_of_writer w ≢ p) ws
 unfolding AreJoined
 elsewhere_apart wal index synced [] p joined elsewhere = tt
 elsewhere_apart wal index synced (w ∷ ws) p joined elsewhere = (
@@ -148,18 +148,18 @@ module _ (tells : Bool) (start : DiskView) (wal base : ℕ) (own : List Batch) (
   others_same told p elsewhere =
       r.others told p (not_theirs state.segments p (elsewhere_apart state.wal 0 0 state.segments p r.stands.joined (subst (λ (n : ℕ). IsElsewhere n p) (sym r.wal_is) elsewhere)))
 
-  none_begun : IsSound state → own ≡ [] → state.segments ≡ []
+  none_begun : IsSoundJournal state → own ≡ [] → state.segments ≡ []
   none_begun sound empty = (sound.none (len_is tells own state v r.stands ∙ ap length empty)).0
 
-  none_changed : IsSound state → IsTrue tells → own ≡ [] → (p : Place) → files v p ≡ files start p
+  none_changed : IsSoundJournal state → IsTrue tells → own ≡ [] → (p : Place) → files v p ≡ files start p
   none_changed sound told empty p =
-      r.others told p (λ has. let none : Contains [] p = subst (λ (ws : List Writer). Contains (map file_of ws) p) (none_begun sound empty) has in omega (arith, none.1))
+      r.others told p (λ has. let none : Contains [] p = subst (λ (ws : List Writer). Contains (map place_of_writer ws) p) (none_begun sound empty) has in omega (arith, none.1))
 
   acked_none : state.segments ≡ [] → acked state ≡ 0
   unfolding most_synced
   acked_none empty = ap (λ (ws : List Writer). most_synced 0 ws) empty
 
-  module _ (sound : IsSound state) (died : Bool) (died_is : died ≡ is_some state.dead) (all : died ≡ false → acked state ≡ len state) (rests : died ≡ false → NothingInFlight v) where
+  module _ (sound : IsSoundJournal state) (died : Bool) (died_is : died ≡ is_some state.dead) (all : died ≡ false → acked state ≡ len state) (rests : died ≡ false → NothingInFlight v) where
     abbrev end : JournalEnd
     end = record { acked = acked state; segments = length state.segments; died = died }
 

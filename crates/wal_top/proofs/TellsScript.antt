@@ -5,7 +5,7 @@ use Rattle.std.proofs.lemmas.List.{append-nil, length-append}
 use Rattle.wal_base.specs.Told.{told_front}
 use Rattle.wal_top.specs.declared.script.Act.{Act}
 use Rattle.wal_top.specs.Cutting.{lines_of}
-use Rattle.wal_top.specs.Script.{LinesSay, IsAccepted, IsScript, IsFirstBad}
+use Rattle.wal_top.specs.Script.{LinesSay, IsAcceptedLine, IsScript, IsFirstBad}
 use Rattle.wal_top.specs.Reading.{ReadsWhole, ReadsScript, TellsScript, TellsNoScript, IsNoScript, longer, bad}
 use Rattle.wal_top.specs.Call.{Change}
 use Rattle.wal_top.specs.Outcomes.{RefusesScript, too_long, bad_line}
@@ -26,7 +26,7 @@ not_longer script front (Some rest) e = omega (arith, ap length (same e), length
 read_is_told : (before after : Option (List ℕ)) (script told : List ℕ) → ReadsWhole before script after → before ≡ Some told → script ≡ told
 read_is_told before after script told whole_read told_is = one_whole told script after (sym whole_read.taken ∙ told_is) whole_read.at_end
 
-accepted_at : (before : List (List ℕ)) (line : List ℕ) (after : List (List ℕ)) (acts : List Act) → LinesSay (before ++ line ∷ after) acts → IsAccepted line
+accepted_at : (before : List (List ℕ)) (line : List ℕ) (after : List (List ℕ)) (acts : List Act) → LinesSay (before ++ line ∷ after) acts → IsAcceptedLine line
 accepted_at [] line after acts h = (h.0, h.2)
 accepted_at (x ∷ before) line after acts h = accepted_at before line after h.1 h.3
 

@@ -10,24 +10,24 @@ pub record Change (X : Type 0) : Type 0 where
   pub after : X
 
 -- what is seen of something, before and after
-abbrev pub seen : {Thing X : Type 0} → (Thing → X) → Thing → Thing → Change X
-seen view old new = record { before = view old; after = view new }
+abbrev pub change_in : {Thing X : Type 0} → (Thing → X) → Thing → Thing → Change X
+change_in view old new = record { before = view old; after = view new }
 
 -- a call: the words, the bytes that the source has left, the count of its faults, whether the disk tells its files, and the disk
-pub record Call : Type 0 where
+pub record Invocation : Type 0 where
   pub words : List (List ℕ)
   pub left : Change (Option (List ℕ))
   pub source_faults : Change ℕ
   pub tells : Bool
   pub disk : Change DiskView
 
-abbrev pub call_of : {Source Disk : Type 0} → List (List ℕ) → (Source → Option (List ℕ)) → (Source → ℕ) → Source → Source → Bool → (Disk → DiskView) → Disk → Disk → Call
+abbrev pub call_of : {Source Disk : Type 0} → List (List ℕ) → (Source → Option (List ℕ)) → (Source → ℕ) → Source → Source → Bool → (Disk → DiskView) → Disk → Disk → Invocation
 call_of words left faults source source_then tells view disk disk_then = record {
   words = words;
-  left = seen left source source_then;
-  source_faults = seen faults source source_then;
+  left = change_in left source source_then;
+  source_faults = change_in faults source source_then;
   tells = tells;
-  disk = seen view disk disk_then;
+  disk = change_in view disk disk_then;
 }
 
 -- It is as it was.
@@ -39,9 +39,9 @@ abbrev pub Rises : Change ℕ → Type 0
 Rises count = Rose count.before count.after
 
 -- The source counted no fault.
-abbrev pub HasCalmSource : Call → Type 0
+abbrev pub HasCalmSource : Invocation → Type 0
 HasCalmSource c = Rises c.source_faults → ⊥
 
 -- No side of the disk counted a fault.
-abbrev pub HasCalmDisk : Call → Type 0
+abbrev pub HasCalmDisk : Invocation → Type 0
 HasCalmDisk c = (side : Side) → Rose (c.disk.before.faults side) (c.disk.after.faults side) → ⊥

@@ -8,10 +8,10 @@ use Rattle.disk_face.specs.View.{DiskView}
 use Rattle.failover_writer.specs.declared.fault.JournalFault.{JournalFault}
 use Rattle.failover_writer.specs.declared.fault.JournalFault.TheVariants.{NoMemory}
 use Rattle.failover_writer.specs.declared.fault.Step.{Step}
-use Rattle.failover_writer.specs.State.{State, Held, len, acked}
+use Rattle.failover_writer.specs.State.{State, JournalView, len, acked}
 use Rattle.failover_writer.specs.Answered.{Settles}
 use Rattle.failover_writer.specs.Moves.{Pushes}
-use Rattle.failover_writer.specs.Sound.{IsSound}
+use Rattle.failover_writer.specs.Sound.{IsSoundJournal}
 use Rattle.wal_top.specs.declared.script.Act.{Act}
 use Rattle.wal_top.specs.declared.script.Act.TheVariants.{Commit, Get}
 use Rattle.wal_top.specs.declared.replies.JournalEnd.{JournalEnd}
@@ -28,7 +28,7 @@ numbered_behind batches entries = record { first = end_after FIRST batches; entr
 -- a replay in its course: the batches of the store, the journal with its disk, the text of the answers, and whether a commit reached the limit
 pub record InCourse (Disk : Type 0) : Type 0 where
   pub batches : List Batch
-  pub journal : Held Disk
+  pub journal : JournalView Disk
   pub text : List ℕ
   pub limited : Bool
 
@@ -95,7 +95,7 @@ pub record Closes (tells died : Bool) (old new : Stage) : Type 0 where
   pub text : new.text ≡ old.text
   pub limited : new.limited ≡ old.limited
   pub lives : died ≡ false → old.journal.dead ≡ None
-  pub ended : IsSound new.journal → (start : DiskView) (wal first : ℕ) (own : List Batch) → Runs tells start wal first own old.journal old.view
+  pub ended : IsSoundJournal new.journal → (start : DiskView) (wal first : ℕ) (own : List Batch) → Runs tells start wal first own old.journal old.view
       → (len new.journal ≡ length own) × HasEnded tells start wal first own (record { acked = acked new.journal; segments = length new.journal.segments; died = died }) new.view
 
 -- The journal was closed, or died, and the last line says so.

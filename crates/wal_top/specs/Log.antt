@@ -21,8 +21,8 @@ abbrev pub directories : DiskView → Dirs
 directories view = dirs_as_read (files view)
 
 -- No file but the segments of the WAL changed, unless by a sync.
-abbrev pub OthersStay : ℕ → Files → Files → Type 0
-OthersStay wal old new = (p : Place) → IsElsewhere wal p → IsAsOrSynced (old p) (new p)
+abbrev pub OthersOnlySynced : ℕ → Files → Files → Type 0
+OthersOnlySynced wal old new = (p : Place) → IsElsewhere wal p → IsAsOrSynced (old p) (new p)
 
 -- every listed segment of another WAL is stable in full
 abbrev pub AreOthersStable : ℕ → Files → Type 0
@@ -63,7 +63,7 @@ pub record LogsBatches (tells : Bool) (base batches : List Batch) (acked : ℕ) 
   pub wal : ℕ
   pub within : wal ≤ LAST_WAL
   pub next : IsTrue tells → IsNextWal (directories old) wal
-  pub others : IsTrue tells → OthersStay wal (files old) (files new)
+  pub others : IsTrue tells → OthersOnlySynced wal (files old) (files new)
   pub nothing : IsTrue tells → batches ≡ [] → OnlySynced (files old) (files new)
   pub recovers : IsTrue tells → IsRested (files old) → RecoversTo base batches acked (files new)
   pub read : IsTrue tells → IsRested (files old) → (FaultsRose old new → ⊥) → RecoversWith base batches acked (directories new)

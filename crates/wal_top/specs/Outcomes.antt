@@ -22,7 +22,7 @@ use Rattle.wal_top.specs.declared.status.Status.TheVariants.{Done, Usage, Script
 use Rattle.wal_top.specs.declared.script.Act.{Act}
 use Rattle.wal_top.specs.declared.replies.JournalEnd.{JournalEnd}
 use Rattle.wal_top.specs.declared.replaying.TheConstants.{LAST_WAL}
-use Rattle.wal_top.specs.Call.{Change, Call, Stays, Rises}
+use Rattle.wal_top.specs.Call.{Change, Invocation, Stays, Rises}
 use Rattle.wal_top.specs.Words.{IsCommand, IsReplay, IsRecover, IsDump, RecoversIn, ReadsSource}
 use Rattle.wal_top.specs.Printing.{usage_text, read_fault_text, too_long_text, bad_line_text, disk_fault_text, refusal_text, limit_wal_text, segments_text}
 use Rattle.wal_top.specs.Replay.{FIRST, IsReplayText, AllCommitted, LacksBatch}
@@ -35,7 +35,7 @@ pub data RefusesScript (left : Change (Option (List ℕ))) : List ℕ → Type 0
   bad_line : (number : ℕ) → ReadsBadLine left.before number left.after → RefusesScript left (bad_line_text number)
 
 -- The disk is reached: a command that reads a script has read and accepted it, and another has left the source alone.
-pub data ReachesDisk (c : Call) : Type 0 where
+pub data ReachesDisk (c : Invocation) : Type 0 where
   read : (acts : List Act) → ReadsSource c.words → ReadsScript c.left.before acts c.left.after → ReachesDisk c
   unread : (ReadsSource c.words → ⊥) → Stays c.left → ReachesDisk c
 
@@ -54,13 +54,13 @@ pub record ReplaysActs (acts : List Act) (tells : Bool) (old new : DiskView) (ba
   pub logs : LogsBatches tells base batches end.acked old new
 
 -- The accepted script of the source was replayed so.
-pub record Replays (c : Call) (acts : List Act) (batches : List Batch) (end : JournalEnd) (text : List ℕ) : Type 0 where
+pub record Replays (c : Invocation) (acts : List Act) (batches : List Batch) (end : JournalEnd) (text : List ℕ) : Type 0 where
   pub words : IsReplay c.words
   pub accepts : ReadsScript c.left.before acts c.left.after
   pub done : ReplaysActs acts c.tells c.disk.before c.disk.after batches end text
 
 -- The last WAL is taken: the script was accepted and the directories recover, but no WAL is next. No file was begun.
-pub record LacksWal (c : Call) (text : List ℕ) : Type 0 where
+pub record LacksWal (c : Invocation) (text : List ℕ) : Type 0 where
   pub words : IsReplay c.words
   pub acts : List Act
   pub accepts : ReadsScript c.left.before acts c.left.after
@@ -74,7 +74,7 @@ pub record LacksWal (c : Call) (text : List ℕ) : Type 0 where
   pub text_is : text ≡ limit_wal_text
 
 -- The store that the directories recover to was shown.
-pub record ShowsStore (c : Call) (text : List ℕ) : Type 0 where
+pub record ShowsStore (c : Invocation) (text : List ℕ) : Type 0 where
   pub words : IsRecover c.words
   pub unread : Stays c.left
   pub batches : List Batch
@@ -86,7 +86,7 @@ pub record ShowsStore (c : Call) (text : List ℕ) : Type 0 where
   pub stable : IsTrue c.tells → IsRested (files c.disk.before) → AreSegmentsStable (files c.disk.after)
 
 -- The segments of the directories were shown, and what their batches are merged to.
-pub record ShowsSegments (c : Call) (text : List ℕ) : Type 0 where
+pub record ShowsSegments (c : Invocation) (text : List ℕ) : Type 0 where
   pub words : IsDump c.words
   pub unread : Stays c.left
   pub batches : List Batch
@@ -99,18 +99,18 @@ pub record ShowsSegments (c : Call) (text : List ℕ) : Type 0 where
 -- ---- what a status says
 
 -- What was done, and its text: a replay of which each batch is committed and synced, the store that was recovered, or the segments that were read.
-pub data IsDone (c : Call) (text : List ℕ) : Type 0 where
-  replayed : (acts : List Act) (batches : List Batch) (end : JournalEnd) → Replays c acts batches end text → end.died ≡ false → AllCommitted acts batches → IsDone c text
-  recovered : ShowsStore c text → IsDone c text
-  dumped : ShowsSegments c text → IsDone c text
+pub data IsDoneRun (c : Invocation) (text : List ℕ) : Type 0 where
+  replayed : (acts : List Act) (batches : List Batch) (end : JournalEnd) → Replays c acts batches end text → end.died ≡ false → AllCommitted acts batches → IsDoneRun c text
+  recovered : ShowsStore c text → IsDoneRun c text
+  dumped : ShowsSegments c text → IsDoneRun c text
 
 -- A limit was reached: the script was replayed but for commits that would end past the numbers, or the last WAL is taken.
-pub data IsLimited (c : Call) (text : List ℕ) : Type 0 where
+pub data IsLimited (c : Invocation) (text : List ℕ) : Type 0 where
   of_numbers : (acts : List Act) (batches : List Batch) (end : JournalEnd) → Replays c acts batches end text → end.died ≡ false → LacksBatch acts batches → IsLimited c text
   of_wals : LacksWal c text → IsLimited c text
 
 -- A side failed in recovery, and is named. No file was begun, and nothing is in flight.
-pub record FailsRecovery (c : Call) (text : List ℕ) : Type 0 where
+pub record FailsRecovery (c : Invocation) (text : List ℕ) : Type 0 where
   pub mode : Mode
   pub words : RecoversIn c.words mode
   pub reaches : ReachesDisk c
@@ -121,12 +121,12 @@ pub record FailsRecovery (c : Call) (text : List ℕ) : Type 0 where
   pub idle : NothingInFlight c.disk.after
 
 -- The disk failed, and this is the text: in recovery, or so often that the journal of the answered script died.
-pub data FailsDisk (c : Call) (text : List ℕ) : Type 0 where
+pub data FailsDisk (c : Invocation) (text : List ℕ) : Type 0 where
   in_recovery : FailsRecovery c text → FailsDisk c text
   dead : (acts : List Act) (batches : List Batch) (end : JournalEnd) → Replays c acts batches end text → IsTrue end.died → FailsDisk c text
 
 -- The directories are refused, with this text. Nothing was done to them.
-pub record RefusesDirectories (c : Call) (text : List ℕ) : Type 0 where
+pub record RefusesDirectories (c : Invocation) (text : List ℕ) : Type 0 where
   pub mode : Mode
   pub words : RecoversIn c.words mode
   pub reaches : ReachesDisk c
@@ -138,8 +138,8 @@ pub record RefusesDirectories (c : Call) (text : List ℕ) : Type 0 where
 
 -- What a run has to say, by its status: why, and the whole text that goes with it. A fault or a shortage of the sink comes only once
 -- it is said, and want of memory before says nothing.
-abbrev pub HasToSay : Call → Status → List ℕ → Type 0
-HasToSay c Done text = IsDone c text
+abbrev pub HasToSay : Invocation → Status → List ℕ → Type 0
+HasToSay c Done text = IsDoneRun c text
 HasToSay c Usage text = (IsCommand c.words → ⊥) × (text ≡ usage_text) × Stays c.disk
 HasToSay c Script text = ReadsSource c.words × RefusesScript c.left text × Stays c.disk
 HasToSay c Read text = ReadsSource c.words × Rises c.source_faults × (text ≡ read_fault_text) × Stays c.disk

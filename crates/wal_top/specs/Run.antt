@@ -16,26 +16,26 @@ use Rattle.wal_top.specs.declared.reading.TheConstants.{SCRIPT_MAX}
 use Rattle.wal_top.specs.declared.replaying.TheConstants.{LAST_WAL}
 use Rattle.wal_top.specs.declared.status.Status.{Status}
 use Rattle.wal_top.specs.declared.status.Status.TheVariants.{Done, Usage, Script, Write, Refused, NoMemory, Limit}
-use Rattle.wal_top.specs.Call.{Change, seen, Call, Rises, Stays, HasCalmSource, HasCalmDisk}
+use Rattle.wal_top.specs.Call.{Change, change_in, Invocation, Rises, Stays, HasCalmSource, HasCalmDisk}
 use Rattle.wal_top.specs.Words.{IsCommand, IsReplay, IsRecover, IsDump, RecoversIn, ReadsSource, HasJournal, StartsOperations}
 use Rattle.wal_top.specs.Reading.{TookAtMost, TellsScript, TellsNoScript}
 use Rattle.wal_top.specs.Replay.{FIRST, numbers_taken}
-use Rattle.wal_top.specs.Log.{directories, OthersStay}
+use Rattle.wal_top.specs.Log.{directories, OthersOnlySynced}
 use Rattle.wal_top.specs.Outcomes.{HasToSay}
 
 -- a run: what it has to go by, the bytes written to the sink, and the counts of its faults and shortages
 pub record Run : Type 0 where
-  pub call : Call
+  pub call : Invocation
   pub written : Change (Option (List ℕ))
   pub sink_faults : Change ℕ
   pub shortages : Change ℕ
 
-abbrev pub run_of : {Sink : Type 0} → Call → (Sink → Option (List ℕ)) → (Sink → ℕ) → (Sink → ℕ) → Sink → Sink → Run
+abbrev pub run_of : {Sink : Type 0} → Invocation → (Sink → Option (List ℕ)) → (Sink → ℕ) → (Sink → ℕ) → Sink → Sink → Run
 run_of call written faults shortages sink sink_then = record {
   call = call;
-  written = seen written sink sink_then;
-  sink_faults = seen faults sink sink_then;
-  shortages = seen shortages sink sink_then;
+  written = change_in written sink sink_then;
+  sink_faults = change_in faults sink sink_then;
+  shortages = change_in shortages sink sink_then;
 }
 
 -- ---- what each status says
@@ -80,7 +80,7 @@ abbrev pub IsDoneUnless : Change ℕ → Status → Type 0
 IsDoneUnless sink_faults given = (Rises sink_faults → ⊥) → (given ≡ Done) ⊎ (given ≡ NoMemory)
 
 -- A replay may begin: its source tells an accepted script, and its disk files that recover to this base, with this WAL next.
-pub record MayBegin (c : Call) : Type 0 where
+pub record MayBegin (c : Invocation) : Type 0 where
   pub words : IsReplay c.words
   pub script : TellsScript c.left.before
   pub tells : IsTrue c.tells
@@ -90,7 +90,7 @@ pub record MayBegin (c : Call) : Type 0 where
   pub next_is : IsNextWal (directories c.disk.before) next
 
 -- the number after all commits of the script
-abbrev pub end_of_script : {c : Call} → MayBegin c → ℕ
+abbrev pub end_of_script : {c : Invocation} → MayBegin c → ℕ
 end_of_script begin = end_after FIRST begin.base + sum_by numbers_taken begin.script.good.acts
 
 -- The exact causes: where one of these holds, its status comes.
@@ -115,9 +115,9 @@ pub record WritesNoJournal (tells : Bool) (disk : Change DiskView) : Type 0 wher
 
 -- What a run leaves: its source gave no more than one byte past the longest script, and no file but segments of the next WAL
 -- changes unless by a sync.
-pub record Leaves (c : Call) : Type 0 where
+pub record Leaves (c : Invocation) : Type 0 where
   pub took : TookAtMost (SCRIPT_MAX + 1) c.left.before c.left.after
   pub goes_on : GoesOn c.disk.before c.disk.after
-  pub others : IsTrue c.tells → (wal : ℕ) → IsNextWal (directories c.disk.before) wal → OthersStay wal (files c.disk.before) (files c.disk.after)
+  pub others : IsTrue c.tells → (wal : ℕ) → IsNextWal (directories c.disk.before) wal → OthersOnlySynced wal (files c.disk.before) (files c.disk.after)
   pub no_journal : (HasJournal c.words → ⊥) → WritesNoJournal c.tells c.disk
   pub starts_nothing : (StartsOperations c.words → ⊥) → SameDisk c.disk.before c.disk.after

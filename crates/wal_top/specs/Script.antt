@@ -47,8 +47,8 @@ abbrev pub LineSays : List ℕ → Option Act → Type 0
 LineSays line None = SaysNothing line
 LineSays line (Some act) = Asks (words_of line) act
 
-abbrev pub IsAccepted : List ℕ → Type 0
-IsAccepted line = (said : Option Act) × LineSays line said
+abbrev pub IsAcceptedLine : List ℕ → Type 0
+IsAcceptedLine line = (said : Option Act) × LineSays line said
 
 -- Each line is accepted, and these acts are what they say, in order.
 abbrev pub LinesSay : List (List ℕ) → List Act → Type 0
@@ -65,6 +65,6 @@ pub record IsFirstBad (lines : List (List ℕ)) (number : ℕ) : Type 0 where
   pub line : List ℕ
   pub after : List (List ℕ)
   pub is : lines ≡ before ++ line ∷ after
-  pub accepted : AllByRecursion IsAccepted before
-  pub bad : IsAccepted line → ⊥
+  pub accepted : AllByRecursion IsAcceptedLine before
+  pub bad : IsAcceptedLine line → ⊥
   pub number_is : number ≡ length before + 1

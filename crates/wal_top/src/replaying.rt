@@ -7,8 +7,8 @@ ghost use Rattle.wal_recovery.specs.Listing.{IsNextWal};
 ghost use Rattle.wal_top.specs.declared.reading.TheConstants.{SCRIPT_MAX};
 ghost use Rattle.wal_top.specs.declared.status.Status.TheVariants as statuses;
 ghost use Rattle.wal_top.specs.Printing.{bad_line_text};
-ghost use Rattle.wal_top.specs.Log.{directories, OthersStay};
-ghost use Rattle.wal_top.specs.Call.{seen};
+ghost use Rattle.wal_top.specs.Log.{directories, OthersOnlySynced};
+ghost use Rattle.wal_top.specs.Call.{change_in};
 ghost use Rattle.wal_top.specs.Parts.{SaysOfActs, SaysOfScript};
 
 use crate::replay::replay;
@@ -29,8 +29,8 @@ fn said_of_acts<D: Disk>(alloc: Global, acts: VecDeque<Act>, mut disk: D) -> Ans
     requires idle { NothingInFlight (D.view disk) }
     ensures goes_on { GoesOn (D.view disk) (D.view result.disk) }
     ensures others { IsTrue D.tells → (wal : _) → IsNextWal (directories (D.view disk)) wal
-        → OthersStay wal (files (D.view disk)) (files (D.view result.disk)) }
-    ensures says { let over = seen D.view disk result.disk in
+        → OthersOnlySynced wal (files (D.view disk)) (files (D.view result.disk)) }
+    ensures says { let over = change_in D.view disk result.disk in
         IfOk result.said (λ said. SaysOfActs acts.items D.tells over said.status said.text) }
 {
     match recover(alloc, &mut disk, Mode::Strict) {
@@ -64,8 +64,8 @@ pub(crate) fn said_of<D: Disk>(alloc: Global, script: &[u8], disk: D) -> Answere
     requires idle { NothingInFlight (D.view disk) }
     ensures goes_on { GoesOn (D.view disk) (D.view result.disk) }
     ensures others { IsTrue D.tells → (wal : _) → IsNextWal (directories (D.view disk)) wal
-        → OthersStay wal (files (D.view disk)) (files (D.view result.disk)) }
-    ensures says { let over = seen D.view disk result.disk in
+        → OthersOnlySynced wal (files (D.view disk)) (files (D.view result.disk)) }
+    ensures says { let over = change_in D.view disk result.disk in
         IfOk result.said (λ said. SaysOfScript script.now D.tells over said.status said.text) }
 {
     match read_script(alloc, script) {

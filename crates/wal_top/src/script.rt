@@ -9,7 +9,7 @@ ghost use Rattle.wal_top.specs.declared.script.Act.{Act};
 ghost use Rattle.wal_top.specs.declared.script.Act.TheVariants.{Commit, Get};
 ghost use Rattle.wal_top.specs.declared.script.ScriptError.TheVariants as script_errors;
 ghost use Rattle.wal_top.specs.Cutting.{lines_of, words_of};
-ghost use Rattle.wal_top.specs.Script.{IsWord, Asks, LineSays, IsAccepted, IsScript, IsFirstBad};
+ghost use Rattle.wal_top.specs.Script.{IsWord, Asks, LineSays, IsAcceptedLine, IsScript, IsFirstBad};
 ghost use Rattle.wal_top.specs.Replay.{numbers_taken};
 
 use crate::pieces::Pieces;
@@ -180,7 +180,7 @@ fn act_of(alloc: Global, line: &[u8]) -> Result<Act, LineError>
 /// What a line says: nothing, or what it asks for.
 fn said_by(alloc: Global, line: &[u8]) -> Result<Option<Act>, LineError>
     ensures said { IfOk result (LineSays line.now) }
-    ensures bad { IsErrOf result LineError.Bad → IsAccepted line.now → ⊥ }
+    ensures bad { IsErrOf result LineError.Bad → IsAcceptedLine line.now → ⊥ }
 {
     if line.is_empty() || line[0] == b'#' {
         return Ok(None);
@@ -191,7 +191,7 @@ fn said_by(alloc: Global, line: &[u8]) -> Result<Option<Act>, LineError>
 /// Adds what a line says to what the lines before it said.
 fn add_said(alloc: Global, acts: &mut VecDeque<Act>, line: &[u8]) -> Result<(), LineError>
     ensures said { OnOk result ((said : Option Act) × LineSays line.now said × (acts.new.items ≡ acts.old.items ++ option_to_list said)) }
-    ensures bad { IsErrOf result LineError.Bad → IsAccepted line.now → ⊥ }
+    ensures bad { IsErrOf result LineError.Bad → IsAcceptedLine line.now → ⊥ }
 {
     let Some(act) = said_by(alloc, line)? else {
         return Ok(());

@@ -5,7 +5,7 @@ ghost use Rattle.disk_face.specs.View.{NothingInFlight};
 ghost use Rattle.disk_face.specs.Calls.{GoesOn, SameDisk};
 ghost use Rattle.text_lines.specs.Lines.{recovered_end};
 ghost use Rattle.text_lines.specs.Store.{IsStoreText};
-ghost use Rattle.wal_top.specs.Call.{seen};
+ghost use Rattle.wal_top.specs.Call.{change_in};
 ghost use Rattle.wal_top.specs.Words.{IsRecover, IsDump};
 ghost use Rattle.wal_top.specs.Printing.{report_lines, segments_text};
 ghost use Rattle.wal_top.specs.Run.{WritesNoJournal};
@@ -34,8 +34,8 @@ fn store_text(alloc: Global, batches: &[Batch], next: u64) -> Result<Buf, NoMemo
 pub(crate) fn store_said<D: Disk>(alloc: Global, disk: &mut D) -> Result<Said, NoMemory>
     requires { NothingInFlight (D.view disk.old) }
     ensures goes_on { GoesOn (D.view disk.old) (D.view disk.new) }
-    ensures no_journal { WritesNoJournal D.tells (seen D.view disk.old disk.new) }
-    ensures says { let over = seen D.view disk.old disk.new in
+    ensures no_journal { WritesNoJournal D.tells (change_in D.view disk.old disk.new) }
+    ensures says { let over = change_in D.view disk.old disk.new in
         IfOk result (λ said. SaysUnread IsRecover D.tells over said.status said.text) }
 {
     match recover(alloc, disk, Mode::Strict) {
@@ -97,9 +97,9 @@ fn put_reports(text: &mut Buf, reports: SegReports) -> Result<(), NoMemory>
 pub(crate) fn segments_said<D: Disk>(alloc: Global, disk: &mut D) -> Result<Said, NoMemory>
     requires { NothingInFlight (D.view disk.old) }
     ensures goes_on { GoesOn (D.view disk.old) (D.view disk.new) }
-    ensures no_journal { WritesNoJournal D.tells (seen D.view disk.old disk.new) }
+    ensures no_journal { WritesNoJournal D.tells (change_in D.view disk.old disk.new) }
     ensures same { SameDisk (D.view disk.old) (D.view disk.new) }
-    ensures says { let over = seen D.view disk.old disk.new in
+    ensures says { let over = change_in D.view disk.old disk.new in
         IfOk result (λ said. SaysUnread IsDump D.tells over said.status said.text) }
 {
     match recover(alloc, disk, Mode::Lenient) {

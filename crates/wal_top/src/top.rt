@@ -3,7 +3,7 @@
 ghost use Rattle.std.specs.Prelude.{◌≡◌, ℕ, List, map, IfOk};
 ghost use Rattle.std.specs.String.{string_bytes};
 ghost use Rattle.disk_face.specs.View.{NothingInFlight};
-ghost use Rattle.wal_top.specs.Call.{Call, call_of};
+ghost use Rattle.wal_top.specs.Call.{Invocation, call_of};
 ghost use Rattle.wal_top.specs.Words.{IsReplay, ReadsSource};
 ghost use Rattle.wal_top.specs.Outcomes.{HasToSay};
 ghost use Rattle.wal_top.specs.Run.{run_of, Says, YieldsTo, ComesExactly, Leaves};
@@ -88,7 +88,7 @@ fn answered<S: Source, D: Disk>(
 
 /// Writes what a run has to say, and answers the status after it.
 fn ended<K: Sink>(out: &mut K, said: &Said) -> Status
-    ensures says { (call : Call) → HasToSay call said.now.status said.now.text
+    ensures says { (call : Invocation) → HasToSay call said.now.status said.now.text
         → Says (run_of call K.written K.faults K.shortages out.old out.new) result }
     ensures yields { YieldsTo said.now.status result }
 {

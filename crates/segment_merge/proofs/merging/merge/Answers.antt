@@ -4,8 +4,8 @@ use Rattle.std.proofs.lemmas.Iterator.Consumers.{YieldsList-turn, YieldsList-end
 use Rattle.std.proofs.lemmas.Iterator.Adapters.{YieldsList-from_vec}
 use Rattle.segment_merge.specs.Rows.{batches_in}
 use Rattle.segment_merge.specs.Merging.{Merged}
-use Rattle.segment_merge.specs.Refusals.{IsRefused}
-use Rattle.segment_merge.specs.Returned.{MemoryOr}
+use Rattle.segment_merge.specs.Refusals.{IsRowRefused}
+use Rattle.segment_merge.specs.Returned.{MemoryOrRefusal}
 use Rattle.segment_merge.specs.Steps.{KeepsMerged}
 use Rattle.segment_merge.proofs.Answered.{Answers, row_more, whole_row, none_kept, why_refused, only_merged, only_gap, only_conflict}
 use Rattle.segment_merge.proofs.merging.merge.Goals as goal
@@ -31,8 +31,8 @@ refused c =
     let turn = YieldsList-turn (YieldsList-from_vec {s = c.into_iter-segment-iterator.result} segments (search rules) (search rules))
     c.loop-segment.yielded c.loop-segment.segment-iterator c.loop-segment.yielded_by c.next.result c.next.new.self c.in-Some.segment c.in-Some.is c.next.ensures.steps in
     let is : c.from_residual.result ≡ Err c.in_err-merge_segment.field-0.0 = search rules in
-    let here : MemoryOr (IsRefused c.args.first segments) c.in_err-merge_segment.field-0.0 =
-    subst (λ s. MemoryOr (IsRefused c.args.first s) c.in_err-merge_segment.field-0.0) (whole_row segments i c.in-Some.segment turn.0 turn.1)
+    let here : MemoryOrRefusal (IsRowRefused c.args.first segments) c.in_err-merge_segment.field-0.0 =
+    subst (λ s. MemoryOrRefusal (IsRowRefused c.args.first s) c.in_err-merge_segment.field-0.0) (whole_row segments i c.in-Some.segment turn.0 turn.1)
     (c.in_err-merge_segment.ensures c.args.first (take i segments) c.loop-segment.invariant (drop (i + 1) segments)) in
     subst (Answers c.args.first segments) (sym is) here
 

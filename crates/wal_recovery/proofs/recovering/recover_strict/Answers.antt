@@ -11,7 +11,7 @@ use Rattle.wal_recovery.specs.declared.reports.Mode.TheVariants.{Strict}
 use Rattle.wal_recovery.specs.declared.reports.Recovered.{Recovered}
 use Rattle.wal_recovery.specs.Resting.{OnlySynced}
 use Rattle.wal_recovery.specs.Answers.{IsRefusedBy, DiskMemoryOr}
-use Rattle.wal_recovery.specs.Rows.{place_of, wals_in}
+use Rattle.wal_recovery.specs.Rows.{place_listed, wals_in}
 use Rattle.wal_recovery.specs.Gathered.{AreListedWals}
 use Rattle.wal_recovery.proofs.ByWal.{wals_by_number}
 use Rattle.wal_recovery.proofs.WalsListed.{wals_own, wals_listed}
@@ -39,7 +39,7 @@ pub sync_all-requires-clause-there : goal.sync_all-requires-clause-there
 sync_all-requires-clause-there g c = λ told.
     let now = g.D.Disk.view c.args.disk.now in
     let same : files (g.D.Disk.view c.merge_strict.new.disk) ≡ files now = same_files now (g.D.Disk.view c.merge_strict.new.disk) c.in_ok-merged.ensures.same in
-    subst (λ (fs : Files). All (λ (f : Found). MayStart syncing (fs (place_of f))) c.args.segments.now) (sym same) (may_sync (files now) c.args.segments.now (c.requires.listed told))
+    subst (λ (fs : Files). All (λ (f : Found). MayStart syncing (fs (place_listed f))) c.args.segments.now) (sym same) (may_sync (files now) c.args.segments.now (c.requires.listed told))
 
 pub returns-in_err-sync_all-clause-each_moment : goal.returns-in_err-sync_all-clause-each_moment
 returns-in_err-sync_all-clause-each_moment g c = λ told.

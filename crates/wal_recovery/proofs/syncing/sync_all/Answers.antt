@@ -2,7 +2,7 @@ use Rattle.std.proofs.Common.{All, List, subst, arith, take_all}
 use Rattle.disk_face.specs.View.{files}
 use Rattle.disk_face.proofs.Laws.{goes_on_further}
 use Rattle.wal_recovery.specs.declared.listing.Found.{Found}
-use Rattle.wal_recovery.specs.Rows.{place_of}
+use Rattle.wal_recovery.specs.Rows.{place_listed}
 use Rattle.wal_recovery.specs.Resting.{IsSynced}
 use Rattle.wal_recovery.proofs.Syncs.{moments_of_both, synced_more}
 use Rattle.wal_recovery.proofs.Asking.{reads_nothing}
@@ -25,7 +25,7 @@ loop-segment-preserved g c =
 
 pub returns-clause-synced : goal.returns-clause-synced
 returns-clause-synced g c = λ told.
-    subst (λ (l : List Found). All (λ (f : Found). IsSynced (files (g.D.Disk.view c.loop-segment.disk) (place_of f))) l)
+    subst (λ (l : List Found). All (λ (f : Found). IsSynced (files (g.D.Disk.view c.loop-segment.disk) (place_listed f))) l)
     (take_all c.loop-segment.segment-index c.args.segments.now c.loop-segment-test.false) (c.loop-segment.invariant.synced told)
 
 pub returns-in_err-sync-clause-asks : goal.returns-in_err-sync-clause-asks

@@ -2,7 +2,7 @@ use Rattle.std.proofs.Common.{[], All, IsTrue, take}
 use Rattle.disk_face.specs.View.{files, NothingInFlight, AtEachMoment}
 use Rattle.disk_face.specs.Calls.{GoesOn}
 use Rattle.wal_recovery.specs.declared.listing.Found.{Found}
-use Rattle.wal_recovery.specs.Rows.{place_of}
+use Rattle.wal_recovery.specs.Rows.{place_listed}
 use Rattle.wal_recovery.specs.Resting.{IsSynced, OnlySynced}
 use Rattle.wal_recovery.specs.Asking.{ReadsOnly}
 use Rattle.wal_recovery.proofs.syncing.sync_all.Given as goal
@@ -13,5 +13,5 @@ invariant-loop-segment g l = record {
   asks : ReadsOnly [] (g.D.Disk.view l.initial.disk) (g.D.Disk.view l.disk);
   idle : NothingInFlight (g.D.Disk.view l.disk);
   moments : IsTrue g.D.Disk.tells → AtEachMoment ((g.D.Disk.view l.initial.disk).clock) (g.D.Disk.view l.disk) (OnlySynced (files (g.D.Disk.view l.initial.disk)));
-  synced : IsTrue g.D.Disk.tells → All (λ (f : Found). IsSynced (files (g.D.Disk.view l.disk) (place_of f))) (take l.segment-index l.segments);
+  synced : IsTrue g.D.Disk.tells → All (λ (f : Found). IsSynced (files (g.D.Disk.view l.disk) (place_listed f))) (take l.segment-index l.segments);
 }

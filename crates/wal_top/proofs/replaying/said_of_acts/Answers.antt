@@ -4,8 +4,8 @@ use Rattle.disk_face.specs.View.{files}
 use Rattle.wal_recovery.specs.declared.reports.Mode.TheVariants.{Strict}
 use Rattle.wal_top.specs.declared.status.Status.TheVariants.{Limit}
 use Rattle.wal_top.specs.Printing.{limit_wal_text}
-use Rattle.wal_top.specs.Log.{OthersStay}
-use Rattle.wal_top.specs.Call.{Call, seen}
+use Rattle.wal_top.specs.Log.{OthersOnlySynced}
+use Rattle.wal_top.specs.Call.{Invocation, change_in}
 use Rattle.wal_top.specs.Outcomes.{HasToSay, read, of_wals}
 use Rattle.wal_top.proofs.Saying.{ok_map, as_told}
 use Rattle.wal_top.proofs.HasToSay.{says_unrecovered, says_replayed}
@@ -16,7 +16,7 @@ pub returns-then-found-gt-LAST_WAL-clause-says : goal.returns-then-found-gt-LAST
 returns-then-found-gt-LAST_WAL-clause-says g c =
     let e = c.in-Ok.ensures in
     ok_map c.saying.result c.saying.ensures (λ said p words' left' faults is reads.
-    let call : Call = record { words = words'; left = left'; source_faults = faults; tells = g.D.Disk.tells; disk = seen g.D.Disk.view c.args.disk c.recover.new.disk } in
+    let call : Invocation = record { words = words'; left = left'; source_faults = faults; tells = g.D.Disk.tells; disk = change_in g.D.Disk.view c.args.disk c.recover.new.disk } in
     as_told (HasToSay call) said.status Limit said.text limit_wal_text (of_wals (record {
       words = is;
       acts = c.args.acts.items;
@@ -40,7 +40,7 @@ pub returns-else-found-gt-LAST_WAL-clause-others : goal.returns-else-found-gt-LA
 returns-else-found-gt-LAST_WAL-clause-others g c = λ told wal next.
     let v = g.D.Disk.view c.args.disk in
     let e = c.in-Ok.ensures in
-    subst (λ (n : ℕ). OthersStay n (files v) (files (g.D.Disk.view c.replay.result.disk))) (one_next_wal v c.in-Ok.found.next_wal wal (e.next_wal told) next)
+    subst (λ (n : ℕ). OthersOnlySynced n (files v) (files (g.D.Disk.view c.replay.result.disk))) (one_next_wal v c.in-Ok.found.next_wal wal (e.next_wal told) next)
     (others_stay v (g.D.Disk.view c.recover.new.disk) (g.D.Disk.view c.replay.result.disk) c.in-Ok.found.next_wal g.D.Disk.tells e.files c.replay.ensures.others told)
 
 pub returns-else-found-gt-LAST_WAL-clause-says : goal.returns-else-found-gt-LAST_WAL-clause-says
@@ -50,7 +50,7 @@ returns-else-found-gt-LAST_WAL-clause-says g c =
     let mid = g.D.Disk.view c.recover.new.disk in
     let new = g.D.Disk.view c.replay.result.disk in
     ok_map c.replay.result.said c.replay.ensures.replays (λ said r words' left' faults is reads.
-    let call : Call = record { words = words'; left = left'; source_faults = faults; tells = g.D.Disk.tells; disk = seen g.D.Disk.view c.args.disk c.replay.result.disk } in
+    let call : Invocation = record { words = words'; left = left'; source_faults = faults; tells = g.D.Disk.tells; disk = change_in g.D.Disk.view c.args.disk c.replay.result.disk } in
     says_replayed call c.args.acts.items c.in-Ok.found.batches c.in-Ok.found.next_wal mid said.status said.text is reads r
     (replays_since v mid new c.in-Ok.found.next_wal g.D.Disk.tells e.files c.args.acts.items c.in-Ok.found.batches said.status said.text
     (λ told. e.stable told refl) c.if-found-gt-LAST_WAL.false e.goes_on e.recovered e.next_wal r))
@@ -59,5 +59,5 @@ pub returns-in-Err-clause-says : goal.returns-in-Err-clause-says
 returns-in-Err-clause-says g c =
     let e = c.in-Err.ensures in
     ok_map c.unrecovered.result c.unrecovered.ensures (λ said p words' left' faults is reads.
-    let call : Call = record { words = words'; left = left'; source_faults = faults; tells = g.D.Disk.tells; disk = seen g.D.Disk.view c.args.disk c.recover.new.disk } in
+    let call : Invocation = record { words = words'; left = left'; source_faults = faults; tells = g.D.Disk.tells; disk = change_in g.D.Disk.view c.args.disk c.recover.new.disk } in
     says_unrecovered call Strict (inl is) (read c.args.acts.items is reads) e.files e.idle c.in-Err.fault said.status said.text p e.disk e.refused e.untouched)

@@ -2,7 +2,7 @@ use Rattle.std.proofs.Common.{map, inr, refl, subst}
 use Rattle.std.specs.String.{string_bytes}
 use Rattle.wal_top.specs.declared.words.Command.{Command}
 use Rattle.wal_top.specs.Commands.{IsWordOf}
-use Rattle.wal_top.specs.Call.{Call, call_of, seen}
+use Rattle.wal_top.specs.Call.{Invocation, call_of, change_in}
 use Rattle.wal_top.specs.Outcomes.{HasToSay}
 use Rattle.wal_top.proofs.Saying.{ok_map, as_told}
 use Rattle.wal_top.proofs.Leaves.{leaves_no_journal, leaves_all}
@@ -10,17 +10,17 @@ use Rattle.wal_top.proofs.top.answered.Goals as goal
 
 pub returns-in-Some-Recover-clause-says : goal.returns-in-Some-Recover-clause-says
 returns-in-Some-Recover-clause-says g c =
-    ok_map c.store_said-said.result c.store_said-said.ensures.says (λ said p. p (map string_bytes c.args.words.now) (seen g.S.Source.left c.args.src.now c.args.src.now) (seen g.S.Source.faults c.args.src.now c.args.src.now)
+    ok_map c.store_said-said.result c.store_said-said.ensures.says (λ said p. p (map string_bytes c.args.words.now) (change_in g.S.Source.left c.args.src.now c.args.src.now) (change_in g.S.Source.faults c.args.src.now c.args.src.now)
     (subst (λ (k : Command). IsWordOf k (map string_bytes c.args.words.now)) c.in-Some-Recover.field-0-is c.in-Some-Recover.ensures.found) refl)
 
 pub returns-in-Some-Dump-clause-says : goal.returns-in-Some-Dump-clause-says
 returns-in-Some-Dump-clause-says g c =
-    ok_map c.segments_said-said.result c.segments_said-said.ensures.says (λ said p. p (map string_bytes c.args.words.now) (seen g.S.Source.left c.args.src.now c.args.src.now) (seen g.S.Source.faults c.args.src.now c.args.src.now)
+    ok_map c.segments_said-said.result c.segments_said-said.ensures.says (λ said p. p (map string_bytes c.args.words.now) (change_in g.S.Source.left c.args.src.now c.args.src.now) (change_in g.S.Source.faults c.args.src.now c.args.src.now)
     (subst (λ (k : Command). IsWordOf k (map string_bytes c.args.words.now)) c.in-Some-Dump.field-0-is c.in-Some-Dump.ensures.found) refl)
 
 pub returns-in-None-clause-says : goal.returns-in-None-clause-says
 returns-in-None-clause-says g c =
-    let call : Call = call_of (map string_bytes c.args.words.now) g.S.Source.left g.S.Source.faults c.args.src.now c.args.src.now g.D.Disk.tells g.D.Disk.view c.args.disk c.args.disk in
+    let call : Invocation = call_of (map string_bytes c.args.words.now) g.S.Source.left g.S.Source.faults c.args.src.now c.args.src.now g.D.Disk.tells g.D.Disk.view c.args.disk c.args.disk in
     ok_map c.saying.result c.saying.ensures (λ said p. as_told (HasToSay call) said.status _ said.text _ (c.in-None.ensures.none, refl, refl) p.0 p.1)
 
 pub returns-in-Some-Replay-clause-leaves : goal.returns-in-Some-Replay-clause-leaves

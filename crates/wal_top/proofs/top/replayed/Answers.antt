@@ -1,7 +1,7 @@
 -- What was read decides what is said, and nothing but the journal is left.
 use Rattle.std.proofs.Common.{List, ℕ, Err, inl, refl, ap, subst}
 use Rattle.disk_face.proofs.Laws.{goes_on_from}
-use Rattle.wal_top.specs.Call.{Call, call_of, seen}
+use Rattle.wal_top.specs.Call.{Invocation, call_of, change_in}
 use Rattle.wal_top.specs.Outcomes.{HasToSay, too_long}
 use Rattle.wal_top.specs.Parts.{SaysOfScript}
 use Rattle.wal_top.proofs.Saying.{ok_map, as_told}
@@ -11,19 +11,19 @@ use Rattle.wal_top.proofs.top.replayed.Goals as goal
 pub returns-in-Ok-clause-says : goal.returns-in-Ok-clause-says
 returns-in-Ok-clause-says g c =
     ok_map c.said_of.result.said c.said_of.ensures.says (λ said p words is.
-    subst (λ (t : List ℕ). SaysOfScript t g.D.Disk.tells (seen g.D.Disk.view c.args.disk c.said_of.result.disk) said.status said.text) c.as_slice.ensures p
-    words (seen g.S.Source.left c.args.src.now c.read_script_bytes.new.src) (seen g.S.Source.faults c.args.src.now c.read_script_bytes.new.src) is c.in-Ok.ensures.whole)
+    subst (λ (t : List ℕ). SaysOfScript t g.D.Disk.tells (change_in g.D.Disk.view c.args.disk c.said_of.result.disk) said.status said.text) c.as_slice.ensures p
+    words (change_in g.S.Source.left c.args.src.now c.read_script_bytes.new.src) (change_in g.S.Source.faults c.args.src.now c.read_script_bytes.new.src) is c.in-Ok.ensures.whole)
 
 pub returns-in-Err-Fault-clause-says : goal.returns-in-Err-Fault-clause-says
 returns-in-Err-Fault-clause-says g c =
     ok_map c.saying.result c.saying.ensures (λ said p words' is.
-    let call : Call = call_of words' g.S.Source.left g.S.Source.faults c.args.src.now c.read_script_bytes.new.src g.D.Disk.tells g.D.Disk.view c.args.disk c.args.disk in
+    let call : Invocation = call_of words' g.S.Source.left g.S.Source.faults c.args.src.now c.read_script_bytes.new.src g.D.Disk.tells g.D.Disk.view c.args.disk c.args.disk in
     as_told (HasToSay call) said.status _ said.text _ (is, c.in-Err-Fault.ensures.fault (ap (λ x. Err x) c.in-Err-Fault.field-0-is), refl, refl) p.0 p.1)
 
 pub returns-in-Err-TooLong-clause-says : goal.returns-in-Err-TooLong-clause-says
 returns-in-Err-TooLong-clause-says g c =
     ok_map c.saying-in-Err-TooLong.result c.saying-in-Err-TooLong.ensures (λ said p words' is.
-    let call : Call = call_of words' g.S.Source.left g.S.Source.faults c.args.src.now c.read_script_bytes.new.src g.D.Disk.tells g.D.Disk.view c.args.disk c.args.disk in
+    let call : Invocation = call_of words' g.S.Source.left g.S.Source.faults c.args.src.now c.read_script_bytes.new.src g.D.Disk.tells g.D.Disk.view c.args.disk c.args.disk in
     as_told (HasToSay call) said.status _ said.text _ (is, too_long (c.in-Err-TooLong.ensures.too_long (ap (λ x. Err x) c.in-Err-TooLong.field-0-is)), refl) p.0 p.1)
 
 pub returns-in-Ok-clause-leaves : goal.returns-in-Ok-clause-leaves

@@ -5,8 +5,8 @@ use Rattle.disk_face.specs.View.{Place, creating}
 use Rattle.disk_face.specs.Calls.{Starts}
 use Rattle.batch_repr.specs.declared.batch.Batch.{Batch}
 use Rattle.log_writer.specs.Writer.{Writer}
-use Rattle.log_writer.specs.Fits.{SameFile, file_of, Fits}
-use Rattle.failover_writer.specs.State.{State, Held}
+use Rattle.log_writer.specs.Fits.{SameFile, place_of_writer, Fits}
+use Rattle.failover_writer.specs.State.{State, JournalView}
 use Rattle.failover_writer.specs.Ranges.{StandsFor}
 use Rattle.failover_writer.specs.Stepping.{IsBehind, begun}
 use Rattle.failover_writer.specs.Keeping.{Passes}
@@ -18,7 +18,7 @@ use Rattle.failover_writer.proofs.journal.Journal.begin_next.Goals as goal
 pub begin-requires-clause-fits : goal.begin-requires-clause-fits
 begin-requires-clause-fits g c =
     let held = c.self.invariant.stands in
-    let few : length c.self.inside.writers.items < 10 = omega (arith, c.requires.few, ap (λ (h : Held _). length h.state.segments) c.self.view_is) in
+    let few : length c.self.inside.writers.items < 10 = omega (arith, c.requires.few, ap (λ (h : JournalView _). length h.state.segments) c.self.view_is) in
     let tells = g.D.Disk.tells in
     let v = g.D.Disk.view c.self.inside.disk in (
       held.0,
@@ -35,15 +35,15 @@ state_then g c = record { wal = c.self.inside.wal; base = c.self.inside.base; ne
 pushed : (g : _) (c : goal.In-Ok g) → c.push.new.self.items ≡ c.self.inside.writers.items ++ c.begin.new.self ∷ []
 pushed g c = search rules
 
-begins : (g : _) (c : goal.In-Ok g) → (id : OpId) × begun (state_then g c) id c.begin.new.self × Starts (record { place = file_of c.begin.new.self; act = creating }) c.side_at.result id (g.D.Disk.view c.self.inside.disk) (g.D.Disk.view c.begin.new.disk)
-    × (file_of c.begin.new.self ≡ file_of c.in_ok-writer.writer)
+begins : (g : _) (c : goal.In-Ok g) → (id : OpId) × begun (state_then g c) id c.begin.new.self × Starts (record { place = place_of_writer c.begin.new.self; act = creating }) c.side_at.result id (g.D.Disk.view c.self.inside.disk) (g.D.Disk.view c.begin.new.disk)
+    × (place_of_writer c.begin.new.self ≡ place_of_writer c.in_ok-writer.writer)
 begins g c =
     begins_first (state_then g c) c.side_at.result (record { wal = c.self.inside.wal; index = c.len-index.result }) _ c.self.inside.acked _ _ c.in_ok-begin.field-0 c.in_ok-writer.writer c.begin.new.self
     (g.D.Disk.view c.self.inside.disk) (g.D.Disk.view c.begin.new.disk) (grind (arith, c.side_at.ensures, c.len-index.ensures)) (grind (arith, c.len-index.ensures)) c.self.invariant.acked
     c.in_ok-writer.ensures.made c.in_ok-begin.ensures.starts
 
 few_then : (g : _) (c : goal.In-Ok g) → length c.self.inside.writers.items < 10
-few_then g c = omega (arith, c.requires.few, ap (λ (h : Held _). length h.state.segments) c.self.view_is)
+few_then g c = omega (arith, c.requires.few, ap (λ (h : JournalView _). length h.state.segments) c.self.view_is)
 
 fits_after : (g : _) (c : goal.In-Ok g) (records : List Batch) → StandsFor g.D.Disk.tells records (state_then g c) (g.D.Disk.view c.self.inside.disk) → Fits g.D.Disk.tells records c.begin.new.self (g.D.Disk.view c.begin.new.disk)
 fits_after g c records stands =
@@ -55,7 +55,7 @@ fits_after g c records stands =
     (λ records. c.in_ok-writer.ensures.fits tells records v) records stands)
     stands.queue
 
-others_same : (g : _) (c : goal.In-Ok g) (place : Place) → place ≢ file_of c.begin.new.self → SameFile g.D.Disk.tells place (g.D.Disk.view c.self.inside.disk) (g.D.Disk.view c.begin.new.disk)
+others_same : (g : _) (c : goal.In-Ok g) (place : Place) → place ≢ place_of_writer c.begin.new.self → SameFile g.D.Disk.tells place (g.D.Disk.view c.self.inside.disk) (g.D.Disk.view c.begin.new.disk)
 others_same g c place ne = c.in_ok-begin.ensures.others place (λ e. ne (e ∙ sym (begins g c).3))
 
 pub invariant_of-self-2 : goal.invariant_of-self-2
@@ -65,14 +65,14 @@ invariant_of-self-2 g c =
     let new = g.D.Disk.view c.begin.new.disk in
     subst (λ (l : List Writer). IsInOrder g.D.Disk.tells (record (state_then g c) { segments = l }) new c.self.inside.acked c.self.inside.first_busy c.self.inside.failed) (sym (pushed g c))
     (begun_in_order g.D.Disk.tells (state_then g c) v new first.0 c.begin.new.self c.side_at.result creating (few_then g c) first.1 first.2 (others_same g c) c.self.inside.acked c.self.inside.first_busy
-    c.self.inside.failed (ap (λ (h : Held _). h.state.dead) c.self.view_is ∙ c.requires.lives) (subst (λ (h : Held _). IsBehind h.state) (sym c.self.view_is) c.requires.behind) (fits_after g c) c.self.invariant)
+    c.self.inside.failed (ap (λ (h : JournalView _). h.state.dead) c.self.view_is ∙ c.requires.lives) (subst (λ (h : JournalView _). IsBehind h.state) (sym c.self.view_is) c.requires.behind) (fits_after g c) c.self.invariant)
 
 pub returns-clause-keeps : goal.returns-clause-keeps
 returns-clause-keeps g c records stands =
     let first = begins g c in
     let v = g.D.Disk.view c.self.inside.disk in
     let new = g.D.Disk.view c.begin.new.disk in
-    let stood : StandsFor g.D.Disk.tells records (state_then g c) v = subst (λ (h : Held _). StandsFor g.D.Disk.tells records h.state (g.D.Disk.view h.disk)) (sym c.self.view_is) stands in
+    let stood : StandsFor g.D.Disk.tells records (state_then g c) v = subst (λ (h : JournalView _). StandsFor g.D.Disk.tells records h.state (g.D.Disk.view h.disk)) (sym c.self.view_is) stands in
     subst (λ (l : List Writer). StandsFor g.D.Disk.tells records (record (state_then g c) { segments = l }) new) (sym (pushed g c))
     (begun_stands g.D.Disk.tells (state_then g c) v new first.0 c.begin.new.self c.side_at.result creating (few_then g c) first.1 first.2 (others_same g c) records stood (fits_after g c records stood))
 
@@ -81,10 +81,10 @@ returns-clause-passes g c =
     let first = begins g c in
     let v = g.D.Disk.view c.self.inside.disk in
     let new = g.D.Disk.view c.begin.new.disk in
-    subst (λ (h : Held _). Passes g.D.Disk.tells h.state (record (state_then g c) { segments = c.push.new.self.items }) (g.D.Disk.view h.disk) new) c.self.view_is
+    subst (λ (h : JournalView _). Passes g.D.Disk.tells h.state (record (state_then g c) { segments = c.push.new.self.items }) (g.D.Disk.view h.disk) new) c.self.view_is
     (subst (λ (l : List Writer). Passes g.D.Disk.tells (state_then g c) (record (state_then g c) { segments = l }) v new) (sym (pushed g c))
     (begun_passes g.D.Disk.tells (state_then g c) v new first.0 c.begin.new.self c.side_at.result creating (few_then g c) first.1 first.2 (others_same g c) c.in_ok-begin.ensures.goes_on
     c.in_ok-begin.ensures.one_moment (fits_after g c)))
 
 pub returns-in_err-begin-clause-passes : goal.returns-in_err-begin-clause-passes
-returns-in_err-begin-clause-passes g c = passes_same g.D.Disk.tells _ _ _ _ (search rules) (c.in_err-begin.ensures.err.1 ∙ ap (λ (h : Held _). g.D.Disk.view h.disk) c.self.view_is)
+returns-in_err-begin-clause-passes g c = passes_same g.D.Disk.tells _ _ _ _ (search rules) (c.in_err-begin.ensures.err.1 ∙ ap (λ (h : JournalView _). g.D.Disk.view h.disk) c.self.view_is)

@@ -1,6 +1,6 @@
 -- Where all records are to be synced, the steps that follow are those of the closing.
 use Rattle.std.proofs.Common.{◌≢◌, ℕ, None, ap, sym, subst, ◌∙◌, refl}
-use Rattle.failover_writer.specs.State.{Held}
+use Rattle.failover_writer.specs.State.{JournalView}
 use Rattle.failover_writer.specs.Ranges.{StandsFor, Stands}
 use Rattle.failover_writer.specs.Closing.{Drains}
 use Rattle.failover_writer.proofs.Settling.{asking, asking_stands, closed_lasts, closed_synced, closed_rests, closed_lives}
@@ -10,19 +10,19 @@ use Rattle.failover_writer.proofs.journal.Journal.close.Goals as goal
 
 -- what the journal held, and what its steps came to
 stood : (g : _) (c : goal.After-drain g) → Stands g.D.Disk.tells c.args.self.now.state (g.D.Disk.view c.args.self.now.disk)
-stood g c = subst (λ (h : Held _). Stands g.D.Disk.tells h.state (g.D.Disk.view h.disk)) c.self.view_is c.self.invariant.stands
+stood g c = subst (λ (h : JournalView _). Stands g.D.Disk.tells h.state (g.D.Disk.view h.disk)) c.self.view_is c.self.invariant.stands
 
 came : (g : _) (c : goal.After-drain g) → Drains g.D.Disk.tells g.D.Disk.view (asking c.args.self.now) c.drain.new.self c.drain.result
 came g c =
     let here = c.self.inside in
-    subst (λ (h : Held _). Drains g.D.Disk.tells g.D.Disk.view (asking h) c.drain.new.self c.drain.result) c.self.view_is
+    subst (λ (h : JournalView _). Drains g.D.Disk.tells g.D.Disk.view (asking h) c.drain.new.self c.drain.result) c.self.view_is
     (subst (λ (n : ℕ). Drains g.D.Disk.tells g.D.Disk.view (record { disk = here.disk; state = record { wal = here.wal; base = here.base; next = here.next; threshold = here.threshold; queue = here.records; want = n; segments = here.writers.items; dead = here.dead } }) c.drain.new.self c.drain.result)
     c.end-self-inside.ensures c.drain.ensures.drains)
 
 pub returns-clause-lives : goal.returns-clause-lives
 returns-clause-lives g c =
     closed_lives g.D.Disk.tells g.D.Disk.view c.args.self.now c.drain.new.self c.drain.result (came g c)
-    (λ dead. ap (λ (h : Held _). h.state.dead) (c.drain.ensures.still (subst (λ (h : Held _). h.state.dead ≢ None) (sym c.self.view_is) dead)) ∙ ap (λ (h : Held _). h.state.dead) c.self.view_is)
+    (λ dead. ap (λ (h : JournalView _). h.state.dead) (c.drain.ensures.still (subst (λ (h : JournalView _). h.state.dead ≢ None) (sym c.self.view_is) dead)) ∙ ap (λ (h : JournalView _). h.state.dead) c.self.view_is)
 
 pub returns-clause-synced : goal.returns-clause-synced
 returns-clause-synced g c = closed_synced g.D.Disk.tells g.D.Disk.view c.args.self.now c.drain.new.self c.drain.result (came g c) (stood g c)

@@ -4,7 +4,7 @@ use Rattle.failover_writer.specs.declared.fault.JournalFault.{JournalFault}
 use Rattle.failover_writer.specs.declared.fault.Step.{Step}
 use Rattle.failover_writer.specs.declared.fault.Step.TheVariants as steps
 use Rattle.failover_writer.specs.Answered as answered
-use Rattle.failover_writer.specs.State.{Held}
+use Rattle.failover_writer.specs.State.{JournalView}
 use Rattle.failover_writer.specs.Answered.{StepsBy, IsIdle, IsMarked}
 use Rattle.failover_writer.specs.Closing.{Drains}
 use Rattle.failover_writer.specs.Remaining.{Falls}
@@ -15,7 +15,7 @@ pub loop-init : goal.loop-init
 loop-init g c = record { steps = answered.none; want = refl; lasts = lasts_none g.D.Disk.tells g.D.Disk.view c.args.self.now; still = λ dead. refl }
 
 -- A dead journal stays as it was.
-stays : {Disk : Type 0} (old now new : Held Disk) → (old.state.dead ≢ None → now ≡ old) → ((now.state.dead ≢ None) ⊎ IsIdle now.state → new ≡ now) → old.state.dead ≢ None → new ≡ old
+stays : {Disk : Type 0} (old now new : JournalView Disk) → (old.state.dead ≢ None → now ≡ old) → ((now.state.dead ≢ None) ⊎ IsIdle now.state → new ≡ now) → old.state.dead ≢ None → new ≡ old
 stays old now new so_far step dead = step (inl (subst (λ h. h.state.dead ≢ None) (sym (so_far dead)) dead)) ∙ so_far dead
 
 pub returns-in_err-step-clause-still : goal.returns-in_err-step-clause-still

@@ -3,14 +3,14 @@ use Rattle.std.proofs.Common.{◌≡◌, inl, inr, ◌-◌, ◌<◌, ◌≤◌, 
 use Rattle.std.specs.Prelude.{slice_get}
 use borrow.Author.Tests.{ltb-true, ltb-false, lt-ltb, both_ways}
 use Rattle.log_writer.specs.Writer.{Writer}
-use Rattle.failover_writer.specs.State.{Held}
+use Rattle.failover_writer.specs.State.{JournalView}
 use Rattle.failover_writer.proofs.Current.{works_by, more_by}
 use Rattle.failover_writer.proofs.journal.Journal.has_work.Goals as goal
 use Rattle.failover_writer.proofs.journal.Journal.has_work.Goals.{then-broken, else-broken}
 
 pub returns-then-written-end : goal.returns-then-written-end
 returns-then-written-end g c =
-    let same = ap (λ (held : Held _). held.state) c.self.view_is in
+    let same = ap (λ (held : JournalView _). held.state) c.self.view_is in
     let current = subst (λ (ws : List Writer). slice_get ws (length ws - 1) ≡ Some c.in-Some.current.now) c.deref.ensures.value (sym c.in-Some.ensures.value) in
     let behind = c.is_behind.ensures.0 c.if-not-is_behind.false in
     elim c.if-broken.branch [
@@ -22,7 +22,7 @@ returns-then-written-end g c =
 
 pub returns-else-written-end : goal.returns-else-written-end
 returns-else-written-end g c =
-    let same = ap (λ (held : Held _). held.state) c.self.view_is in
+    let same = ap (λ (held : JournalView _). held.state) c.self.view_is in
     let current = subst (λ (ws : List Writer). slice_get ws (length ws - 1) ≡ Some c.in-Some.current.now) c.deref.ensures.value (sym c.in-Some.ensures.value) in
     let behind = c.is_behind.ensures.0 c.if-not-is_behind.false in
     elim c.if-broken.branch [

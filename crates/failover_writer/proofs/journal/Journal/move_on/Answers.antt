@@ -3,7 +3,7 @@ use Rattle.std.proofs.Common.{◌≡◌, ◌≢◌, ◌⊎◌, inr, None, refl, 
 use Rattle.failover_writer.specs.declared.fault.JournalFault.{JournalFault}
 use Rattle.failover_writer.specs.declared.fault.Step.{Step}
 use Rattle.failover_writer.specs.declared.fault.Step.TheVariants as steps
-use Rattle.failover_writer.specs.State.{Held}
+use Rattle.failover_writer.specs.State.{JournalView}
 use Rattle.failover_writer.specs.Answered as answered
 use Rattle.failover_writer.specs.Answered.{StepsBy, IsIdle, IsMarked}
 use Rattle.failover_writer.specs.Remaining.{Falls}
@@ -15,7 +15,7 @@ pub loop-init : goal.loop-init
 loop-init g c = record { steps = answered.none; want = refl; lasts = lasts_none g.D.Disk.tells g.D.Disk.view c.args.self.now; still = λ rests. refl }
 
 -- A dead or idle journal stays as it was.
-stays : {Disk : Type 0} (old now new : Held Disk) → ((old.state.dead ≢ None) ⊎ IsIdle old.state → now ≡ old) → ((now.state.dead ≢ None) ⊎ IsIdle now.state → new ≡ now) → (old.state.dead ≢ None) ⊎ IsIdle old.state → new ≡ old
+stays : {Disk : Type 0} (old now new : JournalView Disk) → ((old.state.dead ≢ None) ⊎ IsIdle old.state → now ≡ old) → ((now.state.dead ≢ None) ⊎ IsIdle now.state → new ≡ now) → (old.state.dead ≢ None) ⊎ IsIdle old.state → new ≡ old
 stays old now new so_far step rests = step (subst (λ h. (h.state.dead ≢ None) ⊎ IsIdle h.state) (sym (so_far rests)) rests) ∙ so_far rests
 
 pub returns-in_err-step-clause-still : goal.returns-in_err-step-clause-still
@@ -54,7 +54,7 @@ returns-in-Idle-clause-moves g c =
     let did = c.step.ensures in
     let rests : IsIdle mid.state = did.idle.0 came in
     moved_to tells g.D.Disk.view old mid new (Ok steps.Idle) so_far.steps so_far.want so_far.lasts (subst (StepsBy mid.state new.state (g.D.Disk.view mid.disk) (g.D.Disk.view new.disk)) came did.rule) did.want did.lasts
-    (λ e. let clash : Ok steps.Idle ≡ Ok steps.Moved = e in cc) (λ _. subst (λ (h : Held _). IsIdle h.state) (sym (did.still (inr rests))) rests) (λ e. let clash : Ok steps.Idle ≡ Ok steps.Waited = e in cc) tt
+    (λ e. let clash : Ok steps.Idle ≡ Ok steps.Moved = e in cc) (λ _. subst (λ (h : JournalView _). IsIdle h.state) (sym (did.still (inr rests))) rests) (λ e. let clash : Ok steps.Idle ≡ Ok steps.Waited = e in cc) tt
 
 pub returns-in-Waited-clause-moves : goal.returns-in-Waited-clause-moves
 returns-in-Waited-clause-moves g c =

@@ -1,6 +1,6 @@
 -- A stall changes neither an operation nor a file.
 use Rattle.std.proofs.Common.{sym, subst}
-use Rattle.failover_writer.specs.State.{Held}
+use Rattle.failover_writer.specs.State.{JournalView}
 use Rattle.failover_writer.specs.Ranges.{StandsFor}
 use Rattle.failover_writer.proofs.Standing.{same_stands}
 use Rattle.failover_writer.proofs.journal.Journal.stall.Goals as goal
@@ -20,5 +20,5 @@ invariant_of-self g c =
 
 pub returns-clause-keeps : goal.returns-clause-keeps
 returns-clause-keeps g c records stands =
-    let before = subst (λ (held : Held _). StandsFor g.D.Disk.tells records held.state (g.D.Disk.view held.disk)) (sym c.self.view_is) stands in
+    let before = subst (λ (held : JournalView _). StandsFor g.D.Disk.tells records held.state (g.D.Disk.view held.disk)) (sym c.self.view_is) stands in
     same_stands g.D.Disk.tells records _ (g.D.Disk.view c.self.inside.disk) (g.D.Disk.view c.stall.new.self) c.stall.ensures.same before

@@ -3,7 +3,7 @@ use Rattle.std.proofs.Common.{◌≡◌, false, Some, None, Ok, ap, sym, subst, 
 use Rattle.disk_face.specs.View.{DiskView}
 use Rattle.disk_face.specs.Calls.{GoesOn}
 use Rattle.failover_writer.specs.declared.fault.Step.TheVariants as steps
-use Rattle.failover_writer.specs.State.{Held}
+use Rattle.failover_writer.specs.State.{JournalView}
 use Rattle.failover_writer.specs.Ranges.{Stands, KeepsRecords}
 use Rattle.failover_writer.specs.Stepping.{was_dead, idle}
 use Rattle.failover_writer.specs.Answered.{AsksInTurn, StepsBy}
@@ -24,7 +24,7 @@ pub returns-in-Some-clause-rule : goal.returns-in-Some-clause-rule
 returns-in-Some-clause-rule g c = record {
   one = None;
   other = None;
-  rule = was_dead c.in-Some.mark.side c.in-Some.mark.faults (subst (λ (held : Held _). held.state.dead ≡ Some c.in-Some.mark) c.self.view_is c.in-Some.is);
+  rule = was_dead c.in-Some.mark.side c.in-Some.mark.faults (subst (λ (held : JournalView _). held.state.dead ≡ Some c.in-Some.mark) c.self.view_is c.in-Some.is);
   one_told = tt;
   other_told = tt;
   taken = omega arith;
@@ -33,10 +33,10 @@ returns-in-Some-clause-rule g c = record {
 
 pub returns-then-not-is_up-clause-rule : goal.returns-then-not-is_up-clause-rule
 returns-then-not-is_up-clause-rule g c =
-    subst (λ (held : Held _). StepsBy c.args.self.now.state held.state (g.D.Disk.view c.args.self.now.disk) (g.D.Disk.view held.disk) (Ok steps.Idle)) (sym c.if-not-is_up.ensures.same) (record {
+    subst (λ (held : JournalView _). StepsBy c.args.self.now.state held.state (g.D.Disk.view c.args.self.now.disk) (g.D.Disk.view held.disk) (Ok steps.Idle)) (sym c.if-not-is_up.ensures.same) (record {
       one = None;
       other = None;
-      rule = idle (subst (λ (held : Held _). held.state.dead ≡ None) c.self.view_is c.in_default.is) c.if-not-is_up.ensures.up.0 c.if-not-is_up.ensures.up.1;
+      rule = idle (subst (λ (held : JournalView _). held.state.dead ≡ None) c.self.view_is c.in_default.is) c.if-not-is_up.ensures.up.0 c.if-not-is_up.ensures.up.1;
       one_told = tt;
       other_told = tt;
       taken = omega arith;
@@ -46,7 +46,7 @@ returns-then-not-is_up-clause-rule g c =
 -- the step that `advance` did
 steps_by : (g : _) (c : goal.After-advance g) → StepsBy c.args.self.now.state c.advance.new.self.state (g.D.Disk.view c.args.self.now.disk) (g.D.Disk.view c.advance.new.self.disk) c.advance.result
 steps_by g c =
-    subst (λ (held : Held _). StepsBy held.state c.advance.new.self.state (g.D.Disk.view held.disk) (g.D.Disk.view c.advance.new.self.disk) c.advance.result) c.is_up.ensures.same c.advance.ensures.rule
+    subst (λ (held : JournalView _). StepsBy held.state c.advance.new.self.state (g.D.Disk.view held.disk) (g.D.Disk.view c.advance.new.self.disk) c.advance.result) c.is_up.ensures.same c.advance.ensures.rule
 
 pub returns-clause-idle : goal.returns-clause-idle
 returns-clause-idle g c = idle_of c.args.self.now.state c.advance.new.self.state (g.D.Disk.view c.args.self.now.disk) (g.D.Disk.view c.advance.new.self.disk) c.advance.result (steps_by g c)
@@ -59,25 +59,25 @@ returns-clause-dead g c = dead_of c.args.self.now.state c.advance.new.self.state
 
 passes : (g : _) (c : goal.After-advance g) → Passes g.D.Disk.tells c.args.self.now.state c.advance.new.self.state (g.D.Disk.view c.args.self.now.disk) (g.D.Disk.view c.advance.new.self.disk)
 passes g c =
-    subst (λ (held : Held _). Passes g.D.Disk.tells held.state c.advance.new.self.state (g.D.Disk.view held.disk) (g.D.Disk.view c.advance.new.self.disk)) c.is_up.ensures.same c.advance.ensures.passes
+    subst (λ (held : JournalView _). Passes g.D.Disk.tells held.state c.advance.new.self.state (g.D.Disk.view held.disk) (g.D.Disk.view c.advance.new.self.disk)) c.is_up.ensures.same c.advance.ensures.passes
 
 keeps : (g : _) (c : goal.After-advance g) → KeepsRecords g.D.Disk.tells g.D.Disk.view c.args.self.now c.advance.new.self
-keeps g c = subst (λ (held : Held _). KeepsRecords g.D.Disk.tells g.D.Disk.view held c.advance.new.self) c.is_up.ensures.same c.advance.ensures.keeps
+keeps g c = subst (λ (held : JournalView _). KeepsRecords g.D.Disk.tells g.D.Disk.view held c.advance.new.self) c.is_up.ensures.same c.advance.ensures.keeps
 
 goes_on : (g : _) (c : goal.After-advance g) → GoesOn (g.D.Disk.view c.args.self.now.disk) (g.D.Disk.view c.advance.new.self.disk)
-goes_on g c = subst (λ (held : Held _). GoesOn (g.D.Disk.view held.disk) (g.D.Disk.view c.advance.new.self.disk)) c.is_up.ensures.same c.advance.ensures.goes_on
+goes_on g c = subst (λ (held : JournalView _). GoesOn (g.D.Disk.view held.disk) (g.D.Disk.view c.advance.new.self.disk)) c.is_up.ensures.same c.advance.ensures.goes_on
 
 -- ---- what it leaves as it was, and what is left to do
 
 pub returns-then-not-is_up-clause-want : goal.returns-then-not-is_up-clause-want
-returns-then-not-is_up-clause-want g c = ap (λ (held : Held _). held.state.want) c.if-not-is_up.ensures.same
+returns-then-not-is_up-clause-want g c = ap (λ (held : JournalView _). held.state.want) c.if-not-is_up.ensures.same
 
 pub returns-clause-want : goal.returns-clause-want
 returns-clause-want g c = (goal_kept (steps_by g c).rule).want
 
 pub returns-clause-falls : goal.returns-clause-falls
 returns-clause-falls g c =
-    let stands = subst (λ (held : Held _). Stands g.D.Disk.tells held.state (g.D.Disk.view held.disk)) c.self.view_is c.self.invariant.stands in
+    let stands = subst (λ (held : JournalView _). Stands g.D.Disk.tells held.state (g.D.Disk.view held.disk)) c.self.view_is c.self.invariant.stands in
     falls c.args.self.now.state c.advance.new.self.state (g.D.Disk.view c.args.self.now.disk) (g.D.Disk.view c.advance.new.self.disk) c.advance.result
     (omega (arith, stands.1.want, records_are g.D.Disk.tells stands.0 c.args.self.now.state (g.D.Disk.view c.args.self.now.disk) stands.1)) stands.1.few (goes_on g c) (steps_by g c)
 

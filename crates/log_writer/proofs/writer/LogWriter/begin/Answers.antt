@@ -4,7 +4,7 @@ use Rattle.disk_face.specs.View.{DiskView, AtEachMoment}
 use Rattle.disk_face.proofs.Laws.{moments_from}
 use Rattle.log_writer.specs.declared.phase.Phase.TheVariants.{InFlight}
 use Rattle.log_writer.specs.Writer.{Writer}
-use Rattle.log_writer.specs.Fits.{Fits, file_of}
+use Rattle.log_writer.specs.Fits.{Fits, place_of_writer}
 use Rattle.log_writer.specs.Kept.{SegmentKept}
 use Rattle.log_writer.proofs.Fitting.{fits_kept}
 use Rattle.log_writer.proofs.Begins.{begun_fits, begun_moments}
@@ -13,13 +13,13 @@ use Rattle.log_writer.proofs.writer.LogWriter.begin.Goals as goal
 pub returns-in_default-clause-each_moment : goal.returns-in_default-clause-each_moment
 returns-in_default-clause-each_moment g c records fits queue told =
     let w = c.args.self.now in
-    moments_from (g.D.Disk.view c.args.disk.now) (SegmentKept (file_of w) w.log w.from w.synced records) (fits_kept g.D.Disk.tells records w (g.D.Disk.view c.args.disk.now) fits told)
+    moments_from (g.D.Disk.view c.args.disk.now) (SegmentKept (place_of_writer w) w.log w.from w.synced records) (fits_kept g.D.Disk.tells records w (g.D.Disk.view c.args.disk.now) fits told)
 
 pub returns-in_err-id-clause-each_moment : goal.returns-in_err-id-clause-each_moment
 returns-in_err-id-clause-each_moment g c records fits queue told =
     let w = c.args.self.now in
-    subst (λ (v : DiskView). AtEachMoment (g.D.Disk.view c.args.disk.now).clock v (SegmentKept (file_of w) w.log w.from w.synced records)) (sym c.in_err-id.ensures.err.1)
-    (moments_from (g.D.Disk.view c.args.disk.now) (SegmentKept (file_of w) w.log w.from w.synced records) (fits_kept g.D.Disk.tells records w (g.D.Disk.view c.args.disk.now) fits told))
+    subst (λ (v : DiskView). AtEachMoment (g.D.Disk.view c.args.disk.now).clock v (SegmentKept (place_of_writer w) w.log w.from w.synced records)) (sym c.in_err-id.ensures.err.1)
+    (moments_from (g.D.Disk.view c.args.disk.now) (SegmentKept (place_of_writer w) w.log w.from w.synced records) (fits_kept g.D.Disk.tells records w (g.D.Disk.view c.args.disk.now) fits told))
 
 pub returns-clause-fits : goal.returns-clause-fits
 returns-clause-fits g c records fits queue =

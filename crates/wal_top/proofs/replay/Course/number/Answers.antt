@@ -1,5 +1,5 @@
 -- A batch is numbered, pushed and written, and the journal keeps its run with it.
-use Rattle.failover_writer.specs.State.{Held}
+use Rattle.failover_writer.specs.State.{JournalView}
 use Rattle.std.proofs.Common.{false, ◌++◌, ◌∷◌, [], ◌+◌, ◌≤◌, ℕ, List, ◌∙◌, ap, sym, subst}
 use Rattle.batch_repr.specs.declared.batch.Batch.{Batch}
 use Rattle.batch_repr.specs.declared.limits.TheConstants.{NUMBER_MAX}
@@ -74,7 +74,7 @@ returns-clause-did g c =
       pushes = pushed;
       answer = c.settle.result;
       settles = subst (λ (d : _). Settles c.push.new.self.state c.settle.new.self.state (g.D.Disk.view d) (g.D.Disk.view c.settle.new.self.disk) c.settle.result)
-          (c.push.ensures.disk ∙ ap (λ (h : Held _). h.disk) c.reserve.ensures.same) c.settle.ensures.settles;
+          (c.push.ensures.disk ∙ ap (λ (h : JournalView _). h.disk) c.reserve.ensures.same) c.settle.ensures.settles;
       lasted = c.in_ok-settled.ensures;
       unasked = c.settle.ensures.want ∙ pushed.want;
     } in
