@@ -1,6 +1,6 @@
 -- The limits of the format, as numbers: no contract says them but by the constants of the code.
 use Rattle.std.proofs.Common.{◌≡◌, ◌-◌, ◌^◌, refl}
-use Rattle.batch_repr.specs.declared.limits.TheConstants.{KEY_MAX, VALUE_MAX, BATCH_MAX, NUMBER_MAX, HEADER}
+use Rattle.batch_repr.specs.declared.limits.TheConstants.{KEY_MAX, VALUE_MAX, BATCH_MAX, NUMBER_FIRST, NUMBER_MAX, HEADER}
 
 key_max : KEY_MAX ≡ 65535
 key_max = refl
@@ -16,3 +16,6 @@ number_max = refl
 
 header : HEADER ≡ 12
 header = refl
+
+number_first : NUMBER_FIRST ≡ 10
+number_first = refl

@@ -9,6 +9,9 @@ pub const VALUE_MAX: usize = 1_048_576;
 /// The most bytes of a batch as it is written, its header included.
 pub const BATCH_MAX: usize = 4_194_304;
 
+/// The number of the first entry of a store.
+pub const NUMBER_FIRST: u64 = 10;
+
 /// The greatest number at which a batch may end: 2^56 - 1.
 pub const NUMBER_MAX: u64 = 72_057_594_037_927_935;
 

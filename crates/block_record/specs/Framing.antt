@@ -1,4 +1,5 @@
 -- How records are laid into the blocks of a segment (docs/FORMATS.md, "Framing").
+use Rattle.crc_chunk.specs.declared.chunk.TheConstants.{BLOCK, HEADER}
 use Rattle.std.specs.Prelude.{ℕ, zero, suc, ◌+◌, ◌-◌, ◌%◌, List, [], ◌∷◌, ◌++◌, length, replicate, take, drop, nat_lt, if◌then◌else◌}
 use Rattle.std.specs.Int.{div_ceil}
 use Rattle.crc_chunk.specs.declared.chunk.ChunkKind.TheVariants.{Full, First, Middle, Last}
@@ -11,11 +12,11 @@ pub record Standing : Type 0 where
 
 -- the bytes from a place to the end of its block
 abbrev pub left_in_block : ℕ → ℕ
-left_in_block at = 32768 - at % 32768
+left_in_block at = BLOCK - at % BLOCK
 
 -- the payload that the block of a place has room for, behind a header
 abbrev pub room_at : ℕ → ℕ
-room_at at = left_in_block at - 11
+room_at at = left_in_block at - HEADER
 
 -- bytes cut into this many fragments from a block's front on: each takes the room of its block, or what is left
 abbrev pub cut : ℕ → List ℕ → List (List ℕ)
@@ -48,7 +49,7 @@ chunks log (part ∷ next ∷ parts) = chunk First log part ++ later_chunks log 
 
 -- zeros where no header fits
 abbrev pub padding : ℕ → List ℕ
-padding at = if nat_lt (left_in_block at) 11 then replicate (left_in_block at) 0 else []
+padding at = if nat_lt (left_in_block at) HEADER then replicate (left_in_block at) 0 else []
 
 -- bytes at a place, with the zeros behind them
 abbrev pub padded : ℕ → List ℕ → List ℕ
@@ -60,7 +61,7 @@ framed log at bytes = padded at (chunks log (fragments at bytes))
 
 -- where the next record begins in its block
 abbrev pub standing_after : Standing → List ℕ → Standing
-standing_after before bytes = record before { place = (before.place + length bytes) % 32768 }
+standing_after before bytes = record before { place = (before.place + length bytes) % BLOCK }
 
 -- records laid one after another from a place on
 abbrev pub laid : ℕ → ℕ → List (List ℕ) → List ℕ

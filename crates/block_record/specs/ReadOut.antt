@@ -1,4 +1,5 @@
 -- The records that the longest chain of chunks spells (docs/FORMATS.md, "Reading a segment").
+use Rattle.crc_chunk.specs.declared.chunk.TheConstants.{HEADER}
 use Rattle.std.specs.Prelude.{◌≡◌, ℕ, ◌+◌, ◌≤◌, Bool, true, false, not, ◌==◌, List, [], ◌∷◌, ◌++◌, length, map, take, drop, nat_lt, if◌then◌else◌}
 use Rattle.std.specs.List.{list_any}
 use Rattle.crc_chunk.specs.declared.chunk.ChunkKind.{ChunkKind}
@@ -28,11 +29,11 @@ leaves_open Last = false
 
 -- where the next chunk stands: here, or at the next block where no header fits
 abbrev pub next_place : ℕ → ℕ
-next_place at = if nat_lt (left_in_block at) 11 then at + left_in_block at else at
+next_place at = if nat_lt (left_in_block at) HEADER then at + left_in_block at else at
 
 -- the place behind a chunk that stands here
 abbrev pub chunk_end : ℕ → Link → ℕ
-chunk_end start link = start + 11 + length link.payload
+chunk_end start link = start + HEADER + length link.payload
 
 -- The chunks stand one after another from a place on, and each kind may follow.
 abbrev pub IsChain : List ℕ → ℕ → ℕ → Bool → List Link → Type 0

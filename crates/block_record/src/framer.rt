@@ -1,5 +1,6 @@
 //! The writer of records: where it stands, and what it appends.
 
+ghost use Rattle.crc_chunk.specs.declared.chunk.TheConstants.{BLOCK, HEADER};
 ghost use Rattle.std.specs.Prelude.{◌≡◌, ℕ, ◌+◌, ◌≤◌, ◌<◌, List, ◌++◌, length, take, replicate, OnOk, OnErr};
 ghost use Rattle.crc_chunk.specs.Chunk.{chunk};
 ghost use Rattle.block_record.specs.Framing.{fragments, later_fragments, chunks, later_chunks, padding, framed, standing_after};
@@ -28,19 +29,20 @@ pub struct Framer {
 impl Model for Framer {
     ghost use Rattle.std.specs.Prelude.{◌+◌, ◌≤◌};
     ghost use Rattle.block_record.specs.Framing.{Standing};
+    ghost use Rattle.crc_chunk.specs.declared.chunk.TheConstants.{BLOCK, HEADER};
 
     ghost Value = { Standing };
 
     ghost view = { λ a. record { log = a.log; place = a.place } };
 
-    ghost invariant = { λ a. a.place + 11 ≤ 32768 };
+    ghost invariant = { λ a. a.place + HEADER ≤ BLOCK };
 
     ghost inverse = { λ d. record { log = d.log; place = d.place } };
 }
 
 /// Appends one chunk. An error may leave its header.
 fn append_chunk(out: &mut Buf, kind: ChunkKind, log: u32, payload: &[u8]) -> Result<(), NoMemory>
-    requires { length payload.now ≤ 32757 }
+    requires { HEADER + length payload.now ≤ BLOCK }
     ensures ok { OnOk result (out.new ≡ out.old ++ chunk kind log payload.now) }
     ensures kept { take (length out.old) out.new ≡ out.old }
 {
@@ -65,7 +67,7 @@ fn append_later(out: &mut Buf, log: u32, bytes: &[u8]) -> Result<(), NoMemory>
 
 /// Appends the chunks of a record that begins at a place of a block.
 fn append_chunks(out: &mut Buf, log: u32, place: usize, bytes: &[u8]) -> Result<(), NoMemory>
-    requires { place + 11 ≤ 32768 }
+    requires { place + HEADER ≤ BLOCK }
     ensures ok { OnOk result (out.new ≡ out.old ++ chunks log (fragments place bytes.now)) }
     ensures kept { take (length out.old) out.new ≡ out.old }
 {
@@ -89,7 +91,7 @@ fn padding_len(place: usize) -> usize
 
 /// Appends a record as it is framed at a place of a block.
 fn append_framed(out: &mut Buf, log: u32, place: usize, bytes: &[u8]) -> Result<(), NoMemory>
-    requires { place + 11 ≤ 32768 }
+    requires { place + HEADER ≤ BLOCK }
     ensures ok { OnOk result (out.new ≡ out.old ++ framed log place bytes.now) }
     ensures kept { take (length out.old) out.new ≡ out.old }
 {

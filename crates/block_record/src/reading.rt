@@ -1,5 +1,6 @@
 //! The reader of a segment: it goes from chunk to chunk while one stands there that may follow.
 
+ghost use Rattle.crc_chunk.specs.declared.chunk.TheConstants.{HEADER};
 ghost use Rattle.std.specs.Prelude.{◌≡◌, ◌↔◌, ℕ, ◌+◌, ◌<◌, ◌≤◌, ◌^◌, List, length, IsTrue, IfOk, IfSome, IfNone, not, ◌||◌, ◌==◌};
 ghost use Rattle.std.specs.List.{list_any};
 ghost use Rattle.crc_chunk.specs.declared.chunk.ChunkKind.{ChunkKind};
@@ -24,7 +25,7 @@ struct Found {
 /// The chunk of this log number that stands at a place of a segment, if one does.
 fn chunk_in(bytes: &[u8], at: usize, log: u32) -> Option<Found>
     ensures found { IfSome result (λ found. ChunkAt bytes.now at log found.kind (fragment bytes.now at found.end)) }
-    ensures place { IfSome result (λ found. (found.at ≡ at) × (at + 11 ≤ found.end) × (found.end ≤ length bytes.now)) }
+    ensures place { IfSome result (λ found. (found.at ≡ at) × (at + HEADER ≤ found.end) × (found.end ≤ length bytes.now)) }
     ensures none { IfNone result ((kind : ChunkKind) (payload : List ℕ) → ¬ ChunkAt bytes.now at log kind payload) }
 {
     let place = at % BLOCK;
@@ -74,7 +75,7 @@ fn following(bytes: &[u8], at: usize, log: u32, is_open: bool) -> Option<Found>
     requires { at < 2 ^ 63 }
     ensures follows { IfSome result (λ found. MayFollow is_open found.kind) }
     ensures found { IfSome result (λ found. ChunkAt bytes.now (next_place at) log found.kind (fragment bytes.now (next_place at) found.end)) }
-    ensures place { IfSome result (λ found. (found.at ≡ next_place at) × (found.at + 11 ≤ found.end) × (found.end ≤ length bytes.now)) }
+    ensures place { IfSome result (λ found. (found.at ≡ next_place at) × (found.at + HEADER ≤ found.end) × (found.end ≤ length bytes.now)) }
     ensures none { IfNone result ((kind : ChunkKind) (payload : List ℕ) → MayFollow is_open kind → ¬ ChunkAt bytes.now (next_place at) log kind payload) }
 {
     let found = chunk_in(bytes, place_of_next(at), log)?;

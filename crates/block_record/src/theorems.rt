@@ -1,5 +1,6 @@
 //! Laws of framing and reading that no single call says.
 
+ghost use Rattle.crc_chunk.specs.declared.chunk.TheConstants.{BLOCK};
 ghost use Rattle.std.specs.Prelude.{◌≡◌, ◌%◌, ◌≤◌, ◌∷◌, ◌++◌, [], ℕ, Bool, List, length, take};
 ghost use Rattle.block_record.specs.declared.records.Rec.{Rec};
 ghost use Rattle.block_record.specs.Framing.{framed, laid};
@@ -8,7 +9,7 @@ ghost use Rattle.block_record.specs.ReadOut.{bytes_of, NoChunkAt, ChunksStandIn,
 /// The calls of `frame` on one `Framer` lay their records one after another: where some are laid from a segment's
 /// front on, a framer stands at their length in its block, and the next record is framed there.
 pub fn next_record_is_laid_behind()
-    ensures { (log : ℕ) (records : List (List ℕ)) (bytes : List ℕ) → laid log 0 (records ++ bytes ∷ []) ≡ laid log 0 records ++ framed log (length (laid log 0 records) % 32768) bytes }
+    ensures { (log : ℕ) (records : List (List ℕ)) (bytes : List ℕ) → laid log 0 (records ++ bytes ∷ []) ≡ laid log 0 records ++ framed log (length (laid log 0 records) % BLOCK) bytes }
 {}
 
 /// Records that were laid are read back, whatever is behind them, if no chunk of the log stands right there.

@@ -1,4 +1,5 @@
 -- One chunk of a log: a header of eleven bytes, and a payload (docs/FORMATS.md, "Chunk").
+use Rattle.crc_chunk.specs.declared.chunk.TheConstants.{BLOCK, HEADER}
 use Rattle.std.specs.Prelude.{◌≡◌, ℕ, ◌+◌, ◌%◌, ◌≤◌, List, ◌∷◌, ◌++◌, length}
 use Rattle.std.specs.Int.{w16, w32, to_le_bytes}
 use Rattle.crc_chunk.specs.Bytes.{StandsAt}
@@ -27,11 +28,11 @@ chunk kind log payload =
 -- A chunk of this kind, log number and payload stands at this place, within one block.
 pub record ChunkAt (bytes : List ℕ) (at log : ℕ) (kind : ChunkKind) (payload : List ℕ) : Type 0 where
   pub stands : StandsAt bytes at (chunk kind log payload)
-  pub within : at % 32768 + 11 + length payload ≤ 32768
+  pub within : at % BLOCK + HEADER + length payload ≤ BLOCK
 
 -- A whole chunk of the log stands at this place, of so many bytes with its header.
 pub record IsChunkOf (bytes : List ℕ) (at log size : ℕ) : Type 0 where
   pub kind : ChunkKind
   pub payload : List ℕ
   pub stands : ChunkAt bytes at log kind payload
-  pub size_is : size ≡ 11 + length payload
+  pub size_is : size ≡ HEADER + length payload

@@ -1,5 +1,6 @@
 //! One chunk: its header, its writing, and its finding.
 
+ghost use Rattle.crc_chunk.specs.declared.chunk.TheConstants.{BLOCK, HEADER};
 ghost use Rattle.std.specs.Prelude.{◌≡◌, ◌+◌, ◌≤◌, ◌++◌, ◌^◌, ℕ, List, length, drop, IfSome, IfNone};
 ghost use Rattle.std.specs.List.{slice_range};
 ghost use Rattle.std.specs.Int.{w16, w32, to_le_bytes};
@@ -87,8 +88,8 @@ fn u32_at(bytes: &[u8], at: usize) -> u32
 ///
 /// The log number is the lowest 32 bits of the log's. The payload has at most `BLOCK - HEADER` bytes.
 pub fn header_of(kind: ChunkKind, log: u32, payload: &[u8]) -> [u8; 11]
-    requires { length payload.now ≤ 32757 }
-    ensures len { length result ≡ 11 }
+    requires { HEADER + length payload.now ≤ BLOCK }
+    ensures len { length result ≡ HEADER }
     ensures bytes { result ++ payload.now ≡ chunk kind log payload.now }
 {
     let kind = byte_of(kind);
@@ -105,10 +106,10 @@ pub fn header_of(kind: ChunkKind, log: u32, payload: &[u8]) -> [u8; 11]
 ///
 /// That is `HEADER` and the payload's length. The payload has at most `BLOCK - HEADER` bytes.
 pub fn put_chunk(out: &mut [u8], kind: ChunkKind, log: u32, payload: &[u8]) -> usize
-    requires payload { length payload.now ≤ 32757 }
-    requires room { 11 + length payload.now ≤ length out.old }
-    ensures taken { result ≡ 11 + length payload.now }
-    ensures written { out.new ≡ chunk kind log payload.now ++ drop (11 + length payload.now) out.old }
+    requires payload { HEADER + length payload.now ≤ BLOCK }
+    requires room { HEADER + length payload.now ≤ length out.old }
+    ensures taken { result ≡ HEADER + length payload.now }
+    ensures written { out.new ≡ chunk kind log payload.now ++ drop (HEADER + length payload.now) out.old }
 {
     let end = HEADER + payload.len();
     let header = header_of(kind, log, payload);
@@ -123,9 +124,9 @@ pub fn put_chunk(out: &mut [u8], kind: ChunkKind, log: u32, payload: &[u8]) -> u
 /// no chunk of this log stands there: too few bytes are left, the log number is another's, the type is none of
 /// the four, or the checksum does not fit.
 pub fn chunk_at(block: &[u8], at: usize, log: u32) -> Option<ChunkSpan>
-    requires { length block.now ≤ 32768 }
+    requires { length block.now ≤ BLOCK }
     ensures found { IfSome result (λ span. ChunkAt block.now at log span.kind (slice_range block.now span.from span.to)) }
-    ensures place { IfSome result (λ span. (span.from ≡ at + 11) × (span.from ≤ span.to) × (span.to ≤ length block.now)) }
+    ensures place { IfSome result (λ span. (span.from ≡ at + HEADER) × (span.from ≤ span.to) × (span.to ≤ length block.now)) }
     ensures none { IfNone result ((kind : ChunkKind) (payload : List ℕ) → ¬ ChunkAt block.now at log kind payload) }
 {
     if block.len().saturating_sub(at) < HEADER {

@@ -7,3 +7,4 @@ mod Spelling
 mod Passed
 mod Asked
 mod Fieldless
+mod Limits

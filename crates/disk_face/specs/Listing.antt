@@ -1,4 +1,5 @@
 -- Listings of files, in ascending order (docs/FORMATS.md, "The disk" and "Tables").
+use Rattle.disk_face.specs.declared.names.TheConstants.{WAL_MAX, INDEX_MAX}
 use Rattle.std.specs.Prelude.{◌≡◌, ◌⊎◌, ◌↔◌, ℕ, ◌<◌, ◌≤◌, true, List, length, All, AllPairs, Contains, Some}
 use Rattle.disk_face.specs.declared.Side.{Side}
 use Rattle.disk_face.specs.declared.SegName.{SegName}
@@ -24,7 +25,7 @@ HasLength files place len = (f : File) × (files place ≡ Some f) × (f.created
 
 -- the number of a WAL has at most twelve digits, and the index of a segment at most three
 abbrev pub IsSegmentName : SegName → Type 0
-IsSegmentName name = (name.wal ≤ 999999999999) × (name.index ≤ 999)
+IsSegmentName name = (name.wal ≤ WAL_MAX) × (name.index ≤ INDEX_MAX)
 
 -- every segment of the list has such a name
 abbrev pub AreSegmentNames : List Listed → Type 0
@@ -36,7 +37,7 @@ IsListing files side names = (item : Listed) → Contains names item ↔ (IsSegm
 
 -- the number of a table has at most twelve digits
 abbrev pub IsTableNumber : ℕ → Type 0
-IsTableNumber upto = upto ≤ 999999999999
+IsTableNumber upto = upto ≤ WAL_MAX
 
 -- every table of the list has such a number
 abbrev pub AreTableNumbers : List TableListed → Type 0

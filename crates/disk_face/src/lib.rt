@@ -19,6 +19,7 @@ mod table_disk;
 
 pub use call_log::CallLog;
 pub use disk::{Disk, StallDisk};
+pub use names::{INDEX_MAX, WAL_MAX};
 pub use no_disk::NoDisk;
 pub use script_disk::{ScriptDisk, Scripted};
 pub use table_disk::TableDisk;

@@ -12,11 +12,11 @@ use crate::SegName;
 use arrayvec::ArrayVec;
 use wal_base::{Buf, NoMemory};
 
-/// The greatest number of a WAL.
-const LAST_WAL: u64 = 999_999_999_999;
+/// The greatest number of a WAL: its twelve digits are all 9.
+pub const WAL_MAX: u64 = 999_999_999_999;
 
-/// The greatest index of a segment.
-const LAST_INDEX: u32 = 999;
+/// The greatest index of a segment: its three digits are all 9.
+pub const INDEX_MAX: u32 = 999;
 
 /// Room for two numbers of 20 digits, a dash and `.log`.
 const TEXT_ROOM: usize = 45;
@@ -28,7 +28,7 @@ impl SegName {
         ensures none { IfNone result ((name : SegName) → IsSegmentName name → seg_text name ≢ text.now) }
     {
         let name = candidate(text)?;
-        if name.wal > LAST_WAL || name.index > LAST_INDEX {
+        if name.wal > WAL_MAX || name.index > INDEX_MAX {
             return None;
         }
         let spelling = spell(name);

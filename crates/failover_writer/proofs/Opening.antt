@@ -1,5 +1,6 @@
 -- Files whose segments are stable in full open a journal: what an image has behind the bytes that were sent adds no chunk, so
 -- each of its segments holds what was read, and the listing is the same with those contents in place.
+use Rattle.batch_repr.specs.declared.limits.TheConstants.{NUMBER_FIRST}
 use Rattle.std.proofs.Common.{◌≡◌, ◌≢◌, inl, inr, ℕ, suc, ◌+◌, ◌<◌, ◌≤◌, Bool, false, List, [], ◌∷◌, ◌++◌, length, map, take, drop, Option, Some, None, ap, sym, subst, ◌∙◌, refl, arith}
 use Rattle.std.specs.Prelude.{Contains, ◌==◌, not}
 use Rattle.std.specs.Option.{unwrap_or}
@@ -19,7 +20,7 @@ use Rattle.disk_face.specs.Image.{IsImageOf, IsImage, IsChanceFree, IsRestedFile
 use Rattle.disk_face.proofs.Laws.{image_of_created}
 use Rattle.segment_merge.proofs.Laws.{none_within, within_head, within_tail, within_cases}
 use Rattle.wal_recovery.specs.Listing.{Stored, Wal, name_in, place_in, AreByIndex, AreByNumber, IsOf, StandsIn, IsListingOf, IsNextWal}
-use Rattle.wal_recovery.specs.Recovering.{FIRST_NUMBER, log_number, HoldsBatches, HoldRow, WalsMerge, Recovers}
+use Rattle.wal_recovery.specs.Recovering.{log_number, HoldsBatches, HoldRow, WalsMerge, Recovers}
 use Rattle.wal_recovery.specs.Resting.{IsStable, AreSegmentsStable, IsAsOrSynced, OnlySynced}
 use Rattle.failover_writer.specs.Keeping.{IsOpening}
 
@@ -220,11 +221,11 @@ module _ (now : Files) (rested : IsRested now) (stable : AreSegmentsStable now) 
   stable_recovers base read = record {
     wals = map (filled_wal dirs) read.wals;
     listed = listed_image read.wals read.listed;
-    merges = wals_merge FIRST_NUMBER read.wals base (λ wal h stored k. (read.listed.same wal.number stored).0 (wal, h, refl, k)) read.merges;
+    merges = wals_merge NUMBER_FIRST read.wals base (λ wal h stored k. (read.listed.same wal.number stored).0 (wal, h, refl, k)) read.merges;
   }
 
 pub stable_opens : (wal : ℕ) (base : List Batch) (now : Files) → IsRested now → AreSegmentsStable now → Recovers (dirs_as_read now) base
-    → ((side : Side) (name : SegName) (f : File) → IsSegmentName name → now (segment side name) ≡ Some f → name.wal < wal) → IsOpening wal (end_after FIRST_NUMBER base) base now
+    → ((side : Side) (name : SegName) (f : File) → IsSegmentName name → now (segment side name) ≡ Some f → name.wal < wal) → IsOpening wal (end_after NUMBER_FIRST base) base now
 stable_opens wal base now rested stable read above = record {
   above = above;
   ends = refl;
@@ -260,7 +261,7 @@ rested_synced old now rested only p g is = rested_here (old p) (now p) g (rested
 
 -- Files at rest that recovered with no gap, and were synced, open a journal of the next WAL.
 pub recovered_opens : (wal : ℕ) (base : List Batch) (old now : Files) → IsRested old → OnlySynced old now → AreSegmentsStable now → Recovers (dirs_as_read old) base → IsNextWal (dirs_as_read old) wal
-    → IsOpening wal (end_after FIRST_NUMBER base) base now
+    → IsOpening wal (end_after NUMBER_FIRST base) base now
 recovered_opens wal base old now rested only stable recovers next =
     let same : dirs_as_read old ≡ dirs_as_read now = sym (read_synced old now only) in
     let rests : IsRested now = rested_synced old now rested only in

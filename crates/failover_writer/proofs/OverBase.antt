@@ -1,4 +1,5 @@
 -- What a stop leaves recovers to the base, and behind it the first of the journal's records.
+use Rattle.batch_repr.specs.declared.limits.TheConstants.{NUMBER_FIRST}
 use Rattle.std.proofs.Common.{◌≡◌, ◌≢◌, inl, inr, ℕ, suc, ◌<◌, ◌≤◌, List, [], ◌∷◌, ◌++◌, take, Option, Some, None, ap, sym, subst, ◌∙◌, refl, arith}
 use Rattle.std.specs.Prelude.{Contains}
 use Rattle.std.proofs.lemmas.List.{append-nil}
@@ -11,7 +12,7 @@ use Rattle.disk_face.proofs.Laws.{same_number}
 use Rattle.segment_merge.specs.Merging.{Merged}
 use Rattle.segment_merge.proofs.Laws.{none_within, within_head, within_tail, one_merged, nothing_merged}
 use Rattle.wal_recovery.specs.Listing.{Stored, Wal, name_in, place_in, AreByIndex, AreByNumber, IsOf, StandsIn, IsListingOf}
-use Rattle.wal_recovery.specs.Recovering.{FIRST_NUMBER, log_number, HoldRow, WalMerges, Recovers}
+use Rattle.wal_recovery.specs.Recovering.{log_number, HoldRow, WalMerges, Recovers}
 use Rattle.wal_recovery.proofs.Laws.{wals_more, listed_some}
 use Rattle.failover_writer.specs.Keeping.{AreSegmentsOf, IsSameElsewhere, IsRunOver, KeepsRun, RecoversTo, IsOpening, HasNoSegment}
 
@@ -99,14 +100,14 @@ nothing_of_none first wal merged m =
     one_merged first [] merged [] (subst (λ (r : List (List Batch)). Merged first r merged) (empty_row (log_number wal) m.row m.holds) m.merges) (nothing_merged first)
 
 module _ (wal : ℕ) (old dirs : Dirs) (same : IsSameElsewhere wal dirs old) (below : StandBelow wal old) (base own : List Batch) (recovers : Recovers old base) where
-  merges_on : (segments : List Stored) → AreSegmentsOf dirs wal segments → WalMerges (end_after FIRST_NUMBER base) (record { number = wal; segments = segments }) own → Recovers dirs (base ++ own)
+  merges_on : (segments : List Stored) → AreSegmentsOf dirs wal segments → WalMerges (end_after NUMBER_FIRST base) (record { number = wal; segments = segments }) own → Recovers dirs (base ++ own)
   merges_on [] are merges =
-      let nothing : base ≡ base ++ own = sym (append-nil base) ∙ ap (λ (rest : List Batch). base ++ rest) (sym (nothing_of_none (end_after FIRST_NUMBER base) wal own merges)) in
+      let nothing : base ≡ base ++ own = sym (append-nil base) ∙ ap (λ (rest : List Batch). base ++ rest) (sym (nothing_of_none (end_after NUMBER_FIRST base) wal own merges)) in
       subst (Recovers dirs) nothing (record { wals = recovers.wals; listed = listed_still wal old dirs same below recovers.wals recovers.listed are; merges = recovers.merges })
   merges_on (one ∷ more) are merges = record {
     wals = recovers.wals ++ record { number = wal; segments = one ∷ more } ∷ [];
     listed = listed_more wal old dirs same below recovers.wals recovers.listed (one ∷ more) (λ e. cc) are;
-    merges = wals_more FIRST_NUMBER recovers.wals (record { number = wal; segments = one ∷ more }) base own recovers.merges merges;
+    merges = wals_more NUMBER_FIRST recovers.wals (record { number = wal; segments = one ∷ more }) base own recovers.merges merges;
   }
 
 -- What an image has, has a file.

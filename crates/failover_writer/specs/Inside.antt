@@ -1,4 +1,5 @@
 -- What a journal keeps of its own numbers. Nothing of it is seen from outside.
+use Rattle.disk_face.specs.declared.names.TheConstants.{WAL_MAX}
 use Rattle.std.specs.Prelude.{◌≡◌, ℕ, ◌≤◌, ◌-◌, Bool, length, take}
 use Rattle.disk_face.specs.View.{DiskView}
 use Rattle.failover_writer.specs.State.{State, acked, broken_count}
@@ -13,5 +14,5 @@ pub record IsInOrder (tells : Bool) (state : State) (v : DiskView) (acked_so_far
   pub failed : failures ≡ broken_count state
   pub rested : NoneBusy (take rested_to state.segments)
   pub first_busy : rested_to ≤ length state.segments - 1
-  pub wal : state.wal ≤ 999999999999
+  pub wal : state.wal ≤ WAL_MAX
   pub sound : IsSoundJournal state

@@ -1,4 +1,5 @@
 -- What a stop leaves of a journal (docs/FORMATS.md, "What a stop leaves of a journal").
+use Rattle.batch_repr.specs.declared.limits.TheConstants.{NUMBER_FIRST}
 use Rattle.std.specs.Prelude.{◌≡◌, ◌≢◌, ◌↔◌, ℕ, ◌<◌, ◌≤◌, Bool, List, ◌++◌, length, take, map, Contains, Some, None, IsTrue}
 use Rattle.crc_chunk.specs.Chunk.{IsChunkOf}
 use Rattle.batch_repr.specs.declared.batch.Batch.{Batch}
@@ -9,7 +10,7 @@ use Rattle.disk_face.specs.View.{Place, segment, table, File, Files, Dirs, DiskV
 use Rattle.disk_face.specs.Image.{IsImage, IsChanceFree}
 use Rattle.disk_face.specs.Listing.{IsSegmentName}
 use Rattle.wal_recovery.specs.Listing.{Stored, AreByIndex, StandsIn}
-use Rattle.wal_recovery.specs.Recovering.{FIRST_NUMBER, WalMerges, Recovers}
+use Rattle.wal_recovery.specs.Recovering.{WalMerges, Recovers}
 use Rattle.log_writer.specs.Fits.{place_of_writer}
 use Rattle.failover_writer.specs.State.{State, JournalView, acked}
 use Rattle.failover_writer.specs.Ranges.{StandsFor}
@@ -74,7 +75,7 @@ pub record IsOpenedOn (opening : Files) (state : State) (now : Files) : Type 0 w
 -- Files on which a journal may be begun: each image recovers to the base, which ends at this number, and the WAL is above all others.
 pub record IsOpening (wal first : ℕ) (base : List Batch) (opening : Files) : Type 0 where
   pub above : (side : Side) (name : SegName) (f : File) → IsSegmentName name → opening (segment side name) ≡ Some f → name.wal < wal
-  pub ends : first ≡ end_after FIRST_NUMBER base
+  pub ends : first ≡ end_after NUMBER_FIRST base
   pub recovers : (dirs : Dirs) → IsImage opening dirs → IsChanceFree IsChunkOf opening dirs → Recovers dirs base
 
 -- A journal keeps a base: it was begun on files that recover to it, and none has changed since but those of its segments.

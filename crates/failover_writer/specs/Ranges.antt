@@ -1,4 +1,5 @@
 -- Which segments a journal has, and which records they and the queue hold (docs/FORMATS.md, "The segments of a journal").
+use Rattle.disk_face.specs.declared.names.TheConstants.{WAL_MAX, INDEX_MAX}
 use Rattle.std.specs.Prelude.{◌≡◌, ◌≢◌, ℕ, suc, ◌%◌, ◌==◌, ◌≤◌, min, max, Bool, List, [], ◌∷◌, ◌++◌, length, Some, Contains, map, IsTrue, if◌then◌else◌}
 use Rattle.std.specs.List.{AllByRecursion}
 use Rattle.batch_repr.specs.declared.batch.Batch.{Batch}
@@ -33,7 +34,7 @@ AreJoined wal index synced (w ∷ writers) = IsSegmentAt wal index w × (w.from 
 
 -- Nothing was sent to the files of the segments from this index on.
 abbrev pub AreUnsent : ℕ → ℕ → DiskView → Type 0
-AreUnsent wal first v = (index : ℕ) → first ≤ index → index ≤ 999 → IsUnsent (files v (segment (side_at index) (record { wal = wal; index = index })))
+AreUnsent wal first v = (index : ℕ) → first ≤ index → index ≤ INDEX_MAX → IsUnsent (files v (segment (side_at index) (record { wal = wal; index = index })))
 
 -- the end of what was sent to the current segment, or this number where none is begun
 abbrev pub sent_to_current : ℕ → List Writer → ℕ
@@ -51,7 +52,7 @@ IsSpelled batch = SpellsBatch (written batch) batch
 -- The journal holds these records, over a disk as it is now: its segments have them on the disk, and its queue those that a
 -- segment may still have to write.
 pub record StandsFor (tells : Bool) (records : List Batch) (state : State) (v : DiskView) : Type 0 where
-  pub named : state.wal ≤ 999999999999
+  pub named : state.wal ≤ WAL_MAX
   pub numbered : IsContiguous state.base records
   pub spelled : AllByRecursion IsSpelled records
   pub next : state.next ≡ end_after state.base records

@@ -1,5 +1,6 @@
 //! The journal and its step.
 
+ghost use Rattle.disk_face.specs.declared.names.TheConstants.{WAL_MAX};
 ghost use Rattle.std.specs.Prelude.{◌≡◌, ◌≢◌, ◌↔◌, ◌⊎◌, ◌≤◌, ◌<◌, ◌-◌, suc, List, [], ◌∷◌, ◌++◌, length, take, drop, Option, None, Ok, MatchBool, IfOk, IfErr, IfSome, OnOk, OnErr, IsTrue, nat_lt};
 ghost use Rattle.batch_repr.specs.declared.batch.Batch.{Batch};
 ghost use Rattle.disk_face.specs.declared.Progress.{Progress};
@@ -104,7 +105,7 @@ impl<D: Disk> Journal<D> {
         threshold: u32,
     ) -> Result<Journal<D>, D>
         requires idle { NothingInFlight (D.view disk) }
-        requires wal { wal ≤ 999999999999 }
+        requires wal { wal ≤ WAL_MAX }
         requires threshold { (1 ≤ threshold) × (threshold ≤ THRESHOLD_MAX) }
         requires absent { IsTrue D.tells → AreUnsent wal 0 (D.view disk) }
         ensures made { IfOk result (λ j. j ≡ record { disk = disk; state = unbegun wal base threshold j.state.queue }) }

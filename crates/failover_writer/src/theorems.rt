@@ -1,5 +1,6 @@
 //! Laws of what a stop leaves of a journal (docs/FORMATS.md, "What a stop leaves of a journal").
 
+ghost use Rattle.batch_repr.specs.declared.limits.TheConstants.{NUMBER_FIRST};
 ghost use Rattle.std.specs.Prelude.{◌≡◌, ◌<◌, ℕ, Bool, List, Some, IsTrue};
 ghost use Rattle.crc_chunk.specs.Chunk.{IsChunkOf};
 ghost use Rattle.batch_repr.specs.declared.batch.Batch.{Batch};
@@ -9,7 +10,7 @@ ghost use Rattle.disk_face.specs.declared.SegName.{SegName};
 ghost use Rattle.disk_face.specs.Listing.{IsSegmentName};
 ghost use Rattle.disk_face.specs.View.{segment, File, Files, DiskView, files};
 ghost use Rattle.disk_face.specs.Image.{IsImage, IsChanceFree, IsRested, dirs_as_read};
-ghost use Rattle.wal_recovery.specs.Recovering.{FIRST_NUMBER, Recovers};
+ghost use Rattle.wal_recovery.specs.Recovering.{Recovers};
 ghost use Rattle.wal_recovery.specs.Resting.{AreSegmentsStable};
 ghost use Rattle.failover_writer.specs.State.{State, acked, broken_count};
 ghost use Rattle.failover_writer.specs.Ranges.{StandsFor, Stands};
@@ -33,7 +34,7 @@ pub fn a_journal_keeps_its_base()
 /// Files at rest whose segments are stable in full, all below a WAL, open a journal of that WAL: each image of them recovers
 /// to what they read as.
 pub fn stable_files_open_a_journal()
-    ensures { (wal : ℕ) (base : List Batch) (now : Files) → IsRested now → AreSegmentsStable now → Recovers (dirs_as_read now) base → ((side : Side) (name : SegName) (f : File) → IsSegmentName name → now (segment side name) ≡ Some f → name.wal < wal) → IsOpening wal (end_after FIRST_NUMBER base) base now }
+    ensures { (wal : ℕ) (base : List Batch) (now : Files) → IsRested now → AreSegmentsStable now → Recovers (dirs_as_read now) base → ((side : Side) (name : SegName) (f : File) → IsSegmentName name → now (segment side name) ≡ Some f → name.wal < wal) → IsOpening wal (end_after NUMBER_FIRST base) base now }
 {}
 
 /// A journal of which no segment has failed, begun on files at rest, reads as an image of its disk that no torn chunk deceives.

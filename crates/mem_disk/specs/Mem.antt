@@ -1,4 +1,5 @@
 -- What the fields of a disk in memory stand for (docs/FORMATS.md, "The disk").
+use Rattle.disk_face.specs.declared.names.TheConstants.{WAL_MAX, INDEX_MAX}
 use Rattle.std.specs.Prelude.{◌≡◌, ◌≢◌, ℕ, suc, ◌==◌, ◌&&◌, ◌||◌, not, nat_lt, nat_le, Bool, true, false, if◌then◌else◌, List, [], ◌∷◌, take, drop, length, slice_get, Option, Some, None, option_map, ◌<◌, slice_index_or, slice_set, ◌++◌}
 use Rattle.disk_face.specs.declared.Side.{Side}
 use Rattle.disk_face.specs.declared.SegName.{SegName}
@@ -112,7 +113,7 @@ put m (x ∷ xs) = if goes_before m.side m.name x then m ∷ x ∷ xs else x ∷
 
 -- whether the name is in range
 abbrev pub is_named : SegName → Bool
-is_named name = nat_le name.wal 999999999999 && nat_le name.index 999
+is_named name = nat_le name.wal WAL_MAX && nat_le name.index INDEX_MAX
 
 -- what a listing of the side has of one file
 abbrev pub listed_one : Side → MemFile → List Listed

@@ -6,20 +6,14 @@ ghost use Rattle.mem_disk.specs.Mem.{files_held, AreInOrder, listed_one, listed_
 
 use crate::order::is_side;
 use crate::parts::MemFile;
-use disk_face::{DiskErr, Listed, Names, SegName, Side};
+use disk_face::{DiskErr, INDEX_MAX, Listed, Names, SegName, Side, WAL_MAX};
 use std::alloc::Global;
 use wal_base::NoMemory;
-
-/// The greatest number of a WAL.
-const LAST_WAL: u64 = 999_999_999_999;
-
-/// The greatest index of a segment.
-const LAST_INDEX: u32 = 999;
 
 fn is_segment_name(name: SegName) -> bool
     ensures { result ≡ is_named name }
 {
-    name.wal <= LAST_WAL && name.index <= LAST_INDEX
+    name.wal <= WAL_MAX && name.index <= INDEX_MAX
 }
 
 fn list_one(file: &MemFile, side: Side, names: &mut Names) -> Result<(), NoMemory>

@@ -1,4 +1,5 @@
 -- The WAL at a place of the list: its segments are in order, those before it with it are one WAL more, and what refuses it refuses the directories.
+use Rattle.batch_repr.specs.declared.limits.TheConstants.{NUMBER_FIRST}
 use Rattle.std.proofs.Common.{◌≡◌, ℕ, zero, suc, ◌+◌, ◌<◌, List, [], ◌∷◌, ◌++◌, All, Contains, length, map, take, get_or, subst, sym, ap, ◌∙◌, refl, arith}
 use Rattle.std.proofs.lemmas.List.{map_more}
 use Rattle.std.proofs.lemmas.List.Elements.{Contains-append_right}
@@ -12,7 +13,7 @@ use Rattle.wal_recovery.specs.declared.fault.RecoverFault.TheVariants as faults
 use Rattle.wal_recovery.specs.declared.reports.SegReport.{SegReport}
 use Rattle.wal_recovery.specs.declared.wals.FoundWal.{FoundWal}
 use Rattle.wal_recovery.specs.Listing.{Wal, AreByIndex, AreByNumber, IsListingOf}
-use Rattle.wal_recovery.specs.Recovering.{FIRST_NUMBER, WalMerges, WalsMerge}
+use Rattle.wal_recovery.specs.Recovering.{WalMerges, WalsMerge}
 use Rattle.wal_recovery.specs.Refused.{Reaches, ReachesRow, IsRefused}
 use Rattle.wal_recovery.specs.Reports.{ReportOnAll}
 use Rattle.wal_recovery.specs.Answers.{DiskMemoryOr}
@@ -84,7 +85,7 @@ module _ (files : Files) where
         (subst (λ (l : List Wal). ReportOnAll l (old ++ added.own)) (sym more) (reports_push (wals_in files (take i wals)) (wal_in files wal) old added.own before added.on))
 
     -- what refuses it refuses the directories
-    pub refused_at : (next : ℕ) (base : List Batch) (fault : RecoverFault) → next ≡ end_after FIRST_NUMBER base → WalsMerge FIRST_NUMBER (wals_in files (take i wals)) base
+    pub refused_at : (next : ℕ) (base : List Batch) (fault : RecoverFault) → next ≡ end_after NUMBER_FIRST base → WalsMerge NUMBER_FIRST (wals_in files (take i wals)) base
         → (AreAsListed files wal.segments.items → DiskMemoryOr (IsRefusedWal next (wal_in files wal)) fault) → AreListedWals files wals → DiskMemoryOr (IsRefused (dirs_as_read files)) fault
     refused_at next base fault from before here listed = go fault (subst (λ (n : ℕ). DiskMemoryOr (IsRefusedWal n (wal_in files wal)) fault) from (here (listed_at listed)))
       where
@@ -96,7 +97,7 @@ module _ (files : Files) where
         row_of : HoldsRow (wal_in files wal) → ReachesRow (dirs_as_read files) wal.number
         row_of held = record { segments = map (stored_in files) wal.segments.items; base = base; reached = reached; row = held.row; holds = held.holds }
 
-        go : (fault : RecoverFault) → DiskMemoryOr (IsRefusedWal (end_after FIRST_NUMBER base) (wal_in files wal)) fault → DiskMemoryOr (IsRefused (dirs_as_read files)) fault
+        go : (fault : RecoverFault) → DiskMemoryOr (IsRefusedWal (end_after NUMBER_FIRST base) (wal_in files wal)) fault → DiskMemoryOr (IsRefused (dirs_as_read files)) fault
         go (faults.Disk side) h = tt
         go (faults.DuplicateSegment number index) h = absurd h
         go (faults.BadBatch number index place bad) h =

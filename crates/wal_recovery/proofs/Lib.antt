@@ -25,5 +25,4 @@ mod Rested
 mod OneWal
 mod AtWal
 mod ByWal
-mod Limits
 mod Asking

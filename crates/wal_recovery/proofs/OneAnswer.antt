@@ -1,4 +1,5 @@
 -- Directories recover to at most one list of batches.
+use Rattle.batch_repr.specs.declared.limits.TheConstants.{NUMBER_FIRST}
 use Rattle.std.proofs.Common.{◌≡◌, inl, inr, ℕ, suc, ◌≤◌, ◌<◌, Bool, List, [], ◌∷◌, ◌++◌, sym, subst, ap, ◌∙◌, refl, arith}
 use Rattle.std.specs.Prelude.{Contains}
 use Rattle.std.specs.List.{filter}
@@ -11,7 +12,7 @@ use Rattle.disk_face.specs.View.{Dirs}
 use Rattle.segment_merge.proofs.Laws.{none_within, within_head, within_tail, within_cases, one_merged}
 use Rattle.segment_merge.specs.Merging.{Merged}
 use Rattle.wal_recovery.specs.Listing.{Stored, Wal, AreByIndex, AreByNumber, IsOf, IsListingOf}
-use Rattle.wal_recovery.specs.Recovering.{log_number, takes_number, Spell, HoldsBatches, HoldRow, WalsMerge, Recovers, FIRST_NUMBER}
+use Rattle.wal_recovery.specs.Recovering.{log_number, takes_number, Spell, HoldsBatches, HoldRow, WalsMerge, Recovers}
 use Rattle.wal_recovery.proofs.Composing.{listed_some}
 use Rattle.wal_recovery.proofs.OneReading as reading
 
@@ -137,7 +138,7 @@ module _ (one_read : (bytes : List ℕ) (log : ℕ) (r s : List Rec) (d e : ℕ)
   -- The same, of any such laws.
   pub one_recovered : (dirs : Dirs) (a b : List Batch) → Recovers dirs a → Recovers dirs b → a ≡ b
   one_recovered dirs a b h k =
-      one_wals FIRST_NUMBER k.wals a b (subst (λ w. WalsMerge FIRST_NUMBER w a) (one_listing dirs h.wals k.wals h.listed k.listed) h.merges) k.merges
+      one_wals NUMBER_FIRST k.wals a b (subst (λ w. WalsMerge NUMBER_FIRST w a) (one_listing dirs h.wals k.wals h.listed k.listed) h.merges) k.merges
 
 -- Directories recover to at most one list of batches.
 pub recovers_once : (dirs : Dirs) (a b : List Batch) → Recovers dirs a → Recovers dirs b → a ≡ b

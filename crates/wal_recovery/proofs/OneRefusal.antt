@@ -1,4 +1,5 @@
 -- Where no gap is accepted, directories have one answer. Of two WALs that are refused the lesser is merged on the way to the other.
+use Rattle.batch_repr.specs.declared.limits.TheConstants.{NUMBER_FIRST}
 use Rattle.std.proofs.Common.{◌≡◌, ◌⊎◌, inl, inr, ℕ, List, [], ◌∷◌, ◌++◌, sym, subst, ap, ◌∙◌, refl}
 use Rattle.batch_repr.specs.declared.batch.Batch.{Batch}
 use Rattle.batch_repr.specs.declared.fault.BatchFault.{BatchFault}
@@ -12,7 +13,7 @@ use Rattle.disk_face.specs.View.{Dirs}
 use Rattle.wal_recovery.specs.declared.fault.RecoverFault.{RecoverFault}
 use Rattle.wal_recovery.specs.declared.fault.RecoverFault.TheVariants as faults
 use Rattle.wal_recovery.specs.Listing.{Stored, Wal, IsDuplicate}
-use Rattle.wal_recovery.specs.Recovering.{FIRST_NUMBER, log_number, WalMerges, WalsMerge, Recovers}
+use Rattle.wal_recovery.specs.Recovering.{log_number, WalMerges, WalsMerge, Recovers}
 use Rattle.wal_recovery.specs.Refused.{IsBadBatch, Reaches, by_index, IsRefused}
 use Rattle.wal_recovery.specs.Gathered.{named_in_wal}
 use Rattle.wal_recovery.specs.OneWal.{HoldsRow, IsRefusedWal}
@@ -102,14 +103,14 @@ record IsWrongAt (dirs : Dirs) (fault : RecoverFault) : Type 0 where
   wal : Wal
   base : List Batch
   reached : Reaches dirs wal.number wal.segments base
-  wrong : IsRefusedWal (end_after FIRST_NUMBER base) wal fault
+  wrong : IsRefusedWal (end_after NUMBER_FIRST base) wal fault
 
 -- so no WALs merge that go on behind it
-wrong_behind : (dirs : Dirs) (fault : RecoverFault) (w : IsWrongAt dirs fault) (wals mid : List Wal) (merged : List Batch) → wals ≡ w.reached.before ++ w.wal ∷ mid → WalsMerge FIRST_NUMBER wals merged → ⊥
+wrong_behind : (dirs : Dirs) (fault : RecoverFault) (w : IsWrongAt dirs fault) (wals mid : List Wal) (merged : List Batch) → wals ≡ w.reached.before ++ w.wal ∷ mid → WalsMerge NUMBER_FIRST wals merged → ⊥
 wrong_behind dirs fault w wals mid merged is m =
-    let cut = merges_up_to FIRST_NUMBER w.reached.before w.wal mid merged (subst (λ (l : List Wal). WalsMerge FIRST_NUMBER l merged) is m) in
-    let bases : cut.base ≡ w.base = one_wals reading.one_read reading.one_spelled FIRST_NUMBER w.reached.before cut.base w.base cut.merged w.reached.merged in
-    merged_or_wrong (end_after FIRST_NUMBER w.base) w.wal cut.own fault (subst (λ (b : List Batch). WalMerges (end_after FIRST_NUMBER b) w.wal cut.own) bases cut.here) w.wrong
+    let cut = merges_up_to NUMBER_FIRST w.reached.before w.wal mid merged (subst (λ (l : List Wal). WalsMerge NUMBER_FIRST l merged) is m) in
+    let bases : cut.base ≡ w.base = one_wals reading.one_read reading.one_spelled NUMBER_FIRST w.reached.before cut.base w.base cut.merged w.reached.merged in
+    merged_or_wrong (end_after NUMBER_FIRST w.base) w.wal cut.own fault (subst (λ (b : List Batch). WalMerges (end_after NUMBER_FIRST b) w.wal cut.own) bases cut.here) w.wrong
 
 recovered_or_wrong : (dirs : Dirs) (merged : List Batch) (fault : RecoverFault) → Recovers dirs merged → IsWrongAt dirs fault → ⊥
 recovered_or_wrong dirs merged fault r w =
@@ -123,10 +124,10 @@ one_wrong_at dirs f g a b =
     of_places : Places a.reached.before a.wal a.reached.after b.reached.before b.wal b.reached.after → f ≡ g
     of_places (sooner mid is) = absurd (wrong_behind dirs f a b.reached.before mid b.base is b.reached.merged)
     of_places (one befores wals afters) =
-        let merged : WalsMerge FIRST_NUMBER b.reached.before a.base = subst (λ (l : List Wal). WalsMerge FIRST_NUMBER l a.base) befores a.reached.merged in
-        let bases : a.base ≡ b.base = one_wals reading.one_read reading.one_spelled FIRST_NUMBER b.reached.before a.base b.base merged b.reached.merged in
-        one_wrong (end_after FIRST_NUMBER b.base) b.wal f g
-        (subst (λ (x : Wal). IsRefusedWal (end_after FIRST_NUMBER b.base) x f) wals (subst (λ (l : List Batch). IsRefusedWal (end_after FIRST_NUMBER l) a.wal f) bases a.wrong)) b.wrong
+        let merged : WalsMerge NUMBER_FIRST b.reached.before a.base = subst (λ (l : List Wal). WalsMerge NUMBER_FIRST l a.base) befores a.reached.merged in
+        let bases : a.base ≡ b.base = one_wals reading.one_read reading.one_spelled NUMBER_FIRST b.reached.before a.base b.base merged b.reached.merged in
+        one_wrong (end_after NUMBER_FIRST b.base) b.wal f g
+        (subst (λ (x : Wal). IsRefusedWal (end_after NUMBER_FIRST b.base) x f) wals (subst (λ (l : List Batch). IsRefusedWal (end_after NUMBER_FIRST l) a.wal f) bases a.wrong)) b.wrong
     of_places (later mid is) = absurd (wrong_behind dirs g b a.reached.before mid a.base is a.reached.merged)
 
 -- ---- the directories

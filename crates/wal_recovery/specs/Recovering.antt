@@ -1,4 +1,5 @@
 -- What the directories recover to (docs/FORMATS.md, "Recovery").
+use Rattle.batch_repr.specs.declared.limits.TheConstants.{NUMBER_FIRST}
 use Rattle.std.specs.Prelude.{◌≡◌, ℕ, ◌%◌, ◌^◌, Bool, List, [], ◌∷◌, ◌++◌, nat_lt}
 use Rattle.std.specs.List.{filter, AllZip}
 use Rattle.batch_repr.specs.declared.batch.Batch.{Batch}
@@ -10,10 +11,6 @@ use Rattle.segment_merge.specs.Merging.{Merged}
 use Rattle.segment_merge.specs.Lenient.{MergedLenient}
 use Rattle.disk_face.specs.View.{Dirs}
 use Rattle.wal_recovery.specs.Listing.{Stored, Wal, IsListingOf}
-
--- the number at which the first WAL begins
-abbrev pub FIRST_NUMBER : ℕ
-FIRST_NUMBER = 10
 
 -- the number that the chunks of a WAL carry
 abbrev pub log_number : ℕ → ℕ
@@ -60,7 +57,7 @@ WalsMerge first (wal ∷ wals) merged =
 pub record Recovers (dirs : Dirs) (merged : List Batch) : Type 0 where
   pub wals : List Wal
   pub listed : IsListingOf dirs wals
-  pub merges : WalsMerge FIRST_NUMBER wals merged
+  pub merges : WalsMerge NUMBER_FIRST wals merged
 
 -- ---- where gaps are accepted
 

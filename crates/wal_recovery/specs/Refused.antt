@@ -1,4 +1,5 @@
 -- Why the directories are refused, in the order in which it is looked for (docs/FORMATS.md, "Recovery").
+use Rattle.batch_repr.specs.declared.limits.TheConstants.{NUMBER_FIRST}
 use Rattle.std.specs.Prelude.{◌≡◌, ℕ, ◌++◌, Bool, List, [], ◌∷◌}
 use Rattle.std.specs.List.{flat_map}
 use Rattle.batch_repr.specs.declared.batch.Batch.{Batch}
@@ -14,7 +15,7 @@ use Rattle.disk_face.specs.View.{Dirs}
 use Rattle.wal_recovery.specs.declared.fault.RecoverFault.{RecoverFault}
 use Rattle.wal_recovery.specs.declared.fault.RecoverFault.TheVariants as faults
 use Rattle.wal_recovery.specs.Listing.{Stored, Wal, IsListingOf, IsDuplicate}
-use Rattle.wal_recovery.specs.Recovering.{FIRST_NUMBER, log_number, Spell, HoldRow, WalsMerge, HoldAll}
+use Rattle.wal_recovery.specs.Recovering.{log_number, Spell, HoldRow, WalsMerge, HoldAll}
 
 -- The first of the records that spells no batch: it stands at this place, and this is the first thing wrong with it.
 pub record IsBadRecord (records : List Rec) (place : ℕ) (fault : BatchFault) : Type 0 where
@@ -47,7 +48,7 @@ pub record Reaches (dirs : Dirs) (number : ℕ) (segments : List Stored) (base :
   pub before : List Wal
   pub after : List Wal
   pub listed : IsListingOf dirs (before ++ record { number = number; segments = segments } ∷ after)
-  pub merged : WalsMerge FIRST_NUMBER before base
+  pub merged : WalsMerge NUMBER_FIRST before base
 
 -- the batches of segments, each list under its segment's index
 abbrev pub by_index : List Stored → List (List Batch) → List SegmentRead
@@ -68,8 +69,8 @@ IsRefused dirs (faults.Disk side) = ⊥
 IsRefused dirs (faults.DuplicateSegment wal index) = IsDuplicate dirs wal index
 IsRefused dirs (faults.BadBatch wal index place fault) =
     (segments : List Stored) × (base : List Batch) × Reaches dirs wal segments base × IsBadBatch (log_number wal) segments index place fault
-IsRefused dirs (faults.Gap wal index expected found) = (r : ReachesRow dirs wal) × IsGap (end_after FIRST_NUMBER r.base) (by_index r.segments r.row) index expected found
-IsRefused dirs (faults.Conflict wal index first) = (r : ReachesRow dirs wal) × IsConflict (end_after FIRST_NUMBER r.base) (by_index r.segments r.row) index first
+IsRefused dirs (faults.Gap wal index expected found) = (r : ReachesRow dirs wal) × IsGap (end_after NUMBER_FIRST r.base) (by_index r.segments r.row) index expected found
+IsRefused dirs (faults.Conflict wal index first) = (r : ReachesRow dirs wal) × IsConflict (end_after NUMBER_FIRST r.base) (by_index r.segments r.row) index first
 IsRefused dirs faults.NoMemory = ⊥
 
 -- ---- where gaps are accepted

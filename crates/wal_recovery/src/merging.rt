@@ -2,7 +2,7 @@
 
 ghost use Rattle.std.specs.Prelude.{◌≡◌, ◌≤◌, ◌∷◌, ◌++◌, [], List, All, IfOk, IfErr, OnOk, IsTrue, map};
 ghost use Rattle.batch_repr.specs.declared.batch.Batch.{Batch};
-ghost use Rattle.batch_repr.specs.declared.limits.TheConstants.{NUMBER_MAX};
+ghost use Rattle.batch_repr.specs.declared.limits.TheConstants.{NUMBER_FIRST, NUMBER_MAX};
 ghost use Rattle.batch_repr.specs.Batches.{end_after, IsContiguous};
 ghost use Rattle.segment_merge.specs.Rows.{IsNumbered, IsRow};
 ghost use Rattle.segment_merge.specs.declared.segment.SegmentRead.{SegmentRead};
@@ -11,7 +11,7 @@ ghost use Rattle.disk_face.specs.View.{files};
 ghost use Rattle.disk_face.specs.Image.{dirs_as_read};
 ghost use Rattle.disk_face.specs.Calls.{GoesOn, SameDisk};
 ghost use Rattle.wal_recovery.specs.Listing.{AreByIndex, AreByNumber};
-ghost use Rattle.wal_recovery.specs.Recovering.{FIRST_NUMBER, WalMerges, WalsMerge, RecoversLenient};
+ghost use Rattle.wal_recovery.specs.Recovering.{WalMerges, WalsMerge, RecoversLenient};
 ghost use Rattle.wal_recovery.specs.Refused.{IsRefused, IsLenientlyRefused};
 ghost use Rattle.wal_recovery.specs.Reports.{ReportOnAll};
 ghost use Rattle.wal_recovery.specs.Answers.{FaultRose, DiskMemoryOr};
@@ -26,14 +26,11 @@ use crate::listing::Found;
 use crate::reading::read_bytes;
 use crate::reports::{SegReport, SegReports};
 use crate::wals::{FoundWal, FoundWals};
-use batch_repr::{Batch, Batches};
+use batch_repr::{Batch, Batches, NUMBER_FIRST};
 use block_record::read_out_shared;
 use disk_face::Disk;
 use segment_merge::{LenientMerge, MergeFault, SegmentRead, Segments, merge};
 use std::alloc::Global;
-
-/// The number of the first batch.
-pub(crate) const FIRST_NUMBER: u64 = 10;
 
 /// The report on a segment with these bytes.
 fn report_of(alloc: Global, segment: Found, bytes: Vec<u8>) -> Result<SegReport, RecoverFault>
@@ -210,15 +207,15 @@ pub(crate) fn merge_strict<D: Disk>(
     ensures asks { ReadsOnly (found_in wals.now) (D.view disk.old) (D.view disk.new) }
     ensures same { SameDisk (D.view disk.old) (D.view disk.new) }
     ensures rose { IfErr result (FaultRose (D.view disk.old) (D.view disk.new)) }
-    ensures contiguous { IfOk result (λ merged. IsContiguous FIRST_NUMBER merged.batches) }
-    ensures next { IfOk result (λ merged. merged.next ≡ end_after FIRST_NUMBER merged.batches) }
+    ensures contiguous { IfOk result (λ merged. IsContiguous NUMBER_FIRST merged.batches) }
+    ensures next { IfOk result (λ merged. merged.next ≡ end_after NUMBER_FIRST merged.batches) }
     ensures within { IfOk result (λ merged. merged.next ≤ NUMBER_MAX) }
-    ensures merged { IfOk result (λ merged. IsTrue D.tells → AreListedWals (files (D.view disk.old)) wals.now → WalsMerge FIRST_NUMBER (wals_in (files (D.view disk.old)) wals.now) merged.batches) }
+    ensures merged { IfOk result (λ merged. IsTrue D.tells → AreListedWals (files (D.view disk.old)) wals.now → WalsMerge NUMBER_FIRST (wals_in (files (D.view disk.old)) wals.now) merged.batches) }
     ensures reports { OnOk result (IsTrue D.tells → AreListedWals (files (D.view disk.old)) wals.now → ReportOnAll (wals_in (files (D.view disk.old)) wals.now) reports.new) }
     ensures refused { IfErr result (λ fault. IsTrue D.tells → AreListedWals (files (D.view disk.old)) wals.now → DiskMemoryOr (IsRefused (dirs_as_read (files (D.view disk.old)))) fault) }
 {
     let mut batches = Batches::new(alloc);
-    let mut next = FIRST_NUMBER;
+    let mut next = NUMBER_FIRST;
     for wal in wals.as_slice() {
         let own = merge_wal(alloc, disk, next, wal, reports)?;
         next = end_behind(next, own.as_slice());
@@ -267,7 +264,7 @@ pub(crate) fn merge_all<D: Disk>(
     ensures asks { ReadsOnly (found_in wals.now) (D.view disk.old) (D.view disk.new) }
     ensures same { SameDisk (D.view disk.old) (D.view disk.new) }
     ensures rose { IfErr result (FaultRose (D.view disk.old) (D.view disk.new)) }
-    ensures next { IfOk result (λ merged. merged.next ≡ end_after FIRST_NUMBER merged.batches) }
+    ensures next { IfOk result (λ merged. merged.next ≡ end_after NUMBER_FIRST merged.batches) }
     ensures within { IfOk result (λ merged. merged.next ≤ NUMBER_MAX) }
     ensures merged { IfOk result (λ merged. IsTrue D.tells → AreListedWals (files (D.view disk.old)) wals.now → RecoversLenient (dirs_as_read (files (D.view disk.old))) merged.batches) }
     ensures reports { OnOk result (IsTrue D.tells → AreListedWals (files (D.view disk.old)) wals.now → ReportOnAll (wals_in (files (D.view disk.old)) wals.now) reports.new) }
@@ -278,6 +275,6 @@ pub(crate) fn merge_all<D: Disk>(
         so_far = add_wal(alloc, disk, so_far, wal, reports)?;
     }
     let batches = so_far.into_batches();
-    let next = end_behind(FIRST_NUMBER, batches.as_slice());
+    let next = end_behind(NUMBER_FIRST, batches.as_slice());
     Ok(Merged { batches, next })
 }

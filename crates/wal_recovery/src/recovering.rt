@@ -2,7 +2,7 @@
 
 ghost use Rattle.std.specs.Prelude.{◌≡◌, ◌≤◌, ℕ, List, All, IfOk, IfErr, OnOk, IsTrue};
 ghost use Rattle.batch_repr.specs.declared.batch.Batch.{Batch};
-ghost use Rattle.batch_repr.specs.declared.limits.TheConstants.{NUMBER_MAX};
+ghost use Rattle.batch_repr.specs.declared.limits.TheConstants.{NUMBER_FIRST, NUMBER_MAX};
 ghost use Rattle.batch_repr.specs.Batches.{end_after, IsContiguous};
 ghost use Rattle.disk_face.specs.View.{files, NothingInFlight, AtEachMoment};
 ghost use Rattle.disk_face.specs.Image.{dirs_as_read, IsRested};
@@ -12,7 +12,6 @@ ghost use Rattle.wal_recovery.specs.declared.fault.RecoverFault.{RecoverFault};
 ghost use Rattle.wal_recovery.specs.declared.listing.Found.{Found};
 ghost use Rattle.wal_recovery.specs.declared.reports.Mode.TheVariants.{Strict, Lenient};
 ghost use Rattle.wal_recovery.specs.Listing.{IsNextWal};
-ghost use Rattle.wal_recovery.specs.Recovering.{FIRST_NUMBER};
 ghost use Rattle.wal_recovery.specs.Reports.{AreReports};
 ghost use Rattle.wal_recovery.specs.Resting.{AreSegmentsStable, OnlySynced, AddsNoImage};
 ghost use Rattle.wal_recovery.specs.Answers.{RecoversBy, IsRefusedBy, IsRefusal, FaultRose, DiskMemoryOr, OkOrFailed, ErrOrFailed};
@@ -56,9 +55,9 @@ fn recover_strict<D: Disk>(
     ensures recovered { IfOk result (λ found. IsTrue D.tells → RecoversBy Strict (dirs_as_read (files (D.view disk.old))) found.batches) }
     ensures refused { IfErr result (λ fault. IsTrue D.tells → DiskMemoryOr (IsRefusedBy Strict (dirs_as_read (files (D.view disk.old)))) fault) }
     ensures reports { IfOk result (λ found. IsTrue D.tells → AreReports (dirs_as_read (files (D.view disk.old))) found.segments) }
-    ensures contiguous { IfOk result (λ found. IsContiguous FIRST_NUMBER found.batches) }
+    ensures contiguous { IfOk result (λ found. IsContiguous NUMBER_FIRST found.batches) }
     ensures within { IfOk result (λ found. found.next ≤ NUMBER_MAX) }
-    ensures next { IfOk result (λ found. found.next ≡ end_after FIRST_NUMBER found.batches) }
+    ensures next { IfOk result (λ found. found.next ≡ end_after NUMBER_FIRST found.batches) }
     ensures next_wal { IfOk result (λ found. IsNextBehind segments.now found.next_wal) }
     ensures each_moment { IsTrue D.tells → AtEachMoment ((D.view disk.old).clock) (D.view disk.new) (OnlySynced (files (D.view disk.old))) }
     ensures untouched { IfErr result (λ fault. IsRefusal fault → SameDisk (D.view disk.old) (D.view disk.new)) }
@@ -94,7 +93,7 @@ fn recover_lenient<D: Disk>(
     ensures refused { IfErr result (λ fault. IsTrue D.tells → DiskMemoryOr (IsRefusedBy Lenient (dirs_as_read (files (D.view disk.old)))) fault) }
     ensures reports { IfOk result (λ found. IsTrue D.tells → AreReports (dirs_as_read (files (D.view disk.old))) found.segments) }
     ensures within { IfOk result (λ found. found.next ≤ NUMBER_MAX) }
-    ensures next { IfOk result (λ found. found.next ≡ end_after FIRST_NUMBER found.batches) }
+    ensures next { IfOk result (λ found. found.next ≡ end_after NUMBER_FIRST found.batches) }
     ensures next_wal { IfOk result (λ found. IsNextBehind segments.now found.next_wal) }
     ensures same { SameDisk (D.view disk.old) (D.view disk.new) }
 {
@@ -129,11 +128,11 @@ pub fn recover<D: Disk>(alloc: Global, disk: &mut D, mode: Mode) -> Result<Recov
     ensures refused { IfErr result (λ fault. IsTrue D.tells → DiskMemoryOr (IsRefusedBy mode (dirs_as_read (files (D.view disk.old)))) fault) }
     ensures refusal { IsTrue D.tells → (fault : RecoverFault) → IsRefusedBy mode (dirs_as_read (files (D.view disk.old))) fault → ErrOrFailed result fault }
     ensures reports { IfOk result (λ found. IsTrue D.tells → AreReports (dirs_as_read (files (D.view disk.old))) found.segments) }
-    ensures next { IfOk result (λ found. found.next ≡ end_after FIRST_NUMBER found.batches) }
+    ensures next { IfOk result (λ found. found.next ≡ end_after NUMBER_FIRST found.batches) }
     ensures next_wal { IfOk result (λ found. IsTrue D.tells → IsNextWal (dirs_as_read (files (D.view disk.old))) found.next_wal) }
 
     // The numbers, also where the disk does not tell its files.
-    ensures contiguous { mode ≡ Strict → IfOk result (λ found. IsContiguous FIRST_NUMBER found.batches) }
+    ensures contiguous { mode ≡ Strict → IfOk result (λ found. IsContiguous NUMBER_FIRST found.batches) }
     ensures within { IfOk result (λ found. found.next ≤ NUMBER_MAX) }
 
     // The calls, of any disk: of each segment no more bytes are asked for than it was listed with.

@@ -3,7 +3,7 @@ use Rattle.std.specs.Prelude.{is_some}
 use Rattle.std.proofs.Common.{◌≡◌, ℕ, ◌+◌, ◌≤◌, Bool, true, false, List, [], ◌∷◌, ◌++◌, length, Option, None, refl, sym, ap, ◌∙◌, subst, arith}
 use Rattle.wal_base.specs.declared.entry.Entry.{Entry}
 use Rattle.batch_repr.specs.declared.batch.Batch.{Batch}
-use Rattle.batch_repr.specs.declared.limits.TheConstants.{NUMBER_MAX}
+use Rattle.batch_repr.specs.declared.limits.TheConstants.{NUMBER_FIRST, NUMBER_MAX}
 use Rattle.batch_repr.specs.Batches.{count_of, IsContiguous, end_after}
 use Rattle.disk_face.specs.declared.Side.{Side}
 use Rattle.disk_face.specs.View.{DiskView, NothingInFlight}
@@ -15,7 +15,6 @@ use Rattle.failover_writer.specs.Sound.{IsSoundJournal}
 use Rattle.failover_writer.specs.State.{State, len, acked}
 use Rattle.wal_top.specs.declared.replies.JournalEnd.{JournalEnd}
 use Rattle.wal_top.specs.Printing.{commit_line, end_line}
-use Rattle.wal_top.specs.Replay.{FIRST}
 use Rattle.wal_top.specs.Journaling.{Runs, RunsStill, HasEnded}
 use Rattle.wal_top.specs.Doing.{numbered_behind, Stage, Logs, Commits, Closes, EndsRun}
 use Rattle.wal_top.proofs.Running.{len_is, has_ended}
@@ -44,7 +43,7 @@ closes_stage tells died batches text limited old new before after runs lives dea
 
 -- the last line behind a closing
 pub ends_run : (tells died : Bool) (old mid : Stage) (acked_now begun visible count : ℕ) (text : List ℕ) → Closes tells died old mid → IsSoundJournal mid.journal → acked_now ≡ acked mid.journal → begun ≡ length mid.journal.segments
-    → visible ≡ end_after FIRST mid.batches → IsContiguous FIRST mid.batches → visible ≤ NUMBER_MAX → count ≡ len mid.journal → text ≡ mid.text ++ end_line visible count (record { acked = acked_now; segments = begun; died = died })
+    → visible ≡ end_after NUMBER_FIRST mid.batches → IsContiguous NUMBER_FIRST mid.batches → visible ≤ NUMBER_MAX → count ≡ len mid.journal → text ≡ mid.text ++ end_line visible count (record { acked = acked_now; segments = begun; died = died })
     → EndsRun tells (record { acked = acked_now; segments = begun; died = died }) old (record { batches = mid.batches; journal = mid.journal; view = mid.view; text = text; limited = mid.limited })
 ends_run tells died old mid acked_now begun visible count text c sound acked_is begun_is visible_is numbered within count_is text_is =
     let end : JournalEnd = record { acked = acked_now; segments = begun; died = died } in
@@ -53,15 +52,15 @@ ends_run tells died old mid acked_now begun visible count text c sound acked_is 
       batches = c.batches;
       limited = c.limited;
       lives = c.lives;
-      numbered = subst (IsContiguous FIRST) c.batches numbered;
-      within = omega (arith, within, visible_is, ap (end_after FIRST) c.batches);
-      reply = text_is ∙ ap (λ (t : List ℕ). t ++ end_line visible count end) c.text ∙ ap (λ (n : ℕ). old.text ++ end_line n count end) (visible_is ∙ ap (end_after FIRST) c.batches) ∙ ap (λ (n : ℕ). old.text ++ end_line (end_after FIRST old.batches) n end) count_is;
+      numbered = subst (IsContiguous NUMBER_FIRST) c.batches numbered;
+      within = omega (arith, within, visible_is, ap (end_after NUMBER_FIRST) c.batches);
+      reply = text_is ∙ ap (λ (t : List ℕ). t ++ end_line visible count end) c.text ∙ ap (λ (n : ℕ). old.text ++ end_line n count end) (visible_is ∙ ap (end_after NUMBER_FIRST) c.batches) ∙ ap (λ (n : ℕ). old.text ++ end_line (end_after NUMBER_FIRST old.batches) n end) count_is;
       ended = λ start wal first own r. let e = c.ended sound start wal first own r in (e.0, subst (λ (x : JournalEnd). HasEnded tells start wal first own x mid.view) same e.1);
     }
 
 -- ---- a commit
 
-pub commits_stage : (tells : Bool) (entries : List Entry) (old : Stage) (batches : List Batch) (journal : State) (view : DiskView) (text : List ℕ) (numbered : Batch) (first count : ℕ) → old.journal.dead ≡ None → end_after FIRST old.batches + count_of entries ≤ NUMBER_MAX
+pub commits_stage : (tells : Bool) (entries : List Entry) (old : Stage) (batches : List Batch) (journal : State) (view : DiskView) (text : List ℕ) (numbered : Batch) (first count : ℕ) → old.journal.dead ≡ None → end_after NUMBER_FIRST old.batches + count_of entries ≤ NUMBER_MAX
     → batches ≡ old.batches ++ numbered_behind old.batches entries ∷ [] → numbered ≡ numbered_behind old.batches entries → first ≡ numbered.first → count ≡ count_of numbered.entries → text ≡ old.text ++ commit_line 0 first count
     → Logs numbered old.journal old.view journal view → ((start : DiskView) (wal number : ℕ) (own : List Batch) → Runs tells start wal number own old.journal old.view → Runs tells start wal number (own ++ numbered ∷ []) journal view)
     → Commits tells entries old (record { batches = batches; journal = journal; view = view; text = text; limited = old.limited })
@@ -69,7 +68,7 @@ commits_stage tells entries old batches journal view text numbered first count l
   lives = lives;
   room = room;
   batches = added;
-  reply = text_is ∙ ap (λ (n : ℕ). old.text ++ commit_line 0 n count) (first_is ∙ ap (λ (b : Batch). b.first) is) ∙ ap (λ (n : ℕ). old.text ++ commit_line 0 (end_after FIRST old.batches) n) (count_is ∙ ap (λ (b : Batch). count_of b.entries) is);
+  reply = text_is ∙ ap (λ (n : ℕ). old.text ++ commit_line 0 n count) (first_is ∙ ap (λ (b : Batch). b.first) is) ∙ ap (λ (n : ℕ). old.text ++ commit_line 0 (end_after NUMBER_FIRST old.batches) n) (count_is ∙ ap (λ (b : Batch). count_of b.entries) is);
   limited = refl;
   logs = subst (λ (b : Batch). Logs b old.journal old.view journal view) is logs;
   runs = λ start wal number own r. subst (λ (b : Batch). Runs tells start wal number (own ++ b ∷ []) journal view) is (runs start wal number own r);

@@ -11,7 +11,7 @@ use Rattle.wal_recovery.specs.Recovering.{Recovers, RecoversLenient}
 use Rattle.wal_recovery.specs.Refused.{IsRefused, IsLenientlyRefused}
 use Rattle.wal_recovery.specs.Answers.{IsRefusedBy}
 use Rattle.wal_recovery.proofs.Laws.{recovers_once, recovered_or_refused, lenient_or_refused}
-use Rattle.wal_top.specs.declared.replaying.TheConstants.{LAST_WAL}
+use Rattle.disk_face.specs.declared.names.TheConstants.{WAL_MAX}
 use Rattle.wal_top.specs.declared.script.Act.{Act}
 use Rattle.wal_top.specs.declared.replies.JournalEnd.{JournalEnd}
 use Rattle.wal_top.specs.declared.status.Status.{Status}
@@ -169,19 +169,19 @@ module _ (c : Invocation) where
         subst (λ (a : List Act). IsReplayText b.base a batches end text) (acts_told c.left.before c.left.after acts b.script r.accepts)
         (subst (λ (l : List Batch). IsReplayText l acts batches end text) (recovers_once (directories c.disk.before) r.done.base b.base (r.done.recovers b.tells) b.recovers) r.done.answers)
 
-    done_within : (text : List ℕ) → IsDoneRun c text → (LAST_WAL < b.next) ⊎ (NUMBER_MAX < end_of_script b) → ⊥
+    done_within : (text : List ℕ) → IsDoneRun c text → (WAL_MAX < b.next) ⊎ (NUMBER_MAX < end_of_script b) → ⊥
     done_within text (replayed acts batches end r lives all) (inl past) = omega (arith, past, r.done.logs.within, one_next_wal c.disk.before r.done.logs.wal b.next (r.done.logs.next b.tells) b.next_is)
     done_within text (replayed acts batches end r lives all) (inr past) =
         omega (arith, past, all_numbers b.base b.script.good.acts batches end text (replay_told acts batches end text r) (subst (λ (a : List Act). AllCommitted a batches) (acts_told c.left.before c.left.after acts b.script r.accepts) all))
     done_within text (recovered s) past = not_recover c.words b.words s.words
     done_within text (dumped s) past = not_dump c.words b.words s.words
 
-    limited_past : (text : List ℕ) → IsLimited c text → b.next ≤ LAST_WAL → end_of_script b ≤ NUMBER_MAX → ⊥
+    limited_past : (text : List ℕ) → IsLimited c text → b.next ≤ WAL_MAX → end_of_script b ≤ NUMBER_MAX → ⊥
     limited_past text (of_numbers acts batches end r lives lacks) within room =
         none_lacks b.base b.script.good.acts batches end text lives (replay_told acts batches end text r) room (subst (λ (a : List Act). LacksBatch a batches) (acts_told c.left.before c.left.after acts b.script r.accepts) lacks)
     limited_past text (of_wals l) within room = omega (arith, l.past, within, one_next_wal c.disk.before l.next b.next (l.next_is b.tells) b.next_is)
 
-    limited_is : (said : Status) (text : List ℕ) → HasToSay c said text → (LAST_WAL < b.next) ⊎ (NUMBER_MAX < end_of_script b) → HasCalmSource c → HasCalmDisk c → said ≡ Limit
+    limited_is : (said : Status) (text : List ℕ) → HasToSay c said text → (WAL_MAX < b.next) ⊎ (NUMBER_MAX < end_of_script b) → HasCalmSource c → HasCalmDisk c → said ≡ Limit
     limited_is Done text h past calm calm_disk = absurd (done_within text h past)
     limited_is Usage text h past calm calm_disk = absurd (h.0 (inl b.words))
     limited_is Script text h past calm calm_disk = absurd (not_refused c.left text b.script h.1)
@@ -192,7 +192,7 @@ module _ (c : Invocation) where
     limited_is NoMemory text h past calm calm_disk = absurd h
     limited_is Limit text h past calm calm_disk = refl
 
-    replays_is : (said : Status) (text : List ℕ) → HasToSay c said text → b.next ≤ LAST_WAL → end_of_script b ≤ NUMBER_MAX → HasCalmSource c → HasCalmDisk c → said ≡ Done
+    replays_is : (said : Status) (text : List ℕ) → HasToSay c said text → b.next ≤ WAL_MAX → end_of_script b ≤ NUMBER_MAX → HasCalmSource c → HasCalmDisk c → said ≡ Done
     replays_is Done text h within room calm calm_disk = refl
     replays_is Usage text h within room calm calm_disk = absurd (h.0 (inl b.words))
     replays_is Script text h within room calm calm_disk = absurd (not_refused c.left text b.script h.1)

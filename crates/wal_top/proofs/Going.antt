@@ -5,7 +5,7 @@ use Rattle.std.specs.List.{filter_map}
 use Rattle.std.proofs.lemmas.List.{append-nil, length-append, take_at, take_all, map-append}
 use Rattle.wal_base.specs.declared.entry.Entry.{Entry}
 use Rattle.batch_repr.specs.declared.batch.Batch.{Batch}
-use Rattle.batch_repr.specs.declared.limits.TheConstants.{NUMBER_MAX}
+use Rattle.batch_repr.specs.declared.limits.TheConstants.{NUMBER_FIRST, NUMBER_MAX}
 use Rattle.batch_repr.specs.Batches.{count_of, IsContiguous, end_after, answer}
 use Rattle.disk_face.specs.View.{DiskView}
 use Rattle.failover_writer.specs.declared.fault.DeadMark.{DeadMark}
@@ -15,7 +15,7 @@ use Rattle.wal_top.specs.declared.script.Act.TheVariants.{Commit, Get}
 use Rattle.wal_top.specs.declared.replies.JournalEnd.{JournalEnd}
 use Rattle.wal_top.specs.declared.status.Status.{Status}
 use Rattle.wal_top.specs.Printing.{commit_line, limit_line, dead_line, get_line, end_line}
-use Rattle.wal_top.specs.Replay.{FIRST, committed, visible_after, Answers, numbered, limited, dead, read, StaysDead, AnswersAll, LacksBatch}
+use Rattle.wal_top.specs.Replay.{committed, visible_after, Answers, numbered, limited, dead, read, StaysDead, AnswersAll, LacksBatch}
 use Rattle.wal_top.specs.Journaling.{Runs}
 use Rattle.wal_top.specs.Doing.{numbered_behind, Stage, Commits, OnlyReplies, DoesCommit, commits, past, died, DoesGet, DoesAct, DoesAll, DoesRun, IsShort, EndsRun, IsBegun, ReplaysOver, status_after}
 use Rattle.wal_top.specs.Doing as doing
@@ -67,8 +67,8 @@ died_now state has_died = go state.dead has_died
 
 -- ---- what stands behind some batches does not change what they show
 
-visible_front : (batches more : List Batch) → visible_after (batches ++ more) (length batches) ≡ end_after FIRST batches
-visible_front batches more = ap (end_after FIRST) (take_at batches more (length batches) refl)
+visible_front : (batches more : List Batch) → visible_after (batches ++ more) (length batches) ≡ end_after NUMBER_FIRST batches
+visible_front batches more = ap (end_after NUMBER_FIRST) (take_at batches more (length batches) refl)
 
 answer_front : (batches more : List Batch) (key : List ℕ) → answer (batches ++ more) (length batches) key ≡ answer batches (length batches) key
 unfolding answer
@@ -87,7 +87,7 @@ pub record GoesOn (tells : Bool) (base : List Batch) (start : DiskView) (wal : �
   pub acts_are : acts ≡ front ++ rest
   pub own : List Batch
   pub store_is : stage.batches ≡ base ++ own
-  pub runs : Runs tells start wal (end_after FIRST base) own stage.journal stage.view
+  pub runs : Runs tells start wal (end_after NUMBER_FIRST base) own stage.journal stage.view
   pub answered : (more : List Batch) → AnswersAll (stage.batches ++ more) false (is_dead stage.journal) (length base) front (length stage.batches) stage.text
   pub short : stage.journal.dead ≡ None → IsShort stage.limited front own
 
@@ -150,13 +150,13 @@ module _ (tells : Bool) (base : List Batch) (start : DiskView) (wal : ℕ) (acts
         acts_are = acts_split;
         own = g.own ++ batch ∷ [];
         store_is = c.batches ∙ ap (λ (l : List Batch). l ++ batch ∷ []) g.store_is ∙ append_assoc base g.own (batch ∷ []);
-        runs = c.runs start wal (end_after FIRST base) g.own g.runs;
+        runs = c.runs start wal (end_after NUMBER_FIRST base) g.own g.runs;
         answered = λ more. subst (λ (l : List ℕ). AnswersAll (new.batches ++ more) false (is_dead new.journal) (length base) (g.front ++ act ∷ []) (length new.batches) l) (sym c.reply)
-            (subst (λ (k : ℕ). AnswersAll (new.batches ++ more) false (is_dead new.journal) (length base) (g.front ++ act ∷ []) k (old.text ++ commit_line 0 (end_after FIRST old.batches) (count_of entries))) (sym (ap length c.batches ∙ length-append old.batches (batch ∷ [])))
-            (subst (λ (store : List Batch). AnswersAll store false (is_dead new.journal) (length base) (g.front ++ act ∷ []) (length old.batches + 1) (old.text ++ commit_line 0 (end_after FIRST old.batches) (count_of entries))) (sym (whole more))
-            (answers_push (old.batches ++ batch ∷ more) false (is_dead old.journal) false (is_dead new.journal) (length base) g.front act (length old.batches) (length old.batches + 1) old.text (commit_line 0 (end_after FIRST old.batches) (count_of entries)) (g.answered (batch ∷ more))
+            (subst (λ (k : ℕ). AnswersAll (new.batches ++ more) false (is_dead new.journal) (length base) (g.front ++ act ∷ []) k (old.text ++ commit_line 0 (end_after NUMBER_FIRST old.batches) (count_of entries))) (sym (ap length c.batches ∙ length-append old.batches (batch ∷ [])))
+            (subst (λ (store : List Batch). AnswersAll store false (is_dead new.journal) (length base) (g.front ++ act ∷ []) (length old.batches + 1) (old.text ++ commit_line 0 (end_after NUMBER_FIRST old.batches) (count_of entries))) (sym (whole more))
+            (answers_push (old.batches ++ batch ∷ more) false (is_dead old.journal) false (is_dead new.journal) (length base) g.front act (length old.batches) (length old.batches + 1) old.text (commit_line 0 (end_after NUMBER_FIRST old.batches) (count_of entries)) (g.answered (batch ∷ more))
             (λ was. sym (lives_now old.journal c.lives) ∙ was)
-            (subst (λ (a : Act). Answers (old.batches ++ batch ∷ more) false (length old.batches) a (length old.batches + 1) (commit_line 0 (end_after FIRST old.batches) (count_of entries))) (sym is) (numbered batch refl (get_behind old.batches more batch)))
+            (subst (λ (a : Act). Answers (old.batches ++ batch ∷ more) false (length old.batches) a (length old.batches + 1) (commit_line 0 (end_after NUMBER_FIRST old.batches) (count_of entries))) (sym is) (numbered batch refl (get_behind old.batches more batch)))
             (λ d. absurd cc))));
         short = λ lives. subst (λ (b : Bool). IsShort b (g.front ++ act ∷ []) (g.own ++ batch ∷ [])) (sym c.limited)
             (subst (λ (a : Act). IsShort old.limited (g.front ++ a ∷ []) (g.own ++ batch ∷ [])) (sym is) (one_more g.front entries g.own batch refl old.limited (g.short c.lives)));
@@ -173,7 +173,7 @@ module _ (tells : Bool) (base : List Batch) (start : DiskView) (wal : ℕ) (acts
     acts_are = acts_split;
     own = g.own;
     store_is = o.batches ∙ g.store_is;
-    runs = subst (λ (s : State). Runs tells start wal (end_after FIRST base) g.own s new.view) (sym o.journal) (subst (λ (v : DiskView). Runs tells start wal (end_after FIRST base) g.own old.journal v) (sym o.view) g.runs);
+    runs = subst (λ (s : State). Runs tells start wal (end_after NUMBER_FIRST base) g.own s new.view) (sym o.journal) (subst (λ (v : DiskView). Runs tells start wal (end_after NUMBER_FIRST base) g.own old.journal v) (sym o.view) g.runs);
     answered = λ more.
         subst (λ (l : List ℕ). AnswersAll (new.batches ++ more) false (is_dead new.journal) (length base) (g.front ++ act ∷ []) (length new.batches) l) (sym o.reply)
         (subst (λ (bs : List Batch). AnswersAll (bs ++ more) false (is_dead new.journal) (length base) (g.front ++ act ∷ []) (length bs) (old.text ++ line)) (sym o.batches)
@@ -182,7 +182,7 @@ module _ (tells : Bool) (base : List Batch) (start : DiskView) (wal : ℕ) (acts
     short = λ lives. subst (λ (b : Bool). IsShort b (g.front ++ act ∷ []) g.own) (sym o.limited_is) (short (sym (ap (λ (s : State). s.dead) o.journal) ∙ lives));
   }
 
-  limit_goes : (entries : List Entry) → act ≡ Commit entries → old.journal.dead ≡ None → NUMBER_MAX < end_after FIRST old.batches + count_of entries → OnlyReplies (limit_line 0) true old new → GoesOn tells base start wal acts new rest
+  limit_goes : (entries : List Entry) → act ≡ Commit entries → old.journal.dead ≡ None → NUMBER_MAX < end_after NUMBER_FIRST old.batches + count_of entries → OnlyReplies (limit_line 0) true old new → GoesOn tells base start wal acts new rest
   limit_goes entries is lives beyond o =
       reply_goes (limit_line 0) true
       (λ more. subst (λ (a : Act). Answers (old.batches ++ more) (is_dead old.journal) (length old.batches) a (length old.batches) (limit_line 0)) (sym is) (limited entries (lives_now old.journal lives) (omega (arith, beyond, visible_front old.batches more)))) o
@@ -196,8 +196,8 @@ module _ (tells : Bool) (base : List Batch) (start : DiskView) (wal : ℕ) (acts
 
   read_goes : (key : List ℕ) → act ≡ Get key → DoesGet key old new → GoesOn tells base start wal acts new rest
   read_goes key is o =
-      reply_goes (get_line 0 key (answer old.batches (length old.batches) key) (end_after FIRST old.batches)) old.limited
-      (λ more. subst (λ (a : Act). Answers (old.batches ++ more) (is_dead old.journal) (length old.batches) a (length old.batches) (get_line 0 key (answer old.batches (length old.batches) key) (end_after FIRST old.batches))) (sym is)
+      reply_goes (get_line 0 key (answer old.batches (length old.batches) key) (end_after NUMBER_FIRST old.batches)) old.limited
+      (λ more. subst (λ (a : Act). Answers (old.batches ++ more) (is_dead old.journal) (length old.batches) a (length old.batches) (get_line 0 key (answer old.batches (length old.batches) key) (end_after NUMBER_FIRST old.batches))) (sym is)
       (subst (λ (n : ℕ). Answers (old.batches ++ more) (is_dead old.journal) (length old.batches) (Get key) (length old.batches) (get_line 0 key (answer old.batches (length old.batches) key) n)) (visible_front old.batches more)
       (subst (λ (v : Option (List ℕ)). Answers (old.batches ++ more) (is_dead old.journal) (length old.batches) (Get key) (length old.batches) (get_line 0 key v (visible_after (old.batches ++ more) (length old.batches)))) (answer_front old.batches more key) (read key)))) o
       (λ still. subst (λ (a : Act). IsShort old.limited (g.front ++ a ∷ []) g.own) (sym is) (none_more g.front (Get key) g.own refl old.limited (g.short still)))
@@ -252,21 +252,21 @@ pub has_gone : (tells : Bool) (base : List Batch) (start : DiskView) (wal : ℕ)
 has_gone tells base start wal acts stage new rest end status g none e status_is =
     let all : acts ≡ g.front = g.acts_are ∙ ap (λ (l : List Act). g.front ++ l) none ∙ append-nil g.front in
     let is : stage.batches ≡ base ++ g.own = g.store_is in
-    let ended = e.ended start wal (end_after FIRST base) g.own g.runs in
+    let ended = e.ended start wal (end_after NUMBER_FIRST base) g.own g.runs in
     record {
       batches = g.own;
       end = end;
       limited = stage.limited;
       status_is = status_is ∙ ap (status_after end.died) e.limited;
       answers = record {
-        numbered = subst (IsContiguous FIRST) is e.numbered;
-        within = subst (λ (bs : List Batch). end_after FIRST bs ≤ NUMBER_MAX) is e.within;
+        numbered = subst (IsContiguous NUMBER_FIRST) is e.numbered;
+        within = subst (λ (bs : List Batch). end_after NUMBER_FIRST bs ≤ NUMBER_MAX) is e.within;
         lines = stage.text;
         answers = subst (λ (bs : List Batch). AnswersAll bs false end.died (length base) acts (length bs) stage.text) is
             (subst (λ (l : List Act). AnswersAll stage.batches false end.died (length base) l (length stage.batches) stage.text) (sym all)
             (answers_later stage.batches false (is_dead stage.journal) end.died (length base) g.front (length stage.batches) stage.text
             (subst (λ (bs : List Batch). AnswersAll bs false (is_dead stage.journal) (length base) g.front (length stage.batches) stage.text) (append-nil stage.batches) (g.answered [])) (by_end end.died refl)));
-        text_is = e.reply ∙ ap (λ (bs : List Batch). stage.text ++ end_line (end_after FIRST bs) (len new.journal) end) is ∙ ap (λ (n : ℕ). stage.text ++ end_line (end_after FIRST (base ++ g.own)) n end) ended.0;
+        text_is = e.reply ∙ ap (λ (bs : List Batch). stage.text ++ end_line (end_after NUMBER_FIRST bs) (len new.journal) end) is ∙ ap (λ (n : ℕ). stage.text ++ end_line (end_after NUMBER_FIRST (base ++ g.own)) n end) ended.0;
       };
       short = λ lives. subst (λ (l : List Act). IsShort stage.limited l g.own) (sym all) (g.short (e.lives lives));
       ended = ended.1;

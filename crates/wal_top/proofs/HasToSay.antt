@@ -1,4 +1,5 @@
 -- What a run has to say of directories that were not recovered, of a replay over those that were, and of what is shown of them.
+use Rattle.batch_repr.specs.declared.limits.TheConstants.{NUMBER_FIRST}
 use Rattle.std.proofs.Common.{◌≡◌, ℕ, Bool, true, false, List, ◌++◌, length, IsTrue, refl, sym, ap, ◌∙◌, subst}
 use Rattle.batch_repr.specs.declared.batch.Batch.{Batch}
 use Rattle.disk_face.specs.View.{DiskView, files, NothingInFlight}
@@ -22,7 +23,6 @@ use Rattle.wal_top.specs.Call.{Invocation, Stays}
 use Rattle.wal_top.specs.Words.{IsReplay, IsRecover, IsDump, RecoversIn}
 use Rattle.wal_top.specs.Printing.{refusal_text, segments_text}
 use Rattle.wal_top.specs.Reading.{ReadsScript}
-use Rattle.wal_top.specs.Replay.{FIRST}
 use Rattle.wal_top.specs.Log.{directories}
 use Rattle.wal_top.specs.Faults.{SaysFault}
 use Rattle.wal_top.specs.Doing.{IsShort, status_after, ReplaysOver}
@@ -61,7 +61,7 @@ says_replayed c acts base wal mid status text is reads r replays_acts = as_statu
     by false e false l = replayed acts r.batches r.end all e (subst (λ (b : Bool). IsShort b acts r.batches) l (r.short e))
 
 -- the store and the segments, as recovery answers them and as they are printed
-module _ (c : Invocation) (batches' : List Batch) (next : ℕ) (text : List ℕ) (ends : next ≡ end_after FIRST batches') (unread' : Stays c.left) where
+module _ (c : Invocation) (batches' : List Batch) (next : ℕ) (text : List ℕ) (ends : next ≡ end_after NUMBER_FIRST batches') (unread' : Stays c.left) where
   pub says_store : (shown : List Batch) → shown ≡ batches' → IsRecover c.words → (IsTrue c.tells → Recovers (directories c.disk.before) batches') → (IsTrue c.tells → OnlySynced (files c.disk.before) (files c.disk.after))
       → (IsTrue c.tells → IsRested (files c.disk.before) → AreSegmentsStable (files c.disk.after)) → (lines : List ℕ) × IsStoreText shown lines × (text ≡ lines ++ recovered_end (length shown) next) → HasToSay c Done text
   says_store shown is words' recovers' only rested (lines, is_store, printed) = recovered (record {

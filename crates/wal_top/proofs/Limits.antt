@@ -2,13 +2,9 @@
 use Rattle.std.proofs.Common.{◌≡◌, refl}
 use Rattle.wal_top.specs.declared.reading.TheConstants.{SCRIPT_MAX}
 use Rattle.wal_top.specs.declared.replay.TheConstants.{THRESHOLD}
-use Rattle.wal_top.specs.declared.replaying.TheConstants.{LAST_WAL}
 
 pub threshold : THRESHOLD ≡ 3
 threshold = refl
-
-pub last_wal : LAST_WAL ≡ 999999999999
-last_wal = refl
 
 script_max : SCRIPT_MAX ≡ 8388608
 script_max = refl

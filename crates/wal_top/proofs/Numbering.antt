@@ -2,9 +2,8 @@
 use Rattle.std.proofs.Common.{◌≡◌, ℕ, ◌+◌, ◌<◌, ◌≤◌, List, [], ◌∷◌, ◌++◌, refl, sym, ap, ◌∙◌, subst, arith}
 use Rattle.wal_base.specs.declared.entry.Entry.{Entry}
 use Rattle.batch_repr.specs.declared.batch.Batch.{Batch}
-use Rattle.batch_repr.specs.declared.limits.TheConstants.{NUMBER_MAX}
+use Rattle.batch_repr.specs.declared.limits.TheConstants.{NUMBER_FIRST, NUMBER_MAX}
 use Rattle.batch_repr.specs.Batches.{count_of, end_of, IsContiguous, end_after}
-use Rattle.wal_top.specs.Replay.{FIRST}
 use Rattle.wal_top.specs.Kept.{IsKept}
 
 pub end_after-append : (from : ℕ) (xs ys : List Batch) → end_after from (xs ++ ys) ≡ end_after (end_after from xs) ys
@@ -25,8 +24,8 @@ kept_more : (batches batches' : List Batch) (next next' : ℕ) (batch : Batch) �
     → next' ≡ end_of batch → next' ≤ NUMBER_MAX → IsKept batches' next'
 kept_more batches batches' next next' batch kept e first some end small =
     subst (λ (bs : List Batch). IsKept bs next') (sym e) (record {
-      numbered = IsContiguous-push FIRST batches batch kept.numbered (first ∙ kept.next_is) some;
-      next_is = end ∙ sym (end_after-push FIRST batches batch);
+      numbered = IsContiguous-push NUMBER_FIRST batches batch kept.numbered (first ∙ kept.next_is) some;
+      next_is = end ∙ sym (end_after-push NUMBER_FIRST batches batch);
       small = small;
     })
 
@@ -41,7 +40,7 @@ kept_committed batches batches' next next' first count entries given numbered ke
     kept_more batches batches' next next' (record { first = first; entries = given }) kept e same_first (omega arith) end_given small
 
 -- the number behind a batch that was numbered behind the others
-pub next_behind : (n m : ℕ) (history more : List Batch) (numbered : Batch) (entries : List Entry) → n ≡ m → m ≡ end_of numbered → numbered ≡ record { first = end_after FIRST history; entries = entries }
-    → more ≡ history ++ record { first = end_after FIRST history; entries = entries } ∷ [] → n ≡ end_after FIRST more
+pub next_behind : (n m : ℕ) (history more : List Batch) (numbered : Batch) (entries : List Entry) → n ≡ m → m ≡ end_of numbered → numbered ≡ record { first = end_after NUMBER_FIRST history; entries = entries }
+    → more ≡ history ++ record { first = end_after NUMBER_FIRST history; entries = entries } ∷ [] → n ≡ end_after NUMBER_FIRST more
 next_behind n m history more numbered entries a b is added =
-    a ∙ b ∙ ap end_of is ∙ sym (end_after-push FIRST history (record { first = end_after FIRST history; entries = entries })) ∙ ap (end_after FIRST) (sym added)
+    a ∙ b ∙ ap end_of is ∙ sym (end_after-push NUMBER_FIRST history (record { first = end_after NUMBER_FIRST history; entries = entries })) ∙ ap (end_after NUMBER_FIRST) (sym added)

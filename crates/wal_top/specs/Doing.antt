@@ -2,7 +2,7 @@
 use Rattle.std.specs.Prelude.{◌≡◌, ◌≢◌, ℕ, ◌+◌, ◌<◌, ◌≤◌, Bool, true, false, MatchBool, List, [], ◌∷◌, ◌++◌, length, None, Result, Err}
 use Rattle.wal_base.specs.declared.entry.Entry.{Entry}
 use Rattle.batch_repr.specs.declared.batch.Batch.{Batch}
-use Rattle.batch_repr.specs.declared.limits.TheConstants.{NUMBER_MAX}
+use Rattle.batch_repr.specs.declared.limits.TheConstants.{NUMBER_FIRST, NUMBER_MAX}
 use Rattle.batch_repr.specs.Batches.{count_of, end_after, IsContiguous, answer}
 use Rattle.disk_face.specs.View.{DiskView}
 use Rattle.failover_writer.specs.declared.fault.JournalFault.{JournalFault}
@@ -18,12 +18,12 @@ use Rattle.wal_top.specs.declared.replies.JournalEnd.{JournalEnd}
 use Rattle.wal_top.specs.declared.status.Status.{Status}
 use Rattle.wal_top.specs.declared.status.Status.TheVariants.{Done, Disk, Limit}
 use Rattle.wal_top.specs.Printing.{commit_line, limit_line, dead_line, get_line, end_line}
-use Rattle.wal_top.specs.Replay.{FIRST, IsReplayText, AllCommitted, LacksBatch}
+use Rattle.wal_top.specs.Replay.{IsReplayText, AllCommitted, LacksBatch}
 use Rattle.wal_top.specs.Journaling.{Runs, HasEnded}
 
 -- the batch of these entries, numbered behind the others
 abbrev pub numbered_behind : List Batch → List Entry → Batch
-numbered_behind batches entries = record { first = end_after FIRST batches; entries = entries }
+numbered_behind batches entries = record { first = end_after NUMBER_FIRST batches; entries = entries }
 
 -- a replay in its course: the batches of the store, the journal with its disk, the text of the answers, and whether a commit reached the limit
 pub record InCourse (Disk : Type 0) : Type 0 where
@@ -55,9 +55,9 @@ pub record Logs (batch : Batch) (old : State) (before : DiskView) (new : State) 
 -- A commit adds its batch behind the old ones and to the journal, and its reply behind the old text.
 pub record Commits (tells : Bool) (entries : List Entry) (old new : Stage) : Type 0 where
   pub lives : old.journal.dead ≡ None
-  pub room : end_after FIRST old.batches + count_of entries ≤ NUMBER_MAX
+  pub room : end_after NUMBER_FIRST old.batches + count_of entries ≤ NUMBER_MAX
   pub batches : new.batches ≡ old.batches ++ numbered_behind old.batches entries ∷ []
-  pub reply : new.text ≡ old.text ++ commit_line 0 (end_after FIRST old.batches) (count_of entries)
+  pub reply : new.text ≡ old.text ++ commit_line 0 (end_after NUMBER_FIRST old.batches) (count_of entries)
   pub limited : new.limited ≡ old.limited
   pub logs : Logs (numbered_behind old.batches entries) old.journal old.view new.journal new.view
   pub runs : (start : DiskView) (wal first : ℕ) (own : List Batch) → Runs tells start wal first own old.journal old.view
@@ -74,12 +74,12 @@ pub record OnlyReplies (line : List ℕ) (limited : Bool) (old new : Stage) : Ty
 -- What a commit does: it adds its batch, reaches the limit, or finds a journal that has died.
 pub data DoesCommit (tells : Bool) (entries : List Entry) (old new : Stage) : Type 0 where
   commits : Commits tells entries old new → DoesCommit tells entries old new
-  past : old.journal.dead ≡ None → NUMBER_MAX < end_after FIRST old.batches + count_of entries → OnlyReplies (limit_line 0) true old new → DoesCommit tells entries old new
+  past : old.journal.dead ≡ None → NUMBER_MAX < end_after NUMBER_FIRST old.batches + count_of entries → OnlyReplies (limit_line 0) true old new → DoesCommit tells entries old new
   died : old.journal.dead ≢ None → OnlyReplies (dead_line 0) old.limited old new → DoesCommit tells entries old new
 
 -- A read is answered.
 abbrev pub DoesGet : List ℕ → Stage → Stage → Type 0
-DoesGet key old new = OnlyReplies (get_line 0 key (answer old.batches (length old.batches) key) (end_after FIRST old.batches)) old.limited old new
+DoesGet key old new = OnlyReplies (get_line 0 key (answer old.batches (length old.batches) key) (end_after NUMBER_FIRST old.batches)) old.limited old new
 
 abbrev pub DoesAct : Bool → Act → Stage → Stage → Type 0
 DoesAct tells (Commit entries) old new = DoesCommit tells entries old new
@@ -103,9 +103,9 @@ pub record EndsRun (tells : Bool) (end : JournalEnd) (old new : Stage) : Type 0 
   pub batches : new.batches ≡ old.batches
   pub limited : new.limited ≡ old.limited
   pub lives : end.died ≡ false → old.journal.dead ≡ None
-  pub numbered : IsContiguous FIRST old.batches
-  pub within : end_after FIRST old.batches ≤ NUMBER_MAX
-  pub reply : new.text ≡ old.text ++ end_line (end_after FIRST old.batches) (len new.journal) end
+  pub numbered : IsContiguous NUMBER_FIRST old.batches
+  pub within : end_after NUMBER_FIRST old.batches ≤ NUMBER_MAX
+  pub reply : new.text ≡ old.text ++ end_line (end_after NUMBER_FIRST old.batches) (len new.journal) end
   pub ended : (start : DiskView) (wal first : ℕ) (own : List Batch) → Runs tells start wal first own old.journal old.view → (len new.journal ≡ length own) × HasEnded tells start wal first own end new.view
 
 -- The acts were done one after another.
@@ -132,7 +132,7 @@ pub record IsBegun (tells : Bool) (base : List Batch) (start : DiskView) (wal : 
   pub text : stage.text ≡ []
   pub limited : stage.limited ≡ false
   pub unasked : stage.journal.want ≡ 0
-  pub runs : Runs tells start wal (end_after FIRST base) [] stage.journal stage.view
+  pub runs : Runs tells start wal (end_after NUMBER_FIRST base) [] stage.journal stage.view
 
 -- What a replay of the acts over the base comes to on a disk: its text, how its journal ended, and what that leaves.
 pub record ReplaysOver (base : List Batch) (acts : List Act) (wal : ℕ) (tells : Bool) (old new : DiskView) (status : Status) (text : List ℕ) : Type 0 where
@@ -142,4 +142,4 @@ pub record ReplaysOver (base : List Batch) (acts : List Act) (wal : ℕ) (tells 
   pub status_is : status ≡ status_after end.died limited
   pub answers : IsReplayText base acts batches end text
   pub short : end.died ≡ false → IsShort limited acts batches
-  pub ended : HasEnded tells old wal (end_after FIRST base) batches end new
+  pub ended : HasEnded tells old wal (end_after NUMBER_FIRST base) batches end new

@@ -13,7 +13,7 @@ use Rattle.failover_writer.specs.State.{State, acked}
 use Rattle.failover_writer.specs.Ranges.{StandsFor}
 use Rattle.failover_writer.specs.Keeping.{IsElsewhere, RecoversTo, RecoversWith}
 use Rattle.wal_top.specs.declared.replay.TheConstants.{THRESHOLD}
-use Rattle.wal_top.specs.declared.replaying.TheConstants.{LAST_WAL}
+use Rattle.disk_face.specs.declared.names.TheConstants.{WAL_MAX}
 use Rattle.wal_top.specs.declared.replies.JournalEnd.{JournalEnd}
 
 -- the directories, as the disk reads them
@@ -61,7 +61,7 @@ pub record EndsOf (tells : Bool) (wal first : ℕ) (batches : List Batch) (end :
 -- followed by the first of the batches, with all that are acked; and so do the directories as they read, where no fault rose.
 pub record LogsBatches (tells : Bool) (base batches : List Batch) (acked : ℕ) (old new : DiskView) : Type 0 where
   pub wal : ℕ
-  pub within : wal ≤ LAST_WAL
+  pub within : wal ≤ WAL_MAX
   pub next : IsTrue tells → IsNextWal (directories old) wal
   pub others : IsTrue tells → OthersOnlySynced wal (files old) (files new)
   pub nothing : IsTrue tells → batches ≡ [] → OnlySynced (files old) (files new)

@@ -1,4 +1,5 @@
 -- What a run has to say, by its status (docs/FORMATS.md, "Statuses").
+use Rattle.batch_repr.specs.declared.limits.TheConstants.{NUMBER_FIRST}
 use Rattle.std.specs.Prelude.{◌≡◌, ℕ, ◌<◌, Bool, false, IsTrue, List, ◌++◌, length, Option}
 use Rattle.wal_base.specs.Faults.{Rose}
 use Rattle.batch_repr.specs.declared.batch.Batch.{Batch}
@@ -21,11 +22,11 @@ use Rattle.wal_top.specs.declared.status.Status.{Status}
 use Rattle.wal_top.specs.declared.status.Status.TheVariants.{Done, Usage, Script, Read, Write, Disk, Refused, NoMemory, Limit}
 use Rattle.wal_top.specs.declared.script.Act.{Act}
 use Rattle.wal_top.specs.declared.replies.JournalEnd.{JournalEnd}
-use Rattle.wal_top.specs.declared.replaying.TheConstants.{LAST_WAL}
+use Rattle.disk_face.specs.declared.names.TheConstants.{WAL_MAX}
 use Rattle.wal_top.specs.Call.{Change, Invocation, Stays, Rises}
 use Rattle.wal_top.specs.Words.{IsCommand, IsReplay, IsRecover, IsDump, RecoversIn, ReadsSource}
 use Rattle.wal_top.specs.Printing.{usage_text, read_fault_text, too_long_text, bad_line_text, disk_fault_text, refusal_text, limit_wal_text, segments_text}
-use Rattle.wal_top.specs.Replay.{FIRST, IsReplayText, AllCommitted, LacksBatch}
+use Rattle.wal_top.specs.Replay.{IsReplayText, AllCommitted, LacksBatch}
 use Rattle.wal_top.specs.Log.{directories, EndsAs, EndsOf, LogsBatches}
 use Rattle.wal_top.specs.Reading.{ReadsScript, ReadsTooMuch, ReadsBadLine}
 
@@ -50,7 +51,7 @@ pub record ReplaysActs (acts : List Act) (tells : Bool) (old new : DiskView) (ba
   pub ends : EndsAs (length batches) end old new
   pub wal : ℕ
   pub next : IsTrue tells → IsNextWal (directories old) wal
-  pub of : EndsOf tells wal (end_after FIRST base) batches end new
+  pub of : EndsOf tells wal (end_after NUMBER_FIRST base) batches end new
   pub logs : LogsBatches tells base batches end.acked old new
 
 -- The accepted script of the source was replayed so.
@@ -68,7 +69,7 @@ pub record LacksWal (c : Invocation) (text : List ℕ) : Type 0 where
   pub recovers : IsTrue c.tells → Recovers (directories c.disk.before) base
   pub next : ℕ
   pub next_is : IsTrue c.tells → IsNextWal (directories c.disk.before) next
-  pub past : LAST_WAL < next
+  pub past : WAL_MAX < next
   pub only_synced : IsTrue c.tells → OnlySynced (files c.disk.before) (files c.disk.after)
   pub idle : NothingInFlight c.disk.after
   pub text_is : text ≡ limit_wal_text
@@ -81,7 +82,7 @@ pub record ShowsStore (c : Invocation) (text : List ℕ) : Type 0 where
   pub recovers : IsTrue c.tells → Recovers (directories c.disk.before) batches
   pub store : List ℕ
   pub store_is : IsStoreText batches store
-  pub text_is : text ≡ store ++ recovered_end (length batches) (end_after FIRST batches)
+  pub text_is : text ≡ store ++ recovered_end (length batches) (end_after NUMBER_FIRST batches)
   pub only_synced : IsTrue c.tells → OnlySynced (files c.disk.before) (files c.disk.after)
   pub stable : IsTrue c.tells → IsRested (files c.disk.before) → AreSegmentsStable (files c.disk.after)
 
@@ -93,7 +94,7 @@ pub record ShowsSegments (c : Invocation) (text : List ℕ) : Type 0 where
   pub recovers : IsTrue c.tells → RecoversLenient (directories c.disk.before) batches
   pub reports : List SegReport
   pub reports_are : IsTrue c.tells → AreReports (directories c.disk.before) reports
-  pub text_is : text ≡ segments_text reports ++ recovered_end (length batches) (end_after FIRST batches)
+  pub text_is : text ≡ segments_text reports ++ recovered_end (length batches) (end_after NUMBER_FIRST batches)
   pub same : SameDisk c.disk.before c.disk.after
 
 -- ---- what a status says

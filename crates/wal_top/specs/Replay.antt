@@ -3,16 +3,12 @@ use Rattle.std.specs.Prelude.{◌≡◌, ℕ, ◌+◌, ◌<◌, ◌≤◌, Bool,
 use Rattle.std.specs.List.{filter_map}
 use Rattle.wal_base.specs.declared.entry.Entry.{Entry}
 use Rattle.batch_repr.specs.declared.batch.Batch.{Batch}
-use Rattle.batch_repr.specs.declared.limits.TheConstants.{NUMBER_MAX}
+use Rattle.batch_repr.specs.declared.limits.TheConstants.{NUMBER_FIRST, NUMBER_MAX}
 use Rattle.batch_repr.specs.Batches.{count_of, IsContiguous, end_after, answer}
 use Rattle.wal_top.specs.declared.script.Act.{Act}
 use Rattle.wal_top.specs.declared.script.Act.TheVariants.{Commit, Get}
 use Rattle.wal_top.specs.declared.replies.JournalEnd.{JournalEnd}
 use Rattle.wal_top.specs.Printing.{commit_line, limit_line, dead_line, get_line, end_line}
-
--- the first number ever given
-abbrev pub FIRST : ℕ
-FIRST = 10
 
 -- the entries that an act commits
 abbrev pub committed : Act → Option (List Entry)
@@ -26,7 +22,7 @@ numbers_taken (Get key) = 0
 
 -- the number that is visible after the first n batches
 abbrev pub visible_after : List Batch → ℕ → ℕ
-visible_after store n = end_after FIRST (take n store)
+visible_after store n = end_after NUMBER_FIRST (take n store)
 
 -- How an act is answered behind the first n batches of the store, and how many batches then stand. Where the journal is dead, a
 -- commit is told so; else it is the next batch, or would end past the numbers. A read answers after those n.
@@ -50,11 +46,11 @@ AnswersAll store was_dead died n (act ∷ acts) end lines =
 -- The text answers the acts over a store that begins with the base, adds these batches to it, and then says how the run and its
 -- journal ended.
 pub record IsReplayText (base : List Batch) (acts : List Act) (batches : List Batch) (end : JournalEnd) (text : List ℕ) : Type 0 where
-  pub numbered : IsContiguous FIRST (base ++ batches)
-  pub within : end_after FIRST (base ++ batches) ≤ NUMBER_MAX
+  pub numbered : IsContiguous NUMBER_FIRST (base ++ batches)
+  pub within : end_after NUMBER_FIRST (base ++ batches) ≤ NUMBER_MAX
   pub lines : List ℕ
   pub answers : AnswersAll (base ++ batches) false end.died (length base) acts (length (base ++ batches)) lines
-  pub text_is : text ≡ lines ++ end_line (end_after FIRST (base ++ batches)) (length batches) end
+  pub text_is : text ≡ lines ++ end_line (end_after NUMBER_FIRST (base ++ batches)) (length batches) end
 
 -- Each commit has its batch.
 abbrev pub AllCommitted : List Act → List Batch → Type 0

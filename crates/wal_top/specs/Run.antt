@@ -2,7 +2,7 @@
 use Rattle.std.specs.Prelude.{◌≡◌, ◌⊎◌, ℕ, ◌+◌, ◌<◌, ◌≤◌, Bool, IsTrue, List, ◌++◌, Option, sum_by}
 use Rattle.wal_base.specs.Told.{told_back}
 use Rattle.batch_repr.specs.declared.batch.Batch.{Batch}
-use Rattle.batch_repr.specs.declared.limits.TheConstants.{NUMBER_MAX}
+use Rattle.batch_repr.specs.declared.limits.TheConstants.{NUMBER_FIRST, NUMBER_MAX}
 use Rattle.batch_repr.specs.Batches.{end_after}
 use Rattle.disk_face.specs.View.{DiskView, files, NothingInFlight, AtEachMoment}
 use Rattle.disk_face.specs.Calls.{GoesOn, SameDisk}
@@ -13,13 +13,13 @@ use Rattle.wal_recovery.specs.Recovering.{Recovers, RecoversLenient}
 use Rattle.wal_recovery.specs.Resting.{OnlySynced, AddsNoImage}
 use Rattle.wal_recovery.specs.Answers.{IsRefusedBy}
 use Rattle.wal_top.specs.declared.reading.TheConstants.{SCRIPT_MAX}
-use Rattle.wal_top.specs.declared.replaying.TheConstants.{LAST_WAL}
+use Rattle.disk_face.specs.declared.names.TheConstants.{WAL_MAX}
 use Rattle.wal_top.specs.declared.status.Status.{Status}
 use Rattle.wal_top.specs.declared.status.Status.TheVariants.{Done, Usage, Script, Write, Refused, NoMemory, Limit}
 use Rattle.wal_top.specs.Call.{Change, change_in, Invocation, Rises, Stays, HasCalmSource, HasCalmDisk}
 use Rattle.wal_top.specs.Words.{IsCommand, IsReplay, IsRecover, IsDump, RecoversIn, ReadsSource, HasJournal, StartsOperations}
 use Rattle.wal_top.specs.Reading.{TookAtMost, TellsScript, TellsNoScript}
-use Rattle.wal_top.specs.Replay.{FIRST, numbers_taken}
+use Rattle.wal_top.specs.Replay.{numbers_taken}
 use Rattle.wal_top.specs.Log.{directories, OthersOnlySynced}
 use Rattle.wal_top.specs.Outcomes.{HasToSay}
 
@@ -91,7 +91,7 @@ pub record MayBegin (c : Invocation) : Type 0 where
 
 -- the number after all commits of the script
 abbrev pub end_of_script : {c : Invocation} → MayBegin c → ℕ
-end_of_script begin = end_after FIRST begin.base + sum_by numbers_taken begin.script.good.acts
+end_of_script begin = end_after NUMBER_FIRST begin.base + sum_by numbers_taken begin.script.good.acts
 
 -- The exact causes: where one of these holds, its status comes.
 pub record ComesExactly (r : Run) (status : Status) : Type 0 where
@@ -99,8 +99,8 @@ pub record ComesExactly (r : Run) (status : Status) : Type 0 where
   pub no_script : ReadsSource r.call.words → TellsNoScript r.call.left.before → HasCalmSource r.call → YieldsTo Script status
   pub refused : (mode : Mode) (fault : RecoverFault) → RecoversIn r.call.words mode → (ReadsSource r.call.words → TellsScript r.call.left.before) → IsTrue r.call.tells
       → IsRefusedBy mode (directories r.call.disk.before) fault → HasCalmSource r.call → HasCalmDisk r.call → YieldsTo Refused status
-  pub limited : (begin : MayBegin r.call) → (LAST_WAL < begin.next) ⊎ (NUMBER_MAX < end_of_script begin) → HasCalmSource r.call → HasCalmDisk r.call → YieldsTo Limit status
-  pub replays : (begin : MayBegin r.call) → begin.next ≤ LAST_WAL → end_of_script begin ≤ NUMBER_MAX → HasCalmSource r.call → HasCalmDisk r.call → IsDoneUnless r.sink_faults status
+  pub limited : (begin : MayBegin r.call) → (WAL_MAX < begin.next) ⊎ (NUMBER_MAX < end_of_script begin) → HasCalmSource r.call → HasCalmDisk r.call → YieldsTo Limit status
+  pub replays : (begin : MayBegin r.call) → begin.next ≤ WAL_MAX → end_of_script begin ≤ NUMBER_MAX → HasCalmSource r.call → HasCalmDisk r.call → IsDoneUnless r.sink_faults status
   pub shows_store : IsRecover r.call.words → IsTrue r.call.tells → (batches : List Batch) → Recovers (directories r.call.disk.before) batches → HasCalmDisk r.call → IsDoneUnless r.sink_faults status
   pub shows_segments : IsDump r.call.words → IsTrue r.call.tells → (batches : List Batch) → RecoversLenient (directories r.call.disk.before) batches → HasCalmDisk r.call → IsDoneUnless r.sink_faults status
 

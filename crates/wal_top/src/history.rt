@@ -3,9 +3,8 @@
 ghost use Rattle.std.specs.Prelude.{◌≡◌, ◌+◌, ◌<◌, ◌≤◌, ◌∷◌, ◌++◌, [], None, length, filter, option_map, MatchBool, IfOk, OnOk, OnErr};
 ghost use Rattle.std.specs.List.{last_or};
 ghost use Rattle.std.specs.Option.{option_copied};
-ghost use Rattle.batch_repr.specs.declared.limits.TheConstants.{NUMBER_MAX};
+ghost use Rattle.batch_repr.specs.declared.limits.TheConstants.{NUMBER_FIRST, NUMBER_MAX};
 ghost use Rattle.batch_repr.specs.Batches.{count_of, is_about, value_left, entries_in, end_after, IsContiguous, answer};
-ghost use Rattle.wal_top.specs.Replay.{FIRST};
 
 use batch_repr::{Batch, Batches, NUMBER_MAX, Numbered, Unnumbered};
 use std::alloc::Global;
@@ -21,6 +20,7 @@ pub(crate) struct History {
 }
 
 impl Model for History {
+    ghost use Rattle.batch_repr.specs.declared.limits.TheConstants.{NUMBER_FIRST};
     ghost use Rattle.std.specs.Prelude.{List};
     ghost use Rattle.batch_repr.specs.declared.batch.Batch.{Batch};
     ghost use Rattle.wal_top.specs.Kept.{IsKept};
@@ -84,8 +84,8 @@ fn value_of(entry: &Entry) -> Option<&[u8]>
 impl History {
     /// The recovered batches, and the number after them.
     pub(crate) fn over(batches: Batches, next: u64) -> History
-        requires numbered { IsContiguous FIRST batches }
-        requires next { next ≡ end_after FIRST batches }
+        requires numbered { IsContiguous NUMBER_FIRST batches }
+        requires next { next ≡ end_after NUMBER_FIRST batches }
         requires within { next ≤ NUMBER_MAX }
         ensures { result ≡ batches }
     {
@@ -94,16 +94,16 @@ impl History {
 
     /// Whether a batch that takes so many numbers may still be numbered behind the others.
     pub(crate) fn has_room(&self, count: u32) -> bool
-        ensures { MatchBool result (end_after FIRST self.now + count ≤ NUMBER_MAX) (NUMBER_MAX < end_after FIRST self.now + count) }
+        ensures { MatchBool result (end_after NUMBER_FIRST self.now + count ≤ NUMBER_MAX) (NUMBER_MAX < end_after NUMBER_FIRST self.now + count) }
     {
         self.next + u64::from(count) <= NUMBER_MAX
     }
 
     /// Numbers the batch behind the others, keeps it, and answers it as it is written.
     pub(crate) fn commit(&mut self, batch: Unnumbered) -> Result<Numbered, NoMemory>
-        requires { end_after FIRST self.old + count_of batch ≤ NUMBER_MAX }
-        ensures numbered { IfOk result (λ numbered. numbered ≡ record { first = end_after FIRST self.old; entries = batch }) }
-        ensures added { OnOk result (self.new ≡ self.old ++ record { first = end_after FIRST self.old; entries = batch } ∷ []) }
+        requires { end_after NUMBER_FIRST self.old + count_of batch ≤ NUMBER_MAX }
+        ensures numbered { IfOk result (λ numbered. numbered ≡ record { first = end_after NUMBER_FIRST self.old; entries = batch }) }
+        ensures added { OnOk result (self.new ≡ self.old ++ record { first = end_after NUMBER_FIRST self.old; entries = batch } ∷ []) }
         ensures err { OnErr result (self.new ≡ self.old) }
     {
         let (numbered, entries) = batch.number_keeping_entries(self.next);
@@ -119,8 +119,8 @@ impl History {
 
     /// The number after the last batch.
     pub(crate) fn visible(&self) -> u64
-        ensures visible { result ≡ end_after FIRST self.now }
-        ensures numbered { IsContiguous FIRST self.now }
+        ensures visible { result ≡ end_after NUMBER_FIRST self.now }
+        ensures numbered { IsContiguous NUMBER_FIRST self.now }
         ensures within { result ≤ NUMBER_MAX }
     {
         self.next

@@ -30,7 +30,6 @@ mod writing;
 pub use gate::{Gate, GatePoint, NoGate};
 pub use reading::SCRIPT_MAX;
 pub use replay::THRESHOLD;
-pub use replaying::LAST_WAL;
 pub use script::Act;
 pub use status::{Ran, Status};
 pub use theorems::a_script_asks_for_one_list_of_acts;

@@ -2,15 +2,14 @@
 
 ghost use Rattle.std.specs.Prelude.{◌≡◌, ◌≢◌, ◌+◌, ◌≤◌, ℕ, Ok, Err, None, List, IfOk, IfErr, IsTrue, OnOk};
 ghost use Rattle.batch_repr.specs.declared.batch.Batch.{Batch};
-ghost use Rattle.batch_repr.specs.declared.limits.TheConstants.{NUMBER_MAX};
+ghost use Rattle.batch_repr.specs.declared.limits.TheConstants.{NUMBER_FIRST, NUMBER_MAX};
 ghost use Rattle.batch_repr.specs.Batches.{count_of, end_after, IsContiguous};
 ghost use Rattle.disk_face.specs.View.{DiskView, files, NothingInFlight};
 ghost use Rattle.disk_face.specs.Calls.{GoesOn};
 ghost use Rattle.failover_writer.specs.declared.fault.JournalFault.TheVariants as faults;
 ghost use Rattle.failover_writer.specs.Ranges.{AreUnsent};
-ghost use Rattle.wal_top.specs.declared.replaying.TheConstants.{LAST_WAL};
+ghost use Rattle.disk_face.specs.declared.names.TheConstants.{WAL_MAX};
 ghost use Rattle.wal_top.specs.declared.replies.JournalEnd.{JournalEnd};
-ghost use Rattle.wal_top.specs.Replay.{FIRST};
 ghost use Rattle.wal_top.specs.Journaling.{RunsOn, RunsStill, OthersSame};
 ghost use Rattle.wal_top.specs.Doing as doing;
 ghost use Rattle.wal_top.specs.Doing.{IsBegun, stage_of, Commits, DoesCommit, DoesGet, DoesAct, Closes, EndsRun, DoesRun, ReplaysOver};
@@ -56,26 +55,27 @@ struct Course<D: Disk> {
 }
 
 impl<D: Disk> Model for Course<D> {
+    ghost use Rattle.batch_repr.specs.declared.limits.TheConstants.{NUMBER_FIRST};
     ghost use Rattle.std.specs.Prelude.{◌≡◌};
     ghost use Rattle.batch_repr.specs.Batches.{end_after};
-    ghost use Rattle.wal_top.specs.Replay.{FIRST};
+    ghost use Rattle.batch_repr.specs.declared.limits.TheConstants.{NUMBER_FIRST};
     ghost use Rattle.wal_top.specs.Doing.{InCourse};
 
     ghost Value = { InCourse D };
 
     ghost view = { λ c. record { batches = c.history; journal = c.journal; text = c.text; limited = c.limited } };
 
-    ghost invariant = { λ c. c.journal.state.next ≡ end_after FIRST c.history };
+    ghost invariant = { λ c. c.journal.state.next ≡ end_after NUMBER_FIRST c.history };
 }
 
 impl<D: Disk> Course<D> {
     /// Over the recovered batches and the number after them, before the first act. `Err` is want of memory and hands the
     /// disk back.
     fn begin(alloc: Global, base: Batches, next: u64, wal: u64, disk: D) -> Result<Course<D>, D>
-        requires numbered { IsContiguous FIRST base }
-        requires next { next ≡ end_after FIRST base }
+        requires numbered { IsContiguous NUMBER_FIRST base }
+        requires next { next ≡ end_after NUMBER_FIRST base }
         requires within { next ≤ NUMBER_MAX }
-        requires wal { wal ≤ LAST_WAL }
+        requires wal { wal ≤ WAL_MAX }
         requires idle { NothingInFlight (D.view disk) }
         requires absent { IsTrue D.tells → AreUnsent wal 0 (D.view disk) }
         ensures begins { IfOk result (λ course. IsBegun D.tells base (D.view disk) wal (stage_of D.view course)) }
@@ -114,7 +114,7 @@ impl<D: Disk> Course<D> {
     /// Numbers a batch behind the others, hands it to the journal, and replies.
     fn number(&mut self, batch: Unnumbered) -> Result<(), NoMemory>
         requires lives { self.old.journal.state.dead ≡ None }
-        requires room { end_after FIRST self.old.batches + count_of batch ≤ NUMBER_MAX }
+        requires room { end_after NUMBER_FIRST self.old.batches + count_of batch ≤ NUMBER_MAX }
         ensures runs { RunsOn D.tells self.old.journal.state (D.view self.old.journal.disk) self.new.journal.state (D.view self.new.journal.disk) }
         ensures did { OnOk result (Commits D.tells batch (stage_of D.view self.old) (stage_of D.view self.new)) }
     {
@@ -231,10 +231,10 @@ pub(crate) fn replay<D: Disk>(
     acts: VecDeque<Act>,
     disk: D,
 ) -> Answered<D>
-    requires numbered { IsContiguous FIRST base }
-    requires next { next ≡ end_after FIRST base }
+    requires numbered { IsContiguous NUMBER_FIRST base }
+    requires next { next ≡ end_after NUMBER_FIRST base }
     requires within { next ≤ NUMBER_MAX }
-    requires wal { wal ≤ LAST_WAL }
+    requires wal { wal ≤ WAL_MAX }
     requires idle { NothingInFlight (D.view disk) }
     requires absent { IsTrue D.tells → AreUnsent wal 0 (D.view disk) }
     ensures goes_on { GoesOn (D.view disk) (D.view result.disk) }

@@ -15,14 +15,11 @@ use crate::replay::replay;
 use crate::said::{Answered, Said, saying, unrecovered};
 use crate::script::{Act, ScriptError, read_script};
 use crate::status::Status;
-use disk_face::Disk;
+use disk_face::{Disk, WAL_MAX};
 use std::alloc::Global;
 use std::collections::VecDeque;
 use wal_base::NoMemory;
 use wal_recovery::{Mode, recover};
-
-/// The greatest number of a WAL.
-pub const LAST_WAL: u64 = 999_999_999_999;
 
 /// What the acts of a script come to over a disk.
 fn said_of_acts<D: Disk>(alloc: Global, acts: VecDeque<Act>, mut disk: D) -> Answered<D>
@@ -35,7 +32,7 @@ fn said_of_acts<D: Disk>(alloc: Global, acts: VecDeque<Act>, mut disk: D) -> Ans
 {
     match recover(alloc, &mut disk, Mode::Strict) {
         Ok(found) => {
-            if found.next_wal > LAST_WAL {
+            if found.next_wal > WAL_MAX {
                 return Answered {
                     said: saying(alloc, Status::Limit, "limit wal\n"),
                     disk,

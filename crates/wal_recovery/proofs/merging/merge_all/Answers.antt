@@ -1,4 +1,5 @@
 -- Each WAL goes on with the merge of those before it, so those up to it are merged as one row, and what refuses it refuses the directories.
+use Rattle.batch_repr.specs.declared.limits.TheConstants.{NUMBER_FIRST}
 use Rattle.std.proofs.Common.{◌≡◌, map, [], Err, IsTrue, All, length, sym, subst, ap, rules, arith}
 use Rattle.std.specs.Prelude.{IfErr, Result, List}
 use Rattle.std.proofs.lemmas.List.{take_all}
@@ -12,7 +13,6 @@ use Rattle.wal_recovery.specs.declared.fault.RecoverFault.{RecoverFault}
 use Rattle.wal_recovery.specs.declared.merging.Merged.{Merged}
 use Rattle.wal_recovery.specs.declared.wals.FoundWal.{FoundWal}
 use Rattle.wal_recovery.specs.Listing.{AreByIndex}
-use Rattle.wal_recovery.specs.Recovering.{FIRST_NUMBER}
 use Rattle.wal_recovery.specs.Refused.{IsLenientlyRefused}
 use Rattle.wal_recovery.specs.Reports.{ReportOnAll}
 use Rattle.wal_recovery.specs.Answers.{DiskMemoryOr}
@@ -81,8 +81,8 @@ end_behind-next-requires g c = subst (All IsNumbered) (sym c.as_slice.ensures) (
 pub returns-clause-within : goal.returns-clause-within
 returns-clause-within g c =
     let numbered : All IsNumbered c.into_batches-batches.result = subst (All IsNumbered) (sym c.into_batches-batches.ensures) (reports_numbered c.loop-wal.reports c.loop-wal.so_far c.loop-wal.invariant.merged) in
-    let low = end_within FIRST_NUMBER c.into_batches-batches.result (omega arith) numbered in
-    omega (arith, low, c.end_behind-next.ensures, ap (end_after FIRST_NUMBER) c.as_slice.ensures)
+    let low = end_within NUMBER_FIRST c.into_batches-batches.result (omega arith) numbered in
+    omega (arith, low, c.end_behind-next.ensures, ap (end_after NUMBER_FIRST) c.as_slice.ensures)
 
 pub returns-clause-merged : goal.returns-clause-merged
 returns-clause-merged g c =

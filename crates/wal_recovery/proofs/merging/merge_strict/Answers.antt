@@ -1,4 +1,5 @@
 -- Each WAL is merged from the end of those before it, so those up to it merge, and what refuses it refuses the directories.
+use Rattle.batch_repr.specs.declared.limits.TheConstants.{NUMBER_FIRST}
 use Rattle.std.proofs.Common.{◌≡◌, ℕ, map, List, length, take_all, ◌++◌, [], Err, IsTrue, All, sym, subst, ap, ◌∙◌, rules, arith}
 use Rattle.std.specs.Prelude.{IfErr, Result}
 use Rattle.batch_repr.specs.Batches.{end_after, IsContiguous}
@@ -11,7 +12,7 @@ use Rattle.wal_recovery.specs.declared.fault.RecoverFault.{RecoverFault}
 use Rattle.wal_recovery.specs.declared.merging.Merged.{Merged}
 use Rattle.wal_recovery.specs.declared.wals.FoundWal.{FoundWal}
 use Rattle.wal_recovery.specs.Listing.{AreByIndex}
-use Rattle.wal_recovery.specs.Recovering.{FIRST_NUMBER, WalMerges, WalsMerge}
+use Rattle.wal_recovery.specs.Recovering.{WalMerges, WalsMerge}
 use Rattle.wal_recovery.specs.Refused.{IsRefused}
 use Rattle.wal_recovery.specs.Reports.{ReportOnAll}
 use Rattle.wal_recovery.specs.Answers.{DiskMemoryOr}
@@ -32,10 +33,10 @@ loop-wal-init g c =
       goes = goes_on_from v;
       same = same_from v;
       asks = reads_none [] v;
-      next = sym (ap (end_after FIRST_NUMBER) c.new-batches.ensures);
-      contiguous = subst (IsContiguous FIRST_NUMBER) (sym c.new-batches.ensures) tt;
+      next = sym (ap (end_after NUMBER_FIRST) c.new-batches.ensures);
+      contiguous = subst (IsContiguous NUMBER_FIRST) (sym c.new-batches.ensures) tt;
       within = omega arith;
-      merged = λ told listed. subst (WalsMerge FIRST_NUMBER []) (sym c.new-batches.ensures) (merged_none (files v) c.args.wals.now FIRST_NUMBER);
+      merged = λ told listed. subst (WalsMerge NUMBER_FIRST []) (sym c.new-batches.ensures) (merged_none (files v) c.args.wals.now NUMBER_FIRST);
       reports = λ told listed. subst (ReportOnAll []) (sym c.requires.none) (reports_none (files v) c.args.wals.now);
     }
 
@@ -68,11 +69,11 @@ loop-wal-preserved g c =
       goes = goes_on_further first mid new c.loop-wal.invariant.goes c.in_ok-own.ensures.goes_on;
       same = same_further first mid new c.loop-wal.invariant.same c.in_ok-own.ensures.same;
       asks = reads_wal c.args.wals.now c.loop-wal.wal-index c.wal-item.result first mid new at c.loop-wal.invariant.asks c.in_ok-own.ensures.asks;
-      next = ends ∙ ap (λ (n : ℕ). end_after n own) c.loop-wal.invariant.next ∙ sym (end_append FIRST_NUMBER c.loop-wal.batches own) ∙ ap (end_after FIRST_NUMBER) (sym longer);
-      contiguous = subst (IsContiguous FIRST_NUMBER) (sym longer)
-          (contiguous_append FIRST_NUMBER c.loop-wal.batches own c.loop-wal.invariant.contiguous (subst (λ (n : ℕ). IsContiguous n own) c.loop-wal.invariant.next c.in_ok-own.ensures.contiguous));
+      next = ends ∙ ap (λ (n : ℕ). end_after n own) c.loop-wal.invariant.next ∙ sym (end_append NUMBER_FIRST c.loop-wal.batches own) ∙ ap (end_after NUMBER_FIRST) (sym longer);
+      contiguous = subst (IsContiguous NUMBER_FIRST) (sym longer)
+          (contiguous_append NUMBER_FIRST c.loop-wal.batches own c.loop-wal.invariant.contiguous (subst (λ (n : ℕ). IsContiguous n own) c.loop-wal.invariant.next c.in_ok-own.ensures.contiguous));
       within = let low = end_within c.loop-wal.next own c.loop-wal.invariant.within c.in_ok-own.ensures.numbered in omega (arith, low, ends);
-      merged = λ told listed. merged_at (files first) c.args.wals.now c.loop-wal.wal-index c.wal-item.result at FIRST_NUMBER c.loop-wal.next c.loop-wal.batches own c.append.new.batches c.loop-wal.invariant.next longer
+      merged = λ told listed. merged_at (files first) c.args.wals.now c.loop-wal.wal-index c.wal-item.result at NUMBER_FIRST c.loop-wal.next c.loop-wal.batches own c.append.new.batches c.loop-wal.invariant.next longer
           (c.loop-wal.invariant.merged told listed)
           (subst (λ (fs : Files). AreAsListed fs c.wal-item.result.segments.items → WalMerges c.loop-wal.next (wal_in fs c.wal-item.result) own) now (c.in_ok-own.ensures.merged told)) listed;
       reports = λ told listed. reports_at (files first) c.args.wals.now c.loop-wal.wal-index c.wal-item.result at c.loop-wal.reports c.merge_wal.new.reports

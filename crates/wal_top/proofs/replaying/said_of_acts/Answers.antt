@@ -12,8 +12,8 @@ use Rattle.wal_top.proofs.HasToSay.{says_unrecovered, says_replayed}
 use Rattle.wal_top.proofs.Coming.{are_unsent, others_stay, replays_since, one_next_wal}
 use Rattle.wal_top.proofs.replaying.said_of_acts.Goals as goal
 
-pub returns-then-found-gt-LAST_WAL-clause-says : goal.returns-then-found-gt-LAST_WAL-clause-says
-returns-then-found-gt-LAST_WAL-clause-says g c =
+pub returns-then-found-gt-WAL_MAX-clause-says : goal.returns-then-found-gt-WAL_MAX-clause-says
+returns-then-found-gt-WAL_MAX-clause-says g c =
     let e = c.in-Ok.ensures in
     ok_map c.saying.result c.saying.ensures (λ said p words' left' faults is reads.
     let call : Invocation = record { words = words'; left = left'; source_faults = faults; tells = g.D.Disk.tells; disk = change_in g.D.Disk.view c.args.disk c.recover.new.disk } in
@@ -25,7 +25,7 @@ returns-then-found-gt-LAST_WAL-clause-says g c =
       recovers = e.recovered;
       next = c.in-Ok.found.next_wal;
       next_is = e.next_wal;
-      past = omega (arith, c.if-found-gt-LAST_WAL.true);
+      past = omega (arith, c.if-found-gt-WAL_MAX.true);
       only_synced = e.files;
       idle = e.idle;
       text_is = refl;
@@ -34,17 +34,17 @@ returns-then-found-gt-LAST_WAL-clause-says g c =
 pub replay-requires-clause-absent : goal.replay-requires-clause-absent
 replay-requires-clause-absent g c = λ told.
     are_unsent c.in-Ok.found.next_wal (files (g.D.Disk.view c.args.disk)) (files (g.D.Disk.view c.recover.new.disk)) (g.D.Disk.view c.recover.new.disk) refl (λ p f is. g.met.D.Disk.sound c.recover.new.disk p f told is)
-    (c.in-Ok.ensures.next_wal told) c.if-found-gt-LAST_WAL.false (c.in-Ok.ensures.files told)
+    (c.in-Ok.ensures.next_wal told) c.if-found-gt-WAL_MAX.false (c.in-Ok.ensures.files told)
 
-pub returns-else-found-gt-LAST_WAL-clause-others : goal.returns-else-found-gt-LAST_WAL-clause-others
-returns-else-found-gt-LAST_WAL-clause-others g c = λ told wal next.
+pub returns-else-found-gt-WAL_MAX-clause-others : goal.returns-else-found-gt-WAL_MAX-clause-others
+returns-else-found-gt-WAL_MAX-clause-others g c = λ told wal next.
     let v = g.D.Disk.view c.args.disk in
     let e = c.in-Ok.ensures in
     subst (λ (n : ℕ). OthersOnlySynced n (files v) (files (g.D.Disk.view c.replay.result.disk))) (one_next_wal v c.in-Ok.found.next_wal wal (e.next_wal told) next)
     (others_stay v (g.D.Disk.view c.recover.new.disk) (g.D.Disk.view c.replay.result.disk) c.in-Ok.found.next_wal g.D.Disk.tells e.files c.replay.ensures.others told)
 
-pub returns-else-found-gt-LAST_WAL-clause-says : goal.returns-else-found-gt-LAST_WAL-clause-says
-returns-else-found-gt-LAST_WAL-clause-says g c =
+pub returns-else-found-gt-WAL_MAX-clause-says : goal.returns-else-found-gt-WAL_MAX-clause-says
+returns-else-found-gt-WAL_MAX-clause-says g c =
     let e = c.in-Ok.ensures in
     let v = g.D.Disk.view c.args.disk in
     let mid = g.D.Disk.view c.recover.new.disk in
@@ -53,7 +53,7 @@ returns-else-found-gt-LAST_WAL-clause-says g c =
     let call : Invocation = record { words = words'; left = left'; source_faults = faults; tells = g.D.Disk.tells; disk = change_in g.D.Disk.view c.args.disk c.replay.result.disk } in
     says_replayed call c.args.acts.items c.in-Ok.found.batches c.in-Ok.found.next_wal mid said.status said.text is reads r
     (replays_since v mid new c.in-Ok.found.next_wal g.D.Disk.tells e.files c.args.acts.items c.in-Ok.found.batches said.status said.text
-    (λ told. e.stable told refl) c.if-found-gt-LAST_WAL.false e.goes_on e.recovered e.next_wal r))
+    (λ told. e.stable told refl) c.if-found-gt-WAL_MAX.false e.goes_on e.recovered e.next_wal r))
 
 pub returns-in-Err-clause-says : goal.returns-in-Err-clause-says
 returns-in-Err-clause-says g c =

@@ -2,11 +2,10 @@
 use Rattle.failover_writer.specs.State.{JournalView}
 use Rattle.std.proofs.Common.{false, ◌++◌, ◌∷◌, [], ◌+◌, ◌≤◌, ℕ, List, ◌∙◌, ap, sym, subst}
 use Rattle.batch_repr.specs.declared.batch.Batch.{Batch}
-use Rattle.batch_repr.specs.declared.limits.TheConstants.{NUMBER_MAX}
+use Rattle.batch_repr.specs.declared.limits.TheConstants.{NUMBER_FIRST, NUMBER_MAX}
 use Rattle.batch_repr.specs.Batches.{count_of, end_after}
 use Rattle.disk_face.specs.View.{DiskView}
 use Rattle.failover_writer.specs.Answered.{Settles}
-use Rattle.wal_top.specs.Replay.{FIRST}
 use Rattle.wal_top.specs.Journaling.{Runs, RunsStill}
 use Rattle.wal_top.specs.Doing.{InCourse, stage_of, Logs, Commits}
 use Rattle.wal_top.proofs.Saying.{on_ok_map}
@@ -84,5 +83,5 @@ returns-clause-did g c =
     (commits_stage g.D.Disk.tells c.args.batch (record { batches = c.self.inside.history; journal = c.self.inside.journal.state; view = g.D.Disk.view c.self.inside.journal.disk; text = c.self.inside.text; limited = c.self.inside.limited })
     c.commit.new.self c.settle.new.self.state (g.D.Disk.view c.settle.new.self.disk) c.put_commit.new.out c.in_ok-numbered.numbered c.first-first.result c.count-count.result
     (ap (λ (x : InCourse _). x.journal.state.dead) c.self.view_is ∙ c.requires.lives)
-    (subst (λ (bs : List Batch). end_after FIRST bs + count_of c.args.batch ≤ NUMBER_MAX) (sym (ap (λ (x : InCourse _). x.batches) c.self.view_is)) c.requires.room)
+    (subst (λ (bs : List Batch). end_after NUMBER_FIRST bs + count_of c.args.batch ≤ NUMBER_MAX) (sym (ap (λ (x : InCourse _). x.batches) c.self.view_is)) c.requires.room)
     c.in_ok-numbered.ensures.added c.in_ok-numbered.ensures.numbered c.first-first.ensures c.count-count.ensures.count said logs runs))
