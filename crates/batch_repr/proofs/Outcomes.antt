@@ -9,7 +9,7 @@ use Rattle.batch_repr.specs.Reading.{IsFirstFault, Splits, first_said, count_sai
 use Rattle.batch_repr.specs.Returned.{MemoryOr}
 use Rattle.batch_repr.specs.Reading.IsFirstFault.{other_count, past_numbers}
 
--- a fact of each fault holds of want of memory or of the fault
+-- a fact of each fault holds of out of memory or of the fault
 pub memory_or : (P Q : BatchFault → Type 0) (fault : BatchFault) → ((f : BatchFault) → P f → Q f) → MemoryOr P fault → MemoryOr Q fault
 memory_or P Q faults.NoMemory h p = tt
 memory_or P Q faults.ShortHeader h p = h faults.ShortHeader p

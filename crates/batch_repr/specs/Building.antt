@@ -25,7 +25,7 @@ value_fault value other = if nat_lt VALUE_MAX (length value) then Some (faults.V
 abbrev pub key_fault : List ℕ → Option BuildFault → Option BuildFault
 key_fault key other = if nat_lt KEY_MAX (length key) then Some (faults.KeyTooLong (length key)) else other
 
--- why an entry is refused behind others, the first reason first
+-- why an entry is refused after others, the first reason first
 abbrev pub refusal : List Entry → Entry → Option BuildFault
 refusal entries (Set key value) = key_fault key (value_fault value (room_fault (written_len (entries ++ Set key value ∷ []))))
 refusal entries (Delete key) = key_fault key (room_fault (written_len (entries ++ Delete key ∷ [])))

@@ -7,7 +7,7 @@ use Rattle.batch_repr.specs.Batches.{count_of}
 use Rattle.batch_repr.specs.Limits.{IsWithinLimits}
 use Rattle.batch_repr.specs.Written.{written, written_entries}
 
--- The bytes are those of the entries, behind a header that is not written yet.
+-- The bytes are those of the entries, after a header that is not written yet.
 pub record IsDraft (bytes : List ℕ) (entries : List Entry) : Type 0 where
   pub spelled : bytes ≡ replicate 12 0 ++ written_entries entries
   pub limits : All IsWithinLimits entries

@@ -39,7 +39,7 @@ IsBytes bytes = (i : ℕ) → get_or bytes i 0 < 256
 abbrev pub EndsWith : List ℕ → List ℕ → Type 0
 EndsWith whole rest = (front : List ℕ) × (whole ≡ front ++ rest)
 
--- The bytes of a string, behind its length. A fault is one of the entry at a place, or of the length at another.
+-- The bytes of a string, after its length. A fault is one of the entry at a place, or of the length at another.
 abbrev pub text_from : ℕ → ℕ → ℕ → Result (ℕ × List ℕ) VarintFault → Result (List ℕ × List ℕ) BatchFault
 text_from entry at limit (Err Ended) = Err (faults.ShortEntry entry)
 text_from entry at limit (Err Wrong) = Err (faults.BadVarint at)
@@ -52,7 +52,7 @@ text_from entry at limit (Ok n) =
 unfoldable pub string_at : ℕ → ℕ → ℕ → List ℕ → Result (List ℕ × List ℕ) BatchFault
 string_at whole entry limit bytes = text_from entry (offset_of whole bytes) limit (number_at bytes)
 
--- What stands behind the kind byte of a Set at a place: its key, then its value.
+-- What stands after the kind byte of a Set at a place: its key, then its value.
 unfoldable pub set_at : ℕ → ℕ → List ℕ → Result (Entry × List ℕ) BatchFault
 set_at whole entry bytes =
     string_at whole entry KEY_MAX bytes >>= λ key. string_at whole entry VALUE_MAX key.1 >>= λ value. Ok (Set key.0 value.0, value.1)

@@ -1,4 +1,4 @@
--- What a reader answers, beside what the bytes say. Want of memory may take the place of any answer (docs/FORMATS.md, "Reading a batch").
+-- What a reader answers, beside what the bytes say. Out of memory may take the place of any answer (docs/FORMATS.md, "Reading a batch").
 use Rattle.std.specs.Prelude.{◌≡◌, Result, Ok, Err}
 use Rattle.batch_repr.specs.declared.fault.BatchFault.{BatchFault}
 use Rattle.batch_repr.specs.declared.fault.BatchFault.TheVariants as faults
@@ -18,7 +18,7 @@ abbrev pub GivesOrMemory : {X Y : Type 0} → (X → Y) → Result X BatchFault 
 GivesOrMemory view (Ok x) read = read ≡ Ok (view x)
 GivesOrMemory view (Err fault) read = FailsAs fault read
 
--- The fault is want of memory, or this holds of it.
+-- The fault is out of memory, or this holds of it.
 abbrev pub MemoryOr : (BatchFault → Type 0) → BatchFault → Type 0
 MemoryOr P faults.NoMemory = Unit {0}
 MemoryOr P fault = P fault

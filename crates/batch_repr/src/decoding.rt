@@ -122,7 +122,7 @@ fn entry_of<'a>(text: &Blob, bytes: &'a [u8]) -> Result<(Entry, &'a [u8]), Batch
     }
 }
 
-/// The entries behind the header, to the end.
+/// The entries after the header, to the end.
 fn entries_of(alloc: Global, text: &Blob) -> Result<Entries, BatchFault>
     requires size { length text.now ≤ BATCH_MAX }
     requires header { 12 ≤ length text.now }

@@ -6,7 +6,7 @@
 //! where the bytes spell one, and otherwise the first fault from left to right.
 //!
 //! What holds of each value here: a builder and an unnumbered batch hold entries within their limits, spelled
-//! behind a header that is not written yet; a numbered batch holds its written text, and an entry of it is
+//! after a header that is not written yet; a numbered batch holds its written text, and an entry of it is
 //! counted.
 #![tactic(auto)]
 

@@ -137,7 +137,7 @@ fn a_note_and_a_delete_are_written_and_read(rt: HostRuntime) {
     assert_eq!(rt; (read.first, read.entries.len()), (11, 2));
 }
 
-/// A header, and the entries behind it.
+/// A header, and the entries after it.
 fn text(rt: &impl Abort, alloc: Global, first: u64, count: u32, entries: &[u8]) -> Vec<u8> {
     let mut bytes = Vec::new(alloc);
     bytes

@@ -13,7 +13,7 @@ use std::marker::Model;
 use std::snapshot::Snapshot;
 use wal_base::Entries;
 
-/// A batch that has no numbers yet: its entries, and their bytes behind a header that is not written.
+/// A batch that has no numbers yet: its entries, and their bytes after a header that is not written.
 /// Contracts see the list of the entries.
 #[derive(Debug, Drop)]
 pub struct Unnumbered {

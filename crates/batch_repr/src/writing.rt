@@ -9,7 +9,7 @@ use crate::limits::HEADER;
 use std::alloc::AllocError;
 use wal_base::Entry;
 
-/// Adds the shortest spelling of a number. After an `Err` more bytes may stand behind the old ones.
+/// Adds the shortest spelling of a number. After an `Err` more bytes may stand after the old ones.
 fn push_varint(out: &mut Vec<u8>, n: u32) -> Result<(), AllocError>
     ensures ok { OnOk result (out.new.items ≡ out.old.items ++ varint n) }
     ensures kept { take (length out.old.items) out.new.items ≡ out.old.items }
@@ -23,7 +23,7 @@ fn push_varint(out: &mut Vec<u8>, n: u32) -> Result<(), AllocError>
     Ok(())
 }
 
-/// Adds a byte string behind its length.
+/// Adds a byte string after its length.
 fn push_string(out: &mut Vec<u8>, text: &[u8]) -> Result<(), AllocError>
     requires { length text.now < 2 ^ 32 }
     ensures ok { OnOk result (out.new.items ≡ out.old.items ++ byte_string text.now) }
@@ -33,7 +33,7 @@ fn push_string(out: &mut Vec<u8>, text: &[u8]) -> Result<(), AllocError>
     out.extend_from_slice(text)
 }
 
-/// Adds an entry. After an `Err` more bytes may stand behind the old ones.
+/// Adds an entry. After an `Err` more bytes may stand after the old ones.
 #[tactic(auto, unfolding(crate::specs::Written::written_entry))]
 pub(crate) fn push_entry(out: &mut Vec<u8>, entry: &Entry) -> Result<(), AllocError>
     requires { IsWithinLimits entry.now }

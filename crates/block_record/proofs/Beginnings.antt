@@ -6,7 +6,7 @@ use Rattle.crc_chunk.specs.declared.chunk.ChunkKind.TheVariants.{Full, First, Mi
 use Rattle.crc_chunk.specs.Chunk.{ChunkAt}
 use Rattle.block_record.specs.declared.records.Rec.{Rec}
 use Rattle.block_record.specs.Framing.{framed, laid}
-use Rattle.block_record.specs.ReadOut.{Link, next_place, chunk_end, IsChain, Spelled, ended, after_link, spelled_from, nothing, bytes_of, ReadsOut, ReadsFirst}
+use Rattle.block_record.specs.ReadOut.{Link, next_place, chunk_end, IsChain, Spelled, ended, after_link, spelled_from, nothing, bytes_of, ReadsOut, ReadsPrefix}
 use Rattle.block_record.proofs.Fragments.{room_behind}
 use Rattle.block_record.proofs.Laying.{laid-append}
 use Rattle.block_record.proofs.Chains.{within_segment}
@@ -27,7 +27,7 @@ grows at so_far (link ∷ links) =
     grows (chunk_end (next_place at) link) (after_link (next_place at) so_far link) links in
     (step.0 ++ later.0, later.1 ∙ ap (λ (t : List Rec). t ++ later.0) step.1 ∙ append_assoc so_far.records step.0 later.0)
 
--- The chain spells the first of these records, and nothing else.
+-- The chain spells a prefix of these records, and nothing else.
 abbrev SpellsFirst : ℕ → Spelled → List Link → List (List ℕ) → Type 0
 SpellsFirst at so_far links records = (count : ℕ) × (bytes_of (spelled_from at so_far links).records ≡ bytes_of so_far.records ++ take count records)
 
@@ -66,7 +66,7 @@ begins bytes whole some more within same e fits =
 
 pub first_are_read : (log within : ℕ) (records : List (List ℕ)) (bytes : List ℕ) (found : List Rec) (ends_at : ℕ) (torn : Bool) → within ≤ length (laid log 0 records)
     → take within bytes ≡ take within (laid log 0 records) → ((at : ℕ) (kind : ChunkKind) (payload : List ℕ) → ChunkAt bytes at log kind payload → ChunkAt (laid log 0 records) at log kind payload)
-    → ReadsOut bytes log found ends_at torn → ReadsFirst log within records (bytes_of found)
+    → ReadsOut bytes log found ends_at torn → ReadsPrefix log within records (bytes_of found)
 first_are_read log within records bytes found ends_at torn short same all h = record { count = front.0; first = ap bytes_of h.records_are ∙ front.1; all_within = among }
   where
     whole : List ℕ

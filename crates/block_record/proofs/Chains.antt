@@ -60,7 +60,7 @@ in_block bytes block at log kind payload e h =
 pub within_segment : {bytes : List ℕ} {at log : ℕ} {kind : ChunkKind} {payload : List ℕ} → ChunkAt bytes at log kind payload → at + 11 + length payload ≤ length bytes
 within_segment h = (fields_of h.stands).fits
 
--- A longest chain behind a chunk that may follow is one with that chunk in front.
+-- A longest chain after a chunk that may follow is one with that chunk in front.
 one_longer : {bytes : List ℕ} {log at : ℕ} {is_open : Bool} (link : Link) (links : List Link) → MayFollow is_open link.kind → ChunkAt bytes (next_place at) log link.kind link.payload
     → IsLongestChain bytes log (chunk_end (next_place at) link) (leaves_open link.kind) links → IsLongestChain bytes log at is_open (link ∷ links)
 one_longer {bytes} {log} {at} {is_open} link links follows stands h = record { chain = (follows, stands, h.chain); longest = most }
@@ -75,7 +75,7 @@ one_longer {bytes} {log} {at} {is_open} link links follows stands h = record { c
         subst (λ (kind : ChunkKind). IsChain bytes log (chunk_end (next_place at) link) (leaves_open kind) others) same.0 moved in
         omega (arith, h.longest others rest)
 
--- Whatever the longest chain from here on is, the segment's is one that spells it behind what is spelled so far.
+-- Whatever the longest chain from here on is, the segment's is one that spells it after what is spelled so far.
 pub record LeftToRead (bytes : List ℕ) (log at : ℕ) (is_open : Bool) (so_far : Spelled) : Type 0 where
   pub done : (links : List Link) → IsLongestChain bytes log at is_open links
       → (whole : List Link) × IsLongestChain bytes log 0 false whole × (spelled_from 0 nothing whole ≡ spelled_from at so_far links)

@@ -85,7 +85,7 @@ chunks_len log at bytes = from (blocks_for (length rest)) refl ∙ omega (arith,
         length-append (chunk First log part) (later_chunks log (cut (suc n) rest))
         ∙ omega (arith, cut_len log n rest e, chunk_len First log part, length-take room bytes, length-drop room bytes)
 
--- Behind the zeros a header fits.
+-- After the zeros a header fits.
 pub room_behind : (at : ℕ) → (at + length (padding at)) % 32768 + 11 ≤ 32768
 room_behind at = from (nat_lt (left_in_block at) 11) refl
   where
@@ -93,14 +93,14 @@ room_behind at = from (nat_lt (left_in_block at) 11) refl
     from true e = rw (e, length-replicate {A = ℕ} (left_in_block at) 0) (omega (arith, ltb-true (left_in_block at) 11 e))
     from false e = rw e (omega (arith, ltb-false (left_in_block at) 11 e))
 
--- the length of a framed record, from how many zeros are behind it
+-- the length of a framed record, from how many zeros are after it
 pub framed_len_is : (log at n : ℕ) (bytes : List ℕ) → padding (at + length (chunks log (fragments at bytes))) ≡ replicate n 0 → length (framed log at bytes) ≡ length (chunks log (fragments at bytes)) + n
 unfolding framed
 framed_len_is log at n bytes zeros =
     let all : List ℕ = chunks log (fragments at bytes) in
     length-append all (padding (at + length all)) ∙ ap (λ (t : List ℕ). length all + length t) zeros ∙ ap (λ (k : ℕ). length all + k) (length-replicate n 0)
 
--- Behind a framed record a header fits.
+-- After a framed record a header fits.
 pub room_after : (log at : ℕ) (before after bytes : List ℕ) → after ≡ before ++ framed log at bytes → (at + (length after - length before)) % 32768 + 11 ≤ 32768
 unfolding framed
 room_after log at before after bytes e =

@@ -7,7 +7,7 @@ use Rattle.std.proofs.lemmas.List.Elements.{All-nil, All-cons, All-head, All-tai
 use Rattle.std.proofs.lemmas.Slice.{between_is}
 use Rattle.block_record.specs.declared.records.Rec.{Rec}
 use Rattle.block_record.specs.declared.joining.Place.{Place}
-use Rattle.block_record.specs.Joined.{rec_in, rec_behind, spelled_in, fragment, EndsWithin, StandsBetween, AreApart, IsApart}
+use Rattle.block_record.specs.Joined.{rec_in, rec_after, spelled_in, fragment, EndsWithin, StandsBetween, AreApart, IsApart}
 
 -- A part of what stays is the same.
 pub kept_part : (old new : List ℕ) (limit from to : ℕ) → to ≤ limit → take limit new ≡ take limit old → slice_range new from to ≡ slice_range old from to
@@ -29,7 +29,7 @@ apart_wider start end low high [] l h apart = omega arith
 apart_wider start end low high (place ∷ places) l h (one, apart) =
     (record { above = omega (arith, one.above); order = one.order; below = omega (arith, one.below) }, apart_wider place.to end place.to high places (omega arith) h apart)
 
--- With one place more behind them.
+-- With one place more after them.
 pub apart_push : (start middle end : ℕ) (places : List Place) (last : Place) → AreApart start middle places → StandsBetween middle end last → AreApart start end (places ++ last ∷ [])
 apart_push start middle end [] last apart stands =
     (record { above = omega (arith, apart, stands.above); order = stands.order; below = stands.below }, stands.below)
@@ -59,24 +59,24 @@ apart_front start end (place ∷ places) (suc i) d l (one, apart) =
     let rest : AreApart place.to (get_or places i d).from (take i places) = apart_front place.to end places i d (omega (arith, l)) apart in
     (record { above = one.above; order = one.order; below = apart_ordered place.to (get_or places i d).from (take i places) rest }, rest)
 
--- It and those behind it begin no earlier than it.
+-- It and those after it begin no earlier than it.
 pub apart_back : (start end : ℕ) (places : List Place) (i : ℕ) (d : Place) → i < length places → AreApart start end places → AreApart (get_or places i d).from end (drop i places)
 apart_back start end [] i d l apart = elim l [ ]
 apart_back start end (place ∷ places) zero d l (one, apart) = (record { above = omega arith; order = one.order; below = one.below }, apart)
 apart_back start end (place ∷ places) (suc i) d l (one, apart) = apart_back place.to end places i d (omega (arith, l)) apart
 
--- What lies behind a cut is the same in the bytes that were cut off there.
+-- What lies after a cut is the same in the bytes that were cut off there.
 pub cut_part : (bytes : List ℕ) (cut from to : ℕ) → cut ≤ from → slice_range (drop cut bytes) (from - cut) (to - cut) ≡ slice_range bytes from to
 cut_part bytes cut from to le =
     let same : to - cut - (from - cut) ≡ to - from = omega arith in
     let place : cut + (from - cut) ≡ from = omega arith in
     rw (same, drop-drop (from - cut) cut bytes, place) refl
 
-pub cut_records : (bytes : List ℕ) (cut end : ℕ) (places : List Place) → All (StandsBetween cut end) places → map (rec_behind cut (drop cut bytes)) places ≡ map (rec_in bytes) places
+pub cut_records : (bytes : List ℕ) (cut end : ℕ) (places : List Place) → All (StandsBetween cut end) places → map (rec_after cut (drop cut bytes)) places ≡ map (rec_in bytes) places
 cut_records bytes cut end [] h = refl
 cut_records bytes cut end (place ∷ places) h =
     let stands : StandsBetween cut end place = All-head (StandsBetween cut end) place places h in
-    let one : rec_behind cut (drop cut bytes) place ≡ rec_in bytes place = ap (λ (bytes : List ℕ). record { at = place.at; bytes = bytes }) (cut_part bytes cut place.from place.to stands.above) in
+    let one : rec_after cut (drop cut bytes) place ≡ rec_in bytes place = ap (λ (bytes : List ℕ). record { at = place.at; bytes = bytes }) (cut_part bytes cut place.from place.to stands.above) in
     rw (one, cut_records bytes cut end places (All-tail (StandsBetween cut end) place places h)) refl
 
 -- The bytes are cut off where one of the places begins, and the places before it.
@@ -84,7 +84,7 @@ pub record IsCut (bytes : List ℕ) (places : List Place) (i cut : ℕ) : Type 0
   pub within : cut ≤ length bytes
   pub front : AreApart 0 cut (take i places)
   pub back : All (StandsBetween cut (length bytes)) (drop i places)
-  pub same : map (rec_in (take cut bytes)) (take i places) ++ map (rec_behind cut (drop cut bytes)) (drop i places) ≡ map (rec_in bytes) places
+  pub same : map (rec_in (take cut bytes)) (take i places) ++ map (rec_after cut (drop cut bytes)) (drop i places) ≡ map (rec_in bytes) places
 
 pub is_cut : (bytes : List ℕ) (places : List Place) (i : ℕ) (d : Place) → i < length places → AreApart 0 (length bytes) places → IsCut bytes places i (get_or places i d).from
 is_cut bytes places i d l apart =
@@ -98,7 +98,7 @@ is_cut bytes places i d l apart =
       front = front;
       back = back;
       same =
-          ap (λ (rs : List Rec). rs ++ map (rec_behind cut (drop cut bytes)) (drop i places)) (kept_records bytes (take cut bytes) cut (take i places) kept (all_end 0 cut (take i places) front))
+          ap (λ (rs : List Rec). rs ++ map (rec_after cut (drop cut bytes)) (drop i places)) (kept_records bytes (take cut bytes) cut (take i places) kept (all_end 0 cut (take i places) front))
           ∙ ap (λ (rs : List Rec). map (rec_in bytes) (take i places) ++ rs) (cut_records bytes cut (length bytes) (drop i places) back)
           ∙ sym (map-append (rec_in bytes) (take i places) (drop i places))
           ∙ ap (map (rec_in bytes)) (take-append-drop i places);
@@ -130,7 +130,7 @@ moved_down old new from end to down order within e =
       behind = ap (λ (k : ℕ). drop k new) (sym place) ∙ sym (drop-drop rest (to + n) new) ∙ ap (drop rest) back ∙ drop-drop rest (to + n) old ∙ ap (λ (k : ℕ). drop k old) place;
     }
 
--- The rest with a fragment more, which was moved behind it.
+-- The rest with a fragment more, which was moved after it.
 pub extended_spells : (old new : List ℕ) (whole : List Place) (rest : Place) (ends_at at end : ℕ) → IsApart old whole rest → rest.to ≤ at → at + 11 ≤ end → end ≤ length old
     → new ≡ copy_within old (at + 11) end rest.to
     → spelled_in new whole ends_at (record { at = rest.at; from = rest.from; to = rest.to + (end - (at + 11)) })

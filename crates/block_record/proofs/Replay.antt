@@ -74,7 +74,7 @@ chunk_here bytes more at log kind payload e fits = record { stands = stands_from
 pub behind : (bytes part more : List ℕ) (at n : ℕ) → drop at bytes ≡ part ++ more → length part ≡ n → drop (at + n) bytes ≡ more
 behind bytes part more at n e len = sym (drop-drop n at bytes) ∙ ap (drop n) e ∙ drop_at part more n len
 
--- The next place is behind the zeros.
+-- The next place is after the zeros.
 pub next_is : (at : ℕ) → next_place at ≡ at + length (padding at)
 next_is at = from (nat_lt (left_in_block at) 11) refl
   where
@@ -89,11 +89,11 @@ stays_at at room = from (nat_lt (left_in_block at) 11) refl
     from true e = absurd (omega (arith, ltb-true (left_in_block at) 11 e))
     from false e = rw e refl
 
--- a record that is open, with more behind it
+-- a record that is open, with more after it
 abbrev grown : Rec → List ℕ → Rec
 grown rest more = record { at = rest.at; bytes = rest.bytes ++ more }
 
--- The chunks behind the first complete the record.
+-- The chunks after the first complete the record.
 later_read : (sure : Bool) (n : ℕ) (bytes more part : List ℕ) (log at to : ℕ) (so_far : Spelled) (links : List Link) → at % 32768 ≡ 0 → suc n ≡ blocks_for (length part)
     → to ≡ at + length (later_chunks log (cut (suc n) part)) → drop at bytes ≡ later_chunks log (cut (suc n) part) ++ more → Reads sure bytes log at true links
     → Outcome sure bytes log at links so_far to false (ended so_far to (grown so_far.rest part))
@@ -167,7 +167,7 @@ record_chunks sure bytes more part log at place to so_far links stands room end 
         subst (λ (n : ℕ). Outcome sure bytes log at links so_far to false (ended so_far to (record { at = n; bytes = first ++ rest }))) stands done in
         subst (λ (t : List ℕ). Outcome sure bytes log at links so_far to false (ended so_far to (record { at = place; bytes = t }))) (take-append-drop (room_at place) part) placed
 
--- the place behind a record's last chunk
+-- the place after a record's last chunk
 abbrev pub chunks_end : ℕ → ℕ → List ℕ → ℕ
 chunks_end log place part = place + length (chunks log (fragments place part))
 
@@ -234,7 +234,7 @@ pub none_left : (bytes : List ℕ) (log at : ℕ) (is_open : Bool) (links : List
 none_left bytes log at is_open [] none h = refl
 none_left bytes log at is_open (link ∷ links) none h = absurd (none link.kind link.payload h.1)
 
--- Records that were laid are read where no chunk of the log stands right behind them.
+-- Records that were laid are read where no chunk of the log stands right after them.
 pub laid_is_read : (log : ℕ) (records : List (List ℕ)) (bytes tail : List ℕ) (found : List Rec) (ends_at : ℕ) (torn : Bool) → bytes ≡ laid log 0 records ++ tail
     → ((kind : ChunkKind) (payload : List ℕ) → ChunkAt bytes (length (laid log 0 records)) log kind payload → ⊥) → ReadsOut bytes log found ends_at torn
     → map (λ (r : Rec). r.bytes) found ≡ records

@@ -10,10 +10,10 @@ use Rattle.crc_chunk.specs.Chunk.{chunk, type_byte, ChunkAt}
 use Rattle.crc_chunk.proofs.Laws.{FieldsAt, fields_of, byte_read}
 use Rattle.block_record.specs.declared.records.ReadOut.{ReadOut}
 use Rattle.block_record.specs.ReadOut.{MayFollow, leaves_open, next_place, Spelled, after_link, ReadsOut}
-use Rattle.block_record.specs.Joined.{fragment, SameBehind, Joined}
+use Rattle.block_record.specs.Joined.{fragment, SameAfter, Joined}
 use Rattle.block_record.proofs.Chains.{LeftToRead, read_more, ends_more, all_read, not_before}
 
--- What is behind a place is so behind each later one.
+-- What is after a place is so after each later one.
 pub behind_later : (old new : List ℕ) (at later : ℕ) → at ≤ later → drop at new ≡ drop at old → drop later new ≡ drop later old
 behind_later old new at later le e =
     let more : ℕ = later - at in
@@ -44,7 +44,7 @@ chunk_tears {bytes} {log} {kind} {payload} ends_at at le h =
     let byte : get_or (drop ends_at bytes) i 0 ≡ type_byte kind = get_or-drop ends_at bytes i 0 ∙ ap (λ (k : ℕ). get_or bytes k 0) place ∙ byte_read f.type_is in
     list_any_at (λ (b : ℕ). not (b == 0)) (drop ends_at bytes) i 0 (omega (arith, f.fits, length-drop ends_at bytes)) (ap (λ (b : ℕ). not (b == 0)) byte ∙ some_type kind)
 
--- The last record ends here, or one is open and not all bytes behind the last are zero.
+-- The last record ends here, or one is open and not all bytes after the last are zero.
 abbrev pub EndsOrTears : List ℕ → ℕ → ℕ → Bool → Type 0
 EndsOrTears bytes at ends_at false = ends_at ≡ at
 EndsOrTears bytes at ends_at true = list_any (λ (b : ℕ). not (b == 0)) (drop ends_at bytes) ≡ true
@@ -60,7 +60,7 @@ pub tears_more : {bytes : List ℕ} {log : ℕ} (start end : ℕ) (so_far more :
     → start + 11 + length payload ≡ end → more ≡ after_link start so_far (record { kind = kind; payload = payload }) → opened ≡ leaves_open kind → EndsOrTears bytes end more.ends_at opened
 tears_more start end so_far more kind payload opened le h e is opens = rw (is, opens) (tears_after start end so_far kind payload le h e)
 
--- Whether a byte behind the last record is not zero, as the walk can tell at its end.
+-- Whether a byte after the last record is not zero, as the walk can tell at its end.
 pub torn_is : (old new : List ℕ) (at ends_at : ℕ) (is_open torn : Bool) → EndsOrTears old at ends_at is_open → drop at new ≡ drop at old
     → torn ≡ (is_open || list_any (λ (b : ℕ). not (b == 0)) (drop at new)) → torn ≡ list_any (λ (b : ℕ). not (b == 0)) (drop ends_at old)
 torn_is old new at ends_at false torn ends e is = is ∙ ap (list_any (λ (b : ℕ). not (b == 0))) (e ∙ ap (λ (k : ℕ). drop k old) (sym ends))
@@ -69,7 +69,7 @@ torn_is old new at ends_at true torn tears e is = is ∙ sym tears
 -- So far the bytes were walked over: what they spell is what is joined, and from here on they are as they were.
 pub record Walked (old : List ℕ) (log at : ℕ) (is_open : Bool) (now : Joined) : Type 0 where
   pub left : LeftToRead old log at is_open now.spelled
-  pub same : SameBehind at old now.bytes
+  pub same : SameAfter at old now.bytes
   pub within : at ≤ length now.bytes
   pub reach : now.reach ≤ at
   pub ended : now.spelled.ends_at ≤ at
@@ -77,7 +77,7 @@ pub record Walked (old : List ℕ) (log at : ℕ) (is_open : Bool) (now : Joined
 
 pub walked_more : {old seen : List ℕ} {log at : ℕ} {is_open : Bool} {now : Joined} (more : Joined) (kind : ChunkKind) (start end : ℕ) (opened : Bool) → Walked old log at is_open now → seen ≡ now.bytes
     → MayFollow is_open kind → ChunkAt seen (next_place at) log kind (fragment seen (next_place at) end) → (start ≡ next_place at) × (start + 11 ≤ end) × (end ≤ length seen)
-    → SameBehind end now.bytes more.bytes → more.reach ≤ end → more.spelled ≡ after_link start now.spelled (record { kind = kind; payload = fragment now.bytes start end })
+    → SameAfter end now.bytes more.bytes → more.reach ≤ end → more.spelled ≡ after_link start now.spelled (record { kind = kind; payload = fragment now.bytes start end })
     → opened ≡ leaves_open kind → Walked old log end opened more
 walked_more {old} {seen} {log} {at} {is_open} {now} more kind start end opened w e follows stands place same reach is opens =
     let payload : List ℕ = fragment now.bytes start end in

@@ -14,7 +14,7 @@ pub record Standing : Type 0 where
 abbrev pub left_in_block : ℕ → ℕ
 left_in_block at = BLOCK - at % BLOCK
 
--- the payload that the block of a place has room for, behind a header
+-- the payload that the block of a place has room for, after a header
 abbrev pub room_at : ℕ → ℕ
 room_at at = left_in_block at - HEADER
 
@@ -27,7 +27,7 @@ cut (suc n) bytes = take (room_at 0) bytes ∷ cut n (drop (room_at 0) bytes)
 abbrev pub blocks_for : ℕ → ℕ
 blocks_for len = div_ceil len (room_at 0)
 
--- the fragments behind the first
+-- the fragments after the first
 abbrev pub later_fragments : List ℕ → List (List ℕ)
 later_fragments bytes = cut (blocks_for (length bytes)) bytes
 
@@ -35,7 +35,7 @@ later_fragments bytes = cut (blocks_for (length bytes)) bytes
 abbrev pub fragments : ℕ → List ℕ → List (List ℕ)
 fragments at bytes = take (room_at at) bytes ∷ later_fragments (drop (room_at at) bytes)
 
--- the chunks of the fragments behind the first
+-- the chunks of the fragments after the first
 abbrev pub later_chunks : ℕ → List (List ℕ) → List ℕ
 later_chunks log [] = []
 later_chunks log (part ∷ []) = chunk Last log part
@@ -51,7 +51,7 @@ chunks log (part ∷ next ∷ parts) = chunk First log part ++ later_chunks log 
 abbrev pub padding : ℕ → List ℕ
 padding at = if nat_lt (left_in_block at) HEADER then replicate (left_in_block at) 0 else []
 
--- bytes at a place, with the zeros behind them
+-- bytes at a place, with the zeros after them
 abbrev pub padded : ℕ → List ℕ → List ℕ
 padded at bytes = bytes ++ padding (at + length bytes)
 

@@ -31,7 +31,7 @@ leaves_open Last = false
 abbrev pub next_place : ℕ → ℕ
 next_place at = if nat_lt (left_in_block at) HEADER then at + left_in_block at else at
 
--- the place behind a chunk that stands here
+-- the place after a chunk that stands here
 abbrev pub chunk_end : ℕ → Link → ℕ
 chunk_end start link = start + HEADER + length link.payload
 
@@ -46,7 +46,7 @@ pub record IsLongestChain (bytes : List ℕ) (log at : ℕ) (is_open : Bool) (li
   pub chain : IsChain bytes log at is_open links
   pub longest : (others : List Link) → IsChain bytes log at is_open others → length others ≤ length links
 
--- what a chain has spelled so far: whole records, the place behind the last of them, and what there is of the record that is open
+-- what a chain has spelled so far: whole records, the place after the last of them, and what there is of the record that is open
 pub record Spelled : Type 0 where
   pub records : List Rec
   pub ends_at : ℕ
@@ -85,7 +85,7 @@ spelled_from at so_far (link ∷ links) = spelled_from (chunk_end (next_place at
 abbrev pub nothing : Spelled
 nothing = record { records = []; ends_at = 0; rest = no_rest }
 
--- A segment reads as these whole records, ends here, and has other bytes than zeros behind it.
+-- A segment reads as these whole records, ends here, and has other bytes than zeros after it.
 pub record ReadsOut (bytes : List ℕ) (log : ℕ) (records : List Rec) (ends_at : ℕ) (torn : Bool) : Type 0 where
   pub links : List Link
   pub longest : IsLongestChain bytes log 0 false links
@@ -105,8 +105,8 @@ NoChunkAt bytes at log = (kind : ChunkKind) (payload : List ℕ) → ¬ ChunkAt 
 abbrev pub ChunksStandIn : List ℕ → ℕ → List ℕ → Type 0
 ChunksStandIn others log bytes = (at : ℕ) (kind : ChunkKind) (payload : List ℕ) → ChunkAt bytes at log kind payload → ChunkAt others at log kind payload
 
--- The first of the records were read, and each that is laid within so many bytes is among them.
-pub record ReadsFirst (log within : ℕ) (records read : List (List ℕ)) : Type 0 where
+-- A prefix of the records was read, and each that is laid within so many bytes is in it.
+pub record ReadsPrefix (log within : ℕ) (records read : List (List ℕ)) : Type 0 where
   pub count : ℕ
   pub first : read ≡ take count records
   pub all_within : (k : ℕ) → k ≤ length records → length (laid log 0 (take k records)) ≤ within → k ≤ count

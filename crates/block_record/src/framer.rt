@@ -80,7 +80,7 @@ fn append_chunks(out: &mut Buf, log: u32, place: usize, bytes: &[u8]) -> Result<
     append_later(out, log, rest)
 }
 
-/// How many zeros stand behind a chunk that ends at this place.
+/// How many zeros stand after a chunk that ends at this place.
 fn padding_len(place: usize) -> usize
     ensures zeros { padding place ≡ replicate result 0 }
     ensures few { result ≤ 10 }
@@ -122,7 +122,7 @@ impl Framer {
         len + padding_len(self.place + len)
     }
 
-    /// Appends the chunks of one record to `out`, and moves on behind them.
+    /// Appends the chunks of one record to `out`, and moves on after them.
     ///
     /// The record has at most `RECORD_MAX` bytes. Where memory runs out, both stay as they were.
     pub fn frame(&mut self, bytes: &[u8], out: &mut Buf) -> Result<(), NoMemory>

@@ -4,7 +4,7 @@ ghost use Rattle.std.specs.Prelude.{◌≡◌, ◌+◌, ◌-◌, ◌≤◌, ◌+
 ghost use Rattle.std.specs.List.{All};
 ghost use Rattle.crc_chunk.specs.declared.chunk.ChunkKind.TheVariants.{First, Middle};
 ghost use Rattle.block_record.specs.ReadOut.{nothing, ended, after_link};
-ghost use Rattle.block_record.specs.Joined.{rec_in, rec_behind, AreApart, StandsBetween, SameBehind, link_in};
+ghost use Rattle.block_record.specs.Joined.{rec_in, rec_after, AreApart, StandsBetween, SameAfter, link_in};
 
 use crate::records::{ReadOut, Rec, Records};
 use crc_chunk::{ChunkKind, HEADER};
@@ -19,13 +19,13 @@ struct Place {
     at: usize,
     /// The place of its first byte.
     from: usize,
-    /// The place behind its last byte.
+    /// The place after its last byte.
     to: usize,
 }
 
 /// A segment as far as it was read: whole records, and what there is of the one that is open.
 ///
-/// No byte behind that one is changed.
+/// No byte after that one is changed.
 #[derive(Drop)]
 pub struct Joining {
     bytes: Vec<u8>,
@@ -49,7 +49,7 @@ impl Model for Joining {
 const PIECE: usize = 1 << 20;
 
 /// How many pieces are cut off a segment at most: a longer segment has longer pieces. Each is cut off in a call within
-/// the call for the one behind it, so this bounds the stack.
+/// the call for the one after it, so this bounds the stack.
 const PIECES: usize = 256;
 
 /// The first record of the last piece: the last record that has `size` bytes from its front on, or the first.
@@ -70,7 +70,7 @@ fn add_parts(
     records: &mut Records,
 ) -> Result<(), NoMemory>
     requires { All (StandsBetween cut (cut + length piece.now)) places.now }
-    ensures { OnOk result (records.new ≡ records.old ++ map (rec_behind cut piece.now) places.now) }
+    ensures { OnOk result (records.new ≡ records.old ++ map (rec_after cut piece.now) places.now) }
 {
     for place in places {
         let bytes = piece.part(place.from - cut, place.to - cut)?;
@@ -147,12 +147,12 @@ impl Joining {
         self.rest = Place { at, from, to: end };
     }
 
-    /// Adds the fragment of the chunk that stands at this place: it is moved right behind those before it.
+    /// Adds the fragment of the chunk that stands at this place: it is moved right after those before it.
     fn extend(&mut self, at: usize, end: usize)
         requires order { at + HEADER ≤ end }
         requires within { end ≤ length self.old.bytes }
         requires behind { self.old.reach ≤ at }
-        ensures bytes { SameBehind end self.old.bytes self.new.bytes }
+        ensures bytes { SameAfter end self.old.bytes self.new.bytes }
         ensures reach { self.new.reach ≤ end }
         ensures spelled { self.new.spelled ≡ after_link at self.old.spelled (link_in self.old.bytes Middle at end) }
     {
@@ -184,7 +184,7 @@ impl Joining {
         requires order { at + HEADER ≤ end }
         requires within { end ≤ length self.old.bytes }
         requires behind { self.old.reach ≤ at }
-        ensures bytes { OnOk result (SameBehind end self.old.bytes self.new.bytes) }
+        ensures bytes { OnOk result (SameAfter end self.old.bytes self.new.bytes) }
         ensures reach { OnOk result (self.new.reach ≤ end) }
         ensures spelled { OnOk result (self.new.spelled ≡ after_link at self.old.spelled (link_in self.old.bytes kind at end)) }
     {

@@ -1,6 +1,6 @@
 //! Records as chunks over the blocks of a segment, and back.
 //!
-//! `Framer` cuts records into chunks, one record after another, and writes them behind what a buffer holds. What
+//! `Framer` cuts records into chunks, one record after another, and writes them after what a buffer holds. What
 //! it writes is the one framing that the definition gives, the zeros at a block's end included. `read_out` finds
 //! the records that a segment's longest chain of chunks spells, whatever the segment's bytes are. `read_out_shared`
 //! does so in the segment's own bytes, which it takes over: its records are parts of them.
@@ -21,4 +21,4 @@ mod theorems;
 pub use framer::{Framer, RECORD_MAX};
 pub use reading::{read_out, read_out_shared};
 pub use records::{ReadOut, Rec, Records};
-pub use theorems::{first_records_are_read, laid_records_are_read, next_record_is_laid_behind};
+pub use theorems::{first_records_are_read, laid_records_are_read, next_record_is_laid_after};

@@ -60,7 +60,7 @@ fn may_follow(is_open: bool, kind: ChunkKind) -> bool
     }
 }
 
-/// Whether a record is open behind a chunk of this kind.
+/// Whether a record is open after a chunk of this kind.
 fn opens(kind: ChunkKind) -> bool
     ensures { result ≡ leaves_open kind }
 {
@@ -93,7 +93,7 @@ fn has_nonzero(bytes: &[u8]) -> bool
     bytes.iter().any(|byte| *byte != 0)
 }
 
-/// Whether a byte behind the last record is not zero. A record that is open has a header there, which is not.
+/// Whether a byte after the last record is not zero. A record that is open has a header there, which is not.
 fn is_torn(is_open: bool, rest: &[u8]) -> bool
     ensures { result ≡ (is_open || list_any (λ b. not (b == 0)) rest.now) }
 {

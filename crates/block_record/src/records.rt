@@ -19,7 +19,7 @@ pub type Records = ListOf<Rec>;
 pub struct ReadOut {
     /// The records that are whole.
     pub records: Records,
-    /// The place behind the last of them, counted from the segment's front.
+    /// The place after the last of them, counted from the segment's front.
     pub ends_at: u64,
     /// Whether a byte from there on is not zero.
     pub torn: bool,

@@ -2,7 +2,7 @@ use crate::{Framer, ReadOut, read_out, read_out_shared};
 use std::process::Abort;
 use wal_base::{Buf, NoMemory};
 
-/// Behind a checksum, from this place on, there are a payload's length, a type and the log number 1.
+/// After a checksum, from this place on, there are a payload's length, a type and the log number 1.
 fn stands(rt: &impl Abort, bytes: &[u8], from: usize, len: u16, kind: u8) {
     let len = len.to_le_bytes();
     match bytes.get(from..) {

@@ -7,7 +7,7 @@ use Rattle.crc_chunk.specs.declared.table.TheConstants.{ROWS}
 use Rattle.crc_chunk.specs.Zeros.{over_zeros}
 use Rattle.crc_chunk.proofs.Steps.{zeros_on}
 
--- rows one after another, each of them eight zero bits behind the one before
+-- rows one after another, each of them eight zero bits after the one before
 rows_from : ℕ → List ℕ → List ℕ
 rows_from zero row = []
 rows_from (suc k) row = row ++ rows_from k (map (over_zeros 8) row)

@@ -25,7 +25,7 @@ pub enum ChunkKind {
     Full,
     /// The beginning of a record.
     First,
-    /// A part with others before and behind it.
+    /// A part with others before and after it.
     Middle,
     /// The end of a record.
     Last,
@@ -38,7 +38,7 @@ pub struct ChunkSpan {
     pub kind: ChunkKind,
     /// The place of the payload's first byte, counted from the block's first.
     pub from: usize,
-    /// The place behind the payload's last byte, where the next chunk may begin.
+    /// The place after the payload's last byte, where the next chunk may begin.
     pub to: usize,
 }
 

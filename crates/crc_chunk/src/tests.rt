@@ -39,7 +39,7 @@ fn checksums_of_the_examples(rt: HostRuntime) {
     assert_eq!(rt; masked(0xe306_9283).to_le_bytes(), [0xe5, 0xb0, 0x8a, 0xc7]);
 }
 
-// Each number of bytes that can be left behind the turns of sixteen and eight.
+// Each number of bytes that can be left after the turns of sixteen and eight.
 #[test]
 fn checksums_at_each_length(rt: HostRuntime) {
     for len in 0..=BYTES.len() {

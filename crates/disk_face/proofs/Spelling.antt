@@ -55,7 +55,7 @@ no_dash width n i low below = not_in_digits own (filled width n) 45 (filled_digi
 pub filled_ascii : (width n : ℕ) → n < 2 ^ 64 → IsAscii (filled width n)
 filled_ascii width n low = IsAscii-from_digits (filled width n) (filled_digits width n low)
 
--- the index is digits behind a dash, or not written
+-- the index is digits after a dash, or not written
 pub index_ascii : (index : ℕ) → index < 2 ^ 64 → IsAscii (index_text index)
 index_ascii zero low = λ i. omega arith
 index_ascii (suc n) low = IsAscii-append (45 ∷ []) (filled 3 (suc n)) dash_ascii (filled_ascii 3 (suc n) low)

@@ -34,7 +34,7 @@ pub record File : Type 0 where
   pub created : Bool
   -- whether its removal was begun and not completed
   pub leaving : Bool
-  -- what a read gives: the first `done` bytes, and after a failed write any bytes behind them
+  -- what a read gives: the first `done` bytes, and after a failed write any bytes after them
   pub reads : List ℕ
 
 -- the file at each place that has one

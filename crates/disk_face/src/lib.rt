@@ -1,7 +1,7 @@
 //! The disk as the log sees it: two directories of segments, the tables in the primary one, and operations
 //! that are started and polled.
 //!
-//! Stands on `wal_base`: its lists, its want of memory, and its rule that a fault is answered only where a
+//! Stands on `wal_base`: its lists, its `NoMemory`, and its rule that a fault is answered only where a
 //! count of faults rose. The layers above use the traits [`Disk`], [`TableDisk`] and [`StallDisk`], [`ScriptDisk`]
 //! where a script says which polls are stalled, [`Scripted`] to say which of them it answers itself, and [`NoDisk`]
 //! where nothing is to be kept.

@@ -12,7 +12,7 @@ use crate::{
 use std::alloc::Global;
 use wal_base::NoMemory;
 
-/// A disk without files. It starts nothing for want of memory, so nothing that it stalls is ever polled.
+/// A disk without files. It is always out of memory for a start, so nothing that it stalls is ever polled.
 #[derive(Debug, Drop)]
 pub struct NoDisk {
     alloc: Global,

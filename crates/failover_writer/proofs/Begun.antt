@@ -1,4 +1,4 @@
--- A segment that is begun stands behind the others, and they stay as they are.
+-- A segment that is begun stands after the others, and they stay as they are.
 use Rattle.std.proofs.Common.{◌≡◌, ◌≢◌, inl, inr, ℕ, suc, ◌≤◌, ◌<◌, Bool, List, [], ◌∷◌, ◌++◌, length, None, map, Some, IsTrue, ap, sym, subst, ◌∙◌, refl, arith}
 use Rattle.std.specs.Prelude.{Contains, count_by}
 use Rattle.std.proofs.lemmas.List.{length-append, map-append, take-append-le}

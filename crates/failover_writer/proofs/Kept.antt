@@ -1,4 +1,4 @@
--- Whatever a stop leaves of a journal: its segments merge to the first of its records, with all that are acked.
+-- Whatever a stop leaves of a journal: its segments merge to a prefix of its records, with all that are acked.
 use Rattle.std.proofs.Common.{◌≡◌, ◌≢◌, ◌⊎◌, inl, inr, ℕ, suc, ◌+◌, ◌≤◌, Bool, List, [], ◌∷◌, length, map, take, Option, None, IsTrue, ap, sym, subst, ◌∙◌, refl, arith}
 use Rattle.std.specs.Prelude.{max, Contains}
 use Rattle.std.specs.List.{AllByRecursion}
@@ -122,7 +122,7 @@ module _ (opening : Files) (state : State) (now : Files) (opened : IsOpenedOn op
 
 -- ---- the run
 
--- A stop leaves the first of the records, with all that are acked.
+-- A stop leaves a prefix of the records, with all that are acked.
 pub run_kept_now : (tells : Bool) (records : List Batch) (opening : Files) (state : State) (v : DiskView) → IsTrue tells → StandsFor tells records state v → IsOpenedOn opening state (files v)
     → KeepsRun state.wal state.base records (acked state) opening (files v)
 run_kept_now tells records opening state v told stands opened dirs image chance_free = record {

@@ -21,7 +21,7 @@ pub all_back : {X : Type 0} (P : X → Type 0) (front back : List X) → AllByRe
 all_back P [] back all = all
 all_back P (x ∷ front) back all = all_back P front back all.1
 
--- A list has its element at a place between what is before it and what is behind it.
+-- A list has its element at a place between what is before it and what is after it.
 pub split_at : {X : Type 0} (xs : List X) (index : ℕ) (x : X) → slice_get xs index ≡ Some x → xs ≡ take index xs ++ x ∷ drop (suc index) xs
 split_at [] index x is = cc
 split_at (y ∷ xs) zero x is = let same : y ≡ x = cc in ap (λ z. z ∷ xs) same

@@ -91,7 +91,7 @@ other_index w u differ same = differ (let names : w.name ≡ u.name = cc in ap (
 
 -- What holds of each segment of another file and of the changed one holds of all.
 module _ (P Q : Writer → Type 0) (old new : Writer) (elsewhere : (w : Writer) → place_of_writer w ≢ place_of_writer old → P w → Q w) where
-  -- no segment behind has this index
+  -- no segment after has this index
   others_behind : (wal index synced : ℕ) (writers : List Writer) → old.name.index < index → AreJoined wal index synced writers → AllByRecursion P writers → AllByRecursion Q writers
   unfolding AreJoined
   others_behind wal index synced [] below joined all = tt

@@ -1,4 +1,4 @@
--- Files whose segments are stable in full open a journal: what an image has behind the bytes that were sent adds no chunk, so
+-- Files whose segments are stable in full open a journal: what an image has after the bytes that were sent adds no chunk, so
 -- each of its segments holds what was read, and the listing is the same with those contents in place.
 use Rattle.batch_repr.specs.declared.limits.TheConstants.{NUMBER_FIRST}
 use Rattle.std.proofs.Common.{◌≡◌, ◌≢◌, inl, inr, ℕ, suc, ◌+◌, ◌<◌, ◌≤◌, Bool, false, List, [], ◌∷◌, ◌++◌, length, map, take, drop, Option, Some, None, ap, sym, subst, ◌∙◌, refl, arith}
@@ -53,7 +53,7 @@ holds_same log bytes others batches there back holds = record {
   counted_are = holds.counted_are;
 }
 
--- What stands stands still with more bytes behind.
+-- What stands stands still with more bytes after.
 stands_behind : (log : ℕ) (sent rest : List ℕ) → ChunksStandIn (sent ++ rest) log sent
 stands_behind log sent rest at kind payload here =
     let size : ℕ = length (chunk kind log payload) in
@@ -122,7 +122,7 @@ has_file p None content im = absurd im
 has_file p (Some f) content im = (f, refl)
 
 module _ (now : Files) (rested : IsRested now) (stable : AreSegmentsStable now) (dirs : Dirs) (image : IsImage now dirs) (chance_free : IsChanceFree IsChunkOf now dirs) where
-  -- A segment stands in the image with all that was sent, and what else is behind it.
+  -- A segment stands in the image with all that was sent, and what else is after it.
   content_of : (side : Side) (name : SegName) (f : File) → IsSegmentName name → now (segment side name) ≡ Some f → (rest : List ℕ) × (dirs (segment side name) ≡ Some (f.sent ++ rest))
   content_of side name f named is =
       let p : Place = segment side name in
@@ -130,7 +130,7 @@ module _ (now : Files) (rested : IsRested now) (stable : AreSegmentsStable now) 
       let has = image_of_created side name f (dirs p) (subst (λ (o : Option File). IsImageOf p o (dirs p)) is (image p)) s.created s.stays in
       (has.2.0, has.1 ∙ ap Some (has.2.1 ∙ ap (λ (front : List ℕ). front ++ has.2.0) (take_all f.stable f.sent (omega (arith, s.whole)))))
 
-  -- No chunk of it reaches behind what was sent.
+  -- No chunk of it reaches after what was sent.
   stood_before : (side : Side) (name : SegName) (f : File) (rest : List ℕ) → now (segment side name) ≡ Some f → dirs (segment side name) ≡ Some (f.sent ++ rest) → ChunksStandIn f.sent (log_number name.wal) (f.sent ++ rest)
   stood_before side name f rest is has at kind payload here =
       let log : ℕ = log_number name.wal in
@@ -232,7 +232,7 @@ stable_opens wal base now rested stable read above = record {
   recovers = λ dirs image chance_free. stable_recovers now rested stable dirs image chance_free base read;
 }
 
--- ---- behind a recovery that only synced
+-- ---- after a recovery that only synced
 
 -- The next WAL is above that of each segment of files at rest.
 pub rested_above : (wal : ℕ) (now : Files) → IsRested now → IsNextWal (dirs_as_read now) wal

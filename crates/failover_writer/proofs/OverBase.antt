@@ -1,4 +1,4 @@
--- What a stop leaves recovers to the base, and behind it the first of the journal's records.
+-- What a stop leaves recovers to the base, and after it a prefix of the journal's records.
 use Rattle.batch_repr.specs.declared.limits.TheConstants.{NUMBER_FIRST}
 use Rattle.std.proofs.Common.{◌≡◌, ◌≢◌, inl, inr, ℕ, suc, ◌<◌, ◌≤◌, List, [], ◌∷◌, ◌++◌, take, Option, Some, None, ap, sym, subst, ◌∙◌, refl, arith}
 use Rattle.std.specs.Prelude.{Contains}

@@ -22,7 +22,7 @@ use Rattle.wal_recovery.specs.Listing.{Stored, place_in, AreByIndex, StandsIn}
 use Rattle.wal_recovery.specs.Recovering.{log_number, taking_numbers, Spell, HoldsBatches, HoldRow}
 use Rattle.log_writer.specs.Writer.{Writer}
 use Rattle.log_writer.specs.Fits.{Fits, place_of_writer}
-use Rattle.log_writer.specs.Kept.{IsFirstOf, IsKeptAs}
+use Rattle.log_writer.specs.Kept.{IsPrefixRead, IsKeptAs}
 use Rattle.log_writer.proofs.Laws.{fits_kept}
 use Rattle.failover_writer.specs.State.{most_synced}
 use Rattle.failover_writer.specs.Ranges.{side_at, AreJoined, IsSpelled}
@@ -86,7 +86,7 @@ kept_holds log content from synced records are low kept = (
     reading : Reading content log
     reading = readable content log
 
-    first : IsFirstOf from synced records (bytes_of reading.records)
+    first : IsPrefixRead from synced records (bytes_of reading.records)
     first = kept reading.records reading.ends_at reading.torn reading.read
 
     count_is : first.count ≡ from + first.count - from

@@ -1,4 +1,4 @@
--- A record comes behind the others. What it is numbered by, and what the queue holds with it.
+-- A record comes after the others. What it is numbered by, and what the queue holds with it.
 use Rattle.std.proofs.Common.{◌≡◌, ℕ, ◌+◌, ◌<◌, ◌≤◌, Bool, List, [], ◌∷◌, ◌++◌, length, drop, ap, sym, ◌∙◌, arith}
 use Rattle.std.proofs.lemmas.List.{length-append, length-drop, drop-append-le}
 use Rattle.batch_repr.specs.declared.batch.Batch.{Batch}

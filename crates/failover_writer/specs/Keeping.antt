@@ -35,7 +35,7 @@ pub record SegmentsMerge (dirs : Dirs) (wal first : ℕ) (batches : List Batch) 
 abbrev pub IsSameElsewhere : ℕ → Dirs → Dirs → Type 0
 IsSameElsewhere wal dirs others = (p : Place) → IsElsewhere wal p → dirs p ≡ others p
 
--- The segments of the journal's WAL merge to the first of its records, with all that are acked. Every other file is as in an
+-- The segments of the journal's WAL merge to a prefix of its records, with all that are acked. Every other file is as in an
 -- image of the opening.
 pub record IsRunOver (wal first : ℕ) (records : List Batch) (acked : ℕ) (opening : Files) (dirs : Dirs) : Type 0 where
   pub count : ℕ
@@ -51,7 +51,7 @@ pub record IsRunOver (wal first : ℕ) (records : List Batch) (acked : ℕ) (ope
 abbrev pub KeepsRun : ℕ → ℕ → List Batch → ℕ → Files → Files → Type 0
 KeepsRun wal first records acked opening now = (dirs : Dirs) → IsImage now dirs → IsChanceFree IsChunkOf now dirs → IsRunOver wal first records acked opening dirs
 
--- The directories recover to the base followed by the first of the records, with all that are acked.
+-- The directories recover to the base followed by a prefix of the records, with all that are acked.
 abbrev pub RecoversWith : List Batch → List Batch → ℕ → Dirs → Type 0
 RecoversWith base records acked dirs = (count : ℕ) × (acked ≤ count) × (count ≤ length records) × Recovers dirs (base ++ take count records)
 

@@ -89,7 +89,7 @@ abbrev pub EndsGoing : State → State → JournalFault → Type 0
 EndsGoing old new (faults.Dead side count) = Dies old new side count
 EndsGoing old new faults.NoMemory = new ≡ old
 
--- The record is added behind the others; with `sync` all of them are to be synced.
+-- The record is added after the others; with `sync` all of them are to be synced.
 pub record Pushes (added : Batch) (sync : Bool) (old new : State) : Type 0 where
   pub start : new.queue.start ≡ old.queue.start
   pub records : new.queue.records ≡ old.queue.records ++ added ∷ []

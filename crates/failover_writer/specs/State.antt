@@ -12,7 +12,7 @@ pub record State : Type 0 where
   pub wal : ℕ
   -- the number of the first record
   pub base : ℕ
-  -- the number behind the last record
+  -- the number after the last record
   pub next : ℕ
   -- from how many pending polls on a segment hangs
   pub threshold : ℕ

@@ -96,7 +96,7 @@ fn side_at(index: usize) -> Side
 
 impl<D: Disk> Journal<D> {
     /// A journal of no record, for a WAL of which nothing stands. `base` is the number of the first record. It makes no
-    /// disk call. `Err` is want of memory and hands the disk back.
+    /// disk call. `Err` means out of memory and hands the disk back.
     pub fn start(
         alloc: Global,
         disk: D,
@@ -191,7 +191,7 @@ impl<D: Disk> Journal<D> {
         self.records.end()
     }
 
-    /// The number behind the last record.
+    /// The number after the last record.
     pub fn next(&self) -> u64
         ensures { result ≡ self.now.state.next }
     {

@@ -379,7 +379,7 @@ fn long_run(rt: &impl Abort, alloc: Global, steps: u32) -> (Journal<MemDisk>, u3
     (journal, made)
 }
 
-/// What a crash leaves behind the stable bytes of each segment.
+/// What a crash leaves after the stable bytes of each segment.
 #[derive(Clone, Copy, Debug, PartialEq, Eq)]
 enum Tail {
     Nothing,
@@ -395,7 +395,7 @@ fn stable_len(image: &MemDisk, index: u32) -> usize {
     }
 }
 
-/// The bytes sent to a segment behind its stable ones, changed as the tail says.
+/// The bytes sent to a segment after its stable ones, changed as the tail says.
 fn tail_of(
     rt: &impl Abort,
     alloc: Global,
@@ -417,7 +417,7 @@ fn tail_of(
     Some(Blob::copy_of(alloc, bytes.as_slice()).expect(rt, "memory"))
 }
 
-/// The pick of an image in which each segment has this tail behind its stable bytes, as they stand in that image.
+/// The pick of an image in which each segment has this tail after its stable bytes, as they stand in that image.
 fn pick_of(
     rt: &impl Abort,
     alloc: Global,
@@ -444,7 +444,7 @@ fn stopped(rt: &impl Abort, alloc: Global, steps: u32) -> (MemDisk, u64, u64) {
     (journal.into_disk(), acked, len)
 }
 
-/// After so many steps of the long run a crash with this tail leaves the first of the records, with all that were acked.
+/// After so many steps of the long run a crash with this tail leaves a prefix of the records, with all that were acked.
 fn crash(rt: &impl Abort, alloc: Global, steps: u32, tail: Tail) {
     let none = CrashPick {
         files: FilePicks::new(alloc),

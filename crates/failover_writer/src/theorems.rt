@@ -20,13 +20,13 @@ ghost use Rattle.failover_writer.specs.Keeping.{KeepsRun, RecoversTo, OthersStay
 use crate::journal::Journal;
 use disk_face::Disk;
 
-/// A journal keeps its run: in each image its segments merge to the first of its records, with all that are acked, and every
+/// A journal keeps its run: in each image its segments merge to a prefix of its records, with all that are acked, and every
 /// other file is as it was when the journal was begun.
 pub fn a_journal_keeps_its_run()
     ensures { (tells : Bool) (records : List Batch) (opening : Files) (state : State) (v : DiskView) → IsTrue tells → StandsFor tells records state v → IsOpenedOn opening state (files v) → KeepsRun state.wal state.base records (acked state) opening (files v) }
 {}
 
-/// A journal that keeps a base recovers to it, and behind it to the first of its records, with all that are acked.
+/// A journal that keeps a base recovers to it, and after it to a prefix of its records, with all that are acked.
 pub fn a_journal_keeps_its_base()
     ensures { (tells : Bool) (records base : List Batch) (state : State) (v : DiskView) → IsTrue tells → StandsFor tells records state v → KeepsBase tells base state v → RecoversTo base records (acked state) (files v) }
 {}

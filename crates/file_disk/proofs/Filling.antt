@@ -1,4 +1,4 @@
--- A buffer that is filled from the front on: what stands behind the part that was filled stays.
+-- A buffer that is filled from the front on: what stands after the part that was filled stays.
 use Rattle.std.proofs.Common.{◌≡◌, ◌+◌, ◌-◌, ◌≤◌, ℕ, List, length, drop, ap, sym, ◌∙◌, arith}
 use Rattle.std.proofs.lemmas.List.{drop-drop}
 use Rattle.std.proofs.lemmas.Slice.{drop-put_mid}

@@ -28,7 +28,7 @@ pub struct FileDisk<R: Files + AllocGlobal + Clone + Drop> {
 }
 
 impl<R: Files + AllocGlobal + Clone + Drop> FileDisk<R> {
-    /// Works on the files of this runtime. No file and no directory is touched yet. `Err` is want of memory.
+    /// Works on the files of this runtime. No file and no directory is touched yet. `Err` means out of memory.
     pub fn new(runtime: &R) -> Result<Self, NoMemory>
         ensures silent { ⟦<FileDisk<R> as Disk>⟧.tells ≡ false }
         ensures no_faults { IfOk result (λ disk. (s : Side) → (⟦<FileDisk<R> as Disk>⟧.view disk).faults s ≡ 0) }

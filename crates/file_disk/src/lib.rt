@@ -1,6 +1,6 @@
 //! A disk over the files of the system: the directories `./wal` and `./wal_secondary`.
 //!
-//! Stands on `wal_base`, for bytes and want of memory, and on `disk_face`, whose trait `Disk` it meets. The
+//! Stands on `wal_base`, for bytes and `NoMemory`, and on `disk_face`, whose trait `Disk` it meets. The
 //! programs above run their log on [`FileDisk`]. It is part of the trusted edge: what the system does with a file
 //! is not proved, and it tells no content. What no clause can say of it is tested: that a refusal of the system is
 //! answered as a failure, that new names are synced, and that a write to a segment held open opens no path.

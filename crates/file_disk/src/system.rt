@@ -150,7 +150,7 @@ pub fn read<R: Files + AllocGlobal>(
 }
 
 /// Reads to the front of the buffer until it is full or the input ends. What is read stands in a piece of memory first:
-/// the system does not say what it leaves of a buffer behind the bytes that it reads.
+/// the system does not say what it leaves of a buffer after the bytes that it reads.
 fn fill<I: Read>(input: &mut I, piece: &mut Vec<u8>, buf: &mut [u8]) -> io::Result<usize>
     ensures within { IfOk result (λ n. n ≤ length buf.new) }
     ensures behind { IfOk result (λ n. drop n buf.new ≡ drop n buf.old) }

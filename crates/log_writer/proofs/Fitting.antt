@@ -102,7 +102,7 @@ new_fits side name log from log_is tells records v within free absent = record {
   file = absent;
 }
 
--- Records that come behind change nothing.
+-- Records that come after change nothing.
 pub fits_grown : (tells : Bool) (records more : List Batch) (w : Writer) (v : DiskView) → Fits tells records w v → Fits tells (records ++ more) w v
 fits_grown tells records more w v fits = record {
   ordered = record {

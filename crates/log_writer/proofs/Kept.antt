@@ -11,10 +11,10 @@ use Rattle.crc_chunk.specs.Chunk.{chunk, ChunkAt, IsChunkOf}
 use Rattle.batch_repr.specs.declared.batch.Batch.{Batch}
 use Rattle.batch_repr.specs.Written.{written}
 use Rattle.block_record.specs.Framing.{laid}
-use Rattle.block_record.specs.ReadOut.{bytes_of, ReadsFirst, ChunksStandIn}
+use Rattle.block_record.specs.ReadOut.{bytes_of, ReadsPrefix, ChunksStandIn}
 use Rattle.block_record.proofs.Laws.{chunk_len, first_are_read}
 use Rattle.log_writer.specs.Parts.{part, texts, segment_bytes}
-use Rattle.log_writer.specs.Kept.{IsFirstOf, IsKeptAs, SegmentKept, HasSynced, IsKeptFile}
+use Rattle.log_writer.specs.Kept.{IsPrefixRead, IsKeptAs, SegmentKept, HasSynced, IsKeptFile}
 use Rattle.log_writer.proofs.Parts.{part_front, no_bytes}
 
 -- A chunk stands wherever its bytes do.
@@ -40,7 +40,7 @@ module _ (place : Place) (log from synced : ℕ) (records : List Batch) where
 
   -- The records that were read, out of those sent.
   first_of : (f : File) (within : ℕ) (read : List (List ℕ)) (kept : HasSynced log from synced records f) → length (segment_bytes log from synced records) ≤ within
-      → ReadsFirst log within (sent_texts kept.upto) read → IsFirstOf from synced records read
+      → ReadsPrefix log within (sent_texts kept.upto) read → IsPrefixRead from synced records read
   unfolding segment_bytes
   first_of f within read kept covered first = elim (dec_le first.count n) [
     | yes le ↦ record {

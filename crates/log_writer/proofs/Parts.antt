@@ -31,7 +31,7 @@ part_split from mid to records low high =
     ap (λ (n : ℕ). take n (drop from records)) sum ∙ take-add (mid - from) (to - mid) (drop from records)
     ∙ ap (λ (t : List Batch). part from mid records ++ take (to - mid) t) (drop-drop (mid - from) from records ∙ ap (λ (n : ℕ). drop n records) place)
 
--- The bytes of a longer part begin with those of a shorter one, and go on with the records behind it.
+-- The bytes of a longer part begin with those of a shorter one, and go on with the records after it.
 pub bytes_split : (log from mid to : ℕ) (records : List Batch) → from ≤ mid → mid ≤ to
     → segment_bytes log from to records ≡ segment_bytes log from mid records ++ laid log (length (segment_bytes log from mid records)) (texts (part mid to records))
 unfolding segment_bytes
@@ -58,7 +58,7 @@ pub no_bytes : (log from : ℕ) (records : List Batch) → segment_bytes log fro
 unfolding segment_bytes
 no_bytes log from records = let none : from - from ≡ 0 = omega arith in ap (λ (n : ℕ). laid log 0 (texts (take n (drop from records)))) none
 
--- Records behind the last one sent change no byte.
+-- Records after the last one sent change no byte.
 pub bytes_grown : (log from to : ℕ) (records more : List Batch) → from ≤ to → to ≤ length records → segment_bytes log from to (records ++ more) ≡ segment_bytes log from to records
 unfolding segment_bytes
 bytes_grown log from to records more low high =

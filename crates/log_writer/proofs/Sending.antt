@@ -1,4 +1,4 @@
--- One record more is framed behind those of a queue that are framed.
+-- One record more is framed after those of a queue that are framed.
 use Rattle.std.proofs.Common.{◌≡◌, ℕ, suc, ◌+◌, ◌-◌, ◌%◌, ◌<◌, ◌≤◌, List, [], ◌∷◌, ◌++◌, length, take, drop, get_or, sym, ap, ◌∙◌, arith}
 use Rattle.std.proofs.lemmas.List.{length-drop, get_or-drop, append-nil, map-append, drop-drop}
 use Rattle.std.proofs.Math.Seq.{take-suc}
@@ -28,7 +28,7 @@ one_more queue from number rec low le found =
     ∙ ap (λ (b : Batch). take n rest ++ b ∷ []) here
     ∙ ap (λ (i : ℕ). take i rest ++ rec ∷ []) (sym same)
 
--- The next record of the queue is framed behind the others.
+-- The next record of the queue is framed after the others.
 pub framed_more : (queue : Queue) (standing : Standing) (from number : ℕ) (rec : Batch) → queue.start ≤ from → from ≤ number → IsRecordOf queue number rec
     → frames_from queue standing.log standing.place from (number + 1)
     ≡ frames_from queue standing.log standing.place from number ++ framed standing.log ((standing.place + length (frames_from queue standing.log standing.place from number)) % 32768) (written rec)

@@ -9,25 +9,25 @@ use Rattle.block_record.specs.declared.records.Rec.{Rec}
 use Rattle.block_record.specs.ReadOut.{bytes_of, ReadsOut}
 use Rattle.log_writer.specs.Parts.{segment_bytes}
 
--- What is read is the first of the records from `from`, and those synced are among them.
-pub record IsFirstOf (from synced : ℕ) (records : List Batch) (read : List (List ℕ)) : Type 0 where
+-- What is read is a prefix of the records from `from`, which has those synced.
+pub record IsPrefixRead (from synced : ℕ) (records : List Batch) (read : List (List ℕ)) : Type 0 where
   pub count : ℕ
   pub has_synced : synced - from ≤ count
   pub within : from + count ≤ length records
   pub first : read ≡ map written (take count (drop from records))
 
--- The segment that stands reads out as the first of the records, with those synced. Where none stands, nothing was synced.
+-- The segment that stands reads out as a prefix of the records, with those synced. Where none stands, nothing was synced.
 abbrev pub IsKeptAs : ℕ → ℕ → ℕ → List Batch → Option (List ℕ) → Type 0
 IsKeptAs log from synced records None = synced ≡ from
 IsKeptAs log from synced records (Some content) =
-    (found : List Rec) (ends_at : ℕ) (torn : Bool) → ReadsOut content log found ends_at torn → IsFirstOf from synced records (bytes_of found)
+    (found : List Rec) (ends_at : ℕ) (torn : Bool) → ReadsOut content log found ends_at torn → IsPrefixRead from synced records (bytes_of found)
 
 -- It is so in each image of the files that no torn chunk deceives.
 abbrev pub SegmentKept : Place → ℕ → ℕ → ℕ → List Batch → Files → Type 0
 SegmentKept place log from synced records files =
     (dirs : Dirs) → IsImage files dirs → IsChanceFree IsChunkOf files dirs → IsKeptAs log from synced records (dirs place)
 
--- The first of the records from `from` were sent to the file. Where it is created, it stays and those synced are stable; else
+-- A prefix of the records from `from` was sent to the file. Where it is created, it stays and those synced are stable; else
 -- nothing was synced.
 pub record HasSynced (log from synced : ℕ) (records : List Batch) (f : File) : Type 0 where
   pub upto : ℕ

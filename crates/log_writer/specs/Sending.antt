@@ -13,7 +13,7 @@ use Rattle.log_writer.specs.Steps.{sent_with}
 abbrev pub queue_part : Queue → ℕ → ℕ → List Batch
 queue_part queue from to = part (from - queue.start) (to - queue.start) queue.records
 
--- the records of a queue from one number to below another, framed behind that place of a block
+-- the records of a queue from one number to below another, framed after that place of a block
 abbrev pub frames_from : Queue → ℕ → ℕ → ℕ → ℕ → List ℕ
 frames_from queue log place from to = laid log place (texts (queue_part queue from to))
 

@@ -27,7 +27,7 @@ fn room_for(queue: &RecordQueue, from: u64, to: u64) -> usize {
     let mut room: usize = 0;
     for number in from..to {
         let len = queue.get(number).map_or(0, |record| record.bytes().len());
-        // A chunk for each block that is filled, one in front and one behind, and then the zeros of a block's end.
+        // A chunk for each block that is filled, one in front and one after, and then the zeros of a block's end.
         let headers = (len / (BLOCK - HEADER) + 3).saturating_mul(HEADER);
         room = room.saturating_add(len).saturating_add(headers);
     }

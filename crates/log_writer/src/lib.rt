@@ -8,7 +8,7 @@
 //! It stands on `disk_face` for what a disk is, on `record_queue` for the records, on `block_record` for the framing,
 //! on `batch_repr` for what a record's bytes are, on `crc_chunk` for the words of the premise on checksums, and on
 //! `wal_base` for buffers. The layer above uses one contract: a writer that fits its disk fits it after each call, and at
-//! each moment of a call every image that no torn chunk deceives reads out as the first of the records, with all that was
+//! each moment of a call every image that no torn chunk deceives reads out as a prefix of the records, with all that was
 //! synced before the call.
 //!
 //! What holds of each value here: its pending answers are counted to 1,000 and no further. All else that holds is said

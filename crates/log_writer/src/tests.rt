@@ -246,7 +246,7 @@ fn three_records_of_which_two_are_synced(rt: HostRuntime) {
     }
 }
 
-/// What a crash leaves behind the stable bytes.
+/// What a crash leaves after the stable bytes.
 #[derive(Clone, Copy, Debug, PartialEq, Eq)]
 enum Tail {
     Nothing,
@@ -254,7 +254,7 @@ enum Tail {
     LastByteChanged,
 }
 
-/// The bytes that were sent behind the first of so many records, changed as the tail says.
+/// The bytes that were sent after the first of so many records, changed as the tail says.
 fn tail_of(
     rt: &impl Abort,
     alloc: Global,
@@ -277,7 +277,7 @@ fn tail_of(
     (tail != Tail::Nothing).then_some(bytes)
 }
 
-/// What a crash leaves with this tail reads out as the first of the records, with all that is synced.
+/// What a crash leaves with this tail reads out as a prefix of the records, with all that is synced.
 fn crash(rt: &impl Abort, alloc: Global, rig: Rig<MemDisk>, tail: Tail) {
     let from = rig.from();
     let (sent, _, synced) = rig.ends();

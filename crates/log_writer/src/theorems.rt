@@ -11,7 +11,7 @@ ghost use Rattle.log_writer.specs.Writer.{Writer};
 ghost use Rattle.log_writer.specs.Fits.{Fits, SameFile, place_of_writer};
 ghost use Rattle.log_writer.specs.Kept.{IsKeptFile, SegmentKept};
 
-/// A writer that fits a disk fits it for more records too, where they come behind the others.
+/// A writer that fits a disk fits it for more records too, where they come after the others.
 pub fn fits_as_records_come()
     ensures { (tells : Bool) (records more : List Batch) (w : Writer) (v : DiskView) → Fits tells records w v → Fits tells (records ++ more) w v }
 {}

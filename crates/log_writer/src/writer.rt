@@ -29,7 +29,7 @@ pub struct LogWriter {
     pub(crate) synced: u64,
     pub(crate) waiting: u32,
     pub(crate) phase: Phase,
-    // Stands behind the records that were sent.
+    // Stands after the records that were sent.
     pub(crate) framer: Framer,
     pub(crate) alloc: Global,
 }
@@ -49,7 +49,7 @@ impl Model for LogWriter {
 
 impl LogWriter {
     /// A segment that is to begin with the record `from`. `log` is the low 32 bits of the number of its WAL. It asks
-    /// nothing of a disk. `Err` is want of memory.
+    /// nothing of a disk. `Err` means out of memory.
     pub fn new(
         alloc: Global,
         side: Side,

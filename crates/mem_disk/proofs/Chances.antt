@@ -21,7 +21,7 @@ pub sent_where_same : (bytes sent : List ℕ) (log at size : ℕ) (same : Bool) 
 sent_where_same bytes sent log at size same here is =
     ((λ t n h. subst (λ (m : ℕ). take m (drop at bytes) ≡ take m (drop at sent)) (one_size here h) (is.0 t)), (λ all. is.1 (all size here)))
 
--- behind the bytes no chunk stands
+-- after the bytes no chunk stands
 pub sent_within : (bytes sent : List ℕ) (log : ℕ) → ((at : ℕ) → at < length bytes → IsSentAt bytes sent log at) → AreChunksSent bytes sent log
 sent_within bytes sent log below at = elim (dec_le (length bytes) at) [
   | yes le ↦ λ size h. let w = chunk_within h in absurd (omega (arith, le, w.0, w.1))

@@ -15,7 +15,7 @@ use Rattle.mem_disk.specs.Leaving.{IsOneMoreLeft, AreLeft}
 use Rattle.mem_disk.proofs.Held.{held_here, held_skip, before_all_same}
 use Rattle.mem_disk.proofs.Orders.{IsBeforeAll, Ascend, ordered_open, ordered_close}
 
--- behind a file stands none of its segment
+-- after a file stands none of its segment
 pub behind_absent : (x : MemFile) (xs : List MemFile) → IsBeforeAll x xs → files_held xs (segment x.side x.name) ≡ None
 behind_absent x [] up = refl
 behind_absent x (y ∷ ys) up = go (is_at y.side y.name (segment x.side x.name)) refl (behind_absent x ys up.1)
@@ -28,7 +28,7 @@ behind_absent x (y ∷ ys) up = go (is_at y.side y.name (segment x.side x.name))
         absurd (not_before_itself x.name y.name (up.0 sides) names)
     go false at deeper = held_skip y ys (segment x.side x.name) at ∙ deeper
 
--- one file more, behind the others
+-- one file more, after the others
 pub left_more : (picks : List FilePick) (fs : List MemFile) (f : MemFile) (before ms : List MemFile) → AreLeft picks fs before → IsOneMoreLeft picks f before ms → AreLeft picks (fs ++ f ∷ []) ms
 left_more picks [] f before ms none one = (one.0, [], one.1, refl, one.2 ∙ ap (λ (l : List MemFile). l ++ option_to_list one.0) none ∙ sym (append-nil (option_to_list one.0)))
 left_more picks (x ∷ xs) f before ms all one =

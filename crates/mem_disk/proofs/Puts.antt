@@ -66,7 +66,7 @@ passed_before x m e s =
     let sides : side_eq x.side m.side ≡ true = subst (λ (t : Side). side_eq x.side t ≡ true) s (side_eq_self x.side) in
     before_true x.name m.name (not_false _ (rw sides at e))
 
--- the first that is not passed stands behind it
+-- the first that is not passed stands after it
 stopped_behind : (x m : MemFile) → goes_before m.side m.name x ≡ true → is_at x.side x.name (segment m.side m.name) ≡ false → (m.side ≡ x.side) × IsBefore m.name x.name
 stopped_behind x m e at =
     let s : x.side ≡ m.side = side_eq_only x.side m.side (both_left _ _ e) in

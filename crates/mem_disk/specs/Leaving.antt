@@ -13,7 +13,7 @@ pub record IsLeft (picks : List FilePick) (f : MemFile) (left : Option MemFile) 
   pub is_for : IfSome left (IsFor f.side f.name)
   pub bytes : option_map file_of left ≡ option_map whole (picked (Some (file_of f)) (tail_of picks (segment f.side f.name)))
 
--- what a crash leaves of one file is behind what was left before
+-- what a crash leaves of one file is after what was left before
 abbrev pub IsOneMoreLeft : List FilePick → MemFile → List MemFile → List MemFile → Type 0
 IsOneMoreLeft picks f before ms = (left : Option MemFile) × IsLeft picks f left × (ms ≡ before ++ option_to_list left)
 

@@ -84,7 +84,7 @@ fn are_files_sent(alloc: Global, files: &[MemFile], picks: &[FilePick]) -> Resul
 }
 
 /// Whether each whole chunk of its log, in what the picks leave of each file, was sent to its place. `Err` is
-/// want of memory.
+/// out of memory.
 pub fn is_chance_free(
     alloc: Global,
     files: &[MemFile],

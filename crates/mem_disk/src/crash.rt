@@ -11,7 +11,7 @@ use crate::picks::{FilePick, add_tail, kept_len, tail_for};
 use std::alloc::Global;
 use wal_base::NoMemory;
 
-// The bytes are kept where they are: what is not stable is cut off, and the tail put behind it.
+// The bytes are kept where they are: what is not stable is cut off, and the tail put after it.
 fn left_of(file: MemFile, picks: &[FilePick]) -> Result<Option<MemFile>, NoMemory>
     ensures { IfOk result (IsLeft picks.now file) }
 {
@@ -62,7 +62,7 @@ fn all_left(
     Ok(left)
 }
 
-/// The files that a crash leaves, by the picks. Each is whole. `Err` is want of memory.
+/// The files that a crash leaves, by the picks. Each is whole. `Err` means out of memory.
 pub fn files_left(
     alloc: Global,
     files: Vec<MemFile>,

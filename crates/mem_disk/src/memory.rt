@@ -62,7 +62,7 @@ pub struct MemDisk {
 const FIRST_FILES: usize = 8;
 
 impl MemDisk {
-    /// Two empty directories, no fault, no poll to stall, and nothing in flight. `Err` is want of memory.
+    /// Two empty directories, no fault, no poll to stall, and nothing in flight. `Err` means out of memory.
     pub fn new(alloc: Global) -> Result<MemDisk, NoMemory>
         ensures tells { IsTrue ⟦<MemDisk as Disk>⟧.tells }
         ensures empty { IfOk result (λ disk. (p : Place) → files (⟦<MemDisk as Disk>⟧.view disk) p ≡ None) }
@@ -76,7 +76,7 @@ impl MemDisk {
         Ok(holding(alloc, files))
     }
 
-    /// Puts a whole file, all of it stable. No operation may be in flight on it. `Err` is want of memory, and
+    /// Puts a whole file, all of it stable. No operation may be in flight on it. `Err` means out of memory, and
     /// changes nothing.
     pub fn put_file(&mut self, side: Side, name: SegName, bytes: &[u8]) -> Result<(), NoMemory>
         requires absent { files (⟦<MemDisk as Disk>⟧.view self.old) (segment side name) ≡ None }
@@ -102,7 +102,7 @@ impl MemDisk {
     }
 
     /// The operation of that number is to fail, at its first poll that is not stalled. The operations are counted
-    /// from 0, over all starts that were answered `Ok`. `Err` is want of memory.
+    /// from 0, over all starts that were answered `Ok`. `Err` means out of memory.
     pub fn fail_op(&mut self, number: u64) -> Result<(), NoMemory>
         ensures same { ⟦<MemDisk as Disk>⟧.view self.new ≡ ⟦<MemDisk as Disk>⟧.view self.old }
         ensures planned { OnOk result (⟦<MemDisk as Planned>⟧.plan self.new ≡ record (⟦<MemDisk as Planned>⟧.plan self.old) { failing_ops = (⟦<MemDisk as Planned>⟧.plan self.old).failing_ops ++ number ∷ [] }) }
@@ -113,7 +113,7 @@ impl MemDisk {
     }
 
     /// The call of `list` or `read` of that number is to fail. The calls are counted from 0, over both. `Err` is
-    /// want of memory.
+    /// out of memory.
     pub fn fail_call(&mut self, number: u64) -> Result<(), NoMemory>
         ensures same { ⟦<MemDisk as Disk>⟧.view self.new ≡ ⟦<MemDisk as Disk>⟧.view self.old }
         ensures planned { OnOk result (⟦<MemDisk as Planned>⟧.plan self.new ≡ record (⟦<MemDisk as Planned>⟧.plan self.old) { failing_calls = (⟦<MemDisk as Planned>⟧.plan self.old).failing_calls ++ number ∷ [] }) }
@@ -141,7 +141,7 @@ impl MemDisk {
     }
 
     /// The image that the pick names, as a disk in which every byte is stable: no fault, no poll to stall, nothing
-    /// in flight, and no failure asked for. `Err` is want of memory, and gives the disk up.
+    /// in flight, and no failure asked for. `Err` means out of memory, and gives the disk up.
     pub fn crash(self, pick: &CrashPick) -> Result<MemDisk, NoMemory>
         ensures image { IfOk result (λ disk. IsImage (files (⟦<MemDisk as Disk>⟧.view self)) (dirs_as_read (files (⟦<MemDisk as Disk>⟧.view disk)))) }
         ensures picked { IfOk result (λ disk. (p : Place) → dirs_as_read (files (⟦<MemDisk as Disk>⟧.view disk)) p ≡ picked_dirs (files (⟦<MemDisk as Disk>⟧.view self)) pick.now.files p) }
@@ -159,7 +159,7 @@ impl MemDisk {
     }
 
     /// The premise on checksums, of the image that the pick names: whether each whole chunk in it that has the log
-    /// number of its file was sent to its place. `Err` is want of memory.
+    /// number of its file was sent to its place. `Err` means out of memory.
     pub fn chance_free(&self, pick: &CrashPick) -> Result<bool, NoMemory>
         ensures { IfOk result (λ free. IsTrue free ↔ IsChanceFree IsChunkOf (files (⟦<MemDisk as Disk>⟧.view self.now)) (picked_dirs (files (⟦<MemDisk as Disk>⟧.view self.now)) pick.now.files)) }
     {

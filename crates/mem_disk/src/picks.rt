@@ -19,7 +19,7 @@ pub struct FilePick {
     pub side: Side,
     /// Which segment.
     pub name: SegName,
-    /// The bytes behind the stable ones.
+    /// The bytes after the stable ones.
     pub tail: Option<Blob>,
 }
 

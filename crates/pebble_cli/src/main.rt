@@ -12,7 +12,7 @@ use std::{env, io};
 use wal_base::{StdSink, StdSource};
 use wal_top::{NoGate, Status, run};
 
-/// The words behind the program's name.
+/// The words after the program's name.
 fn words_of(alloc: Global, args: Args) -> Result<Vec<String>, AllocError> {
     let mut words = Vec::new(alloc);
     for word in args.skip(1) {

@@ -8,7 +8,7 @@ pub record Queue : Type 0 where
   pub records : List Batch
   pub spare : ℕ
 
--- the number behind the last record that a queue holds
+-- the number after the last record that a queue holds
 abbrev pub queue_end : Queue → ℕ
 queue_end queue = queue.start + length queue.records
 
@@ -24,6 +24,6 @@ IsRecordOf queue number rec = (queue.start ≤ number) × (slice_get queue.recor
 abbrev pub NUMBERS_END : ℕ
 NUMBERS_END = 2 ^ 64 - 1
 
--- how many more fit behind an end: no more than there is room for, and no more than there are numbers
-abbrev pub spare_behind : ℕ → ℕ → ℕ
-spare_behind end room = min room (NUMBERS_END - end)
+-- how many more fit after an end: no more than there is room for, and no more than there are numbers
+abbrev pub spare_after : ℕ → ℕ → ℕ
+spare_after end room = min room (NUMBERS_END - end)

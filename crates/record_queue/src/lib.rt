@@ -4,10 +4,10 @@
 //! write, or to write anew. Room for a record is made before the record is numbered, so that handing it over can't
 //! fail.
 //!
-//! It stands on `batch_repr` for the records and on `wal_base` for want of memory. The layer above uses one
+//! It stands on `batch_repr` for the records and on `wal_base` for `NoMemory`. The layer above uses one
 //! contract: a queue is a list from a start, and after `reserve` one `push` takes no memory.
 //!
-//! What holds of each value here: the number behind the last record fits a `u64`.
+//! What holds of each value here: the number after the last record fits a `u64`.
 #![tactic(auto)]
 
 mod queue;

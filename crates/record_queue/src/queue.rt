@@ -24,11 +24,11 @@ pub struct RecordQueue {
 impl Model for RecordQueue {
     ghost use Rattle.std.specs.Prelude.{◌+◌, ◌-◌, ◌≤◌};
     ghost use Rattle.std.specs.VecDeque.{deque_capacity, deque_len};
-    ghost use Rattle.record_queue.specs.Queue.{Queue, NUMBERS_END, spare_behind};
+    ghost use Rattle.record_queue.specs.Queue.{Queue, NUMBERS_END, spare_after};
 
     ghost Value = { Queue };
 
-    ghost view = { λ a. record { start = a.start; records = a.records.items; spare = spare_behind (a.start + deque_len a.records) (deque_capacity a.records - deque_len a.records) } };
+    ghost view = { λ a. record { start = a.start; records = a.records.items; spare = spare_after (a.start + deque_len a.records) (deque_capacity a.records - deque_len a.records) } };
 
     ghost invariant = { λ a. a.start + deque_len a.records ≤ NUMBERS_END };
 }
@@ -61,7 +61,7 @@ impl RecordQueue {
         self.start
     }
 
-    /// The number behind the last record: the next one pushed has it.
+    /// The number after the last record: the next one pushed has it.
     pub fn end(&self) -> u64
         ensures { result ≡ queue_end self.now }
     {

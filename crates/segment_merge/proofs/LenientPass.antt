@@ -1,4 +1,4 @@
--- One pass over the row where gaps are accepted: append what begins behind all, skip what is kept.
+-- One pass over the row where gaps are accepted: append what begins after all, skip what is kept.
 use Rattle.std.proofs.Common.{◌≡◌, ◌⊎◌, inl, inr, ℕ, ◌+◌, ◌≤◌, ◌<◌, List, [], ◌∷◌, ◌++◌, length, take, drop, get_or, sym, subst, ap, ◌∙◌, refl, arith, Ok, Err, append_assoc, length-append}
 use Rattle.std.specs.Prelude.{Contains, ◌↔◌}
 use Rattle.std.proofs.lemmas.List.{append-nil, map-append, take_more, drop_more, take-append-drop}
@@ -13,7 +13,7 @@ use Rattle.segment_merge.specs.Merging.{all_of, IsAscending}
 use Rattle.segment_merge.specs.Lenient.{IsPast, IsNewOrKept, IsAccepted, IsRowLenientlyRefused}
 use Rattle.segment_merge.specs.Returned.{MemoryOrRefusal}
 use Rattle.segment_merge.specs.Keeping.{Kept}
-use Rattle.segment_merge.specs.Steps.{IsAppendedBehind, IsSkipped, LenientSteps, KeepsLenient}
+use Rattle.segment_merge.specs.Steps.{IsAppendedAfter, IsSkipped, LenientSteps, KeepsLenient}
 use Rattle.segment_merge.proofs.Members.{none_within, within_head, within_tail, within_cases}
 use Rattle.segment_merge.proofs.Contiguous.{end_append}
 use Rattle.segment_merge.proofs.Ascending.{ascending_push}
@@ -100,7 +100,7 @@ module _ (all : List Batch) (kept : Kept) (batch : Batch) (k : KeepsLenient all 
   past : kept.next ≤ batch.first → IsPast all batch
   past above earlier h = omega (arith, above, k.next_is, ends_within 0 kept.batches earlier k.ascending ((k.same earlier).1 h))
 
-  appended : (new : Kept) → 0 < count_of batch.entries → IsAppendedBehind kept new batch → KeepsLenient (all ++ batch ∷ []) new
+  appended : (new : Kept) → 0 < count_of batch.entries → IsAppendedAfter kept new batch → KeepsLenient (all ++ batch ∷ []) new
   unfolding end_after
   appended new some a = record {
     ascending = subst (λ xs. IsAscending 0 xs) (sym a.new_is) (ascending_push 0 kept.batches batch k.ascending (omega (arith, a.above, k.next_is)) some);

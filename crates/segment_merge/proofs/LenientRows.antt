@@ -43,7 +43,7 @@ alone batches = record { index = 0; batches = batches } ∷ []
 pub keeps_alone : (kept : Kept) → KeepsLenient kept.batches kept → KeepsLenient (all_of (batches_in (alone kept.batches))) kept
 keeps_alone kept own = subst (λ (b : List Batch). KeepsLenient b kept) (sym (append-nil kept.batches)) own
 
--- so what is kept behind it is merged too
+-- so what is kept after it is merged too
 pub keeps_on : (row : List SegmentRead) (old new : Kept) (done : Unit {0}) → KeepsLenient old.batches old
     → ((before : List SegmentRead) → KeepsLenient (all_of (batches_in before)) old → RowAnswers before row new (Ok done)) → KeepsLenient new.batches new
 keeps_on row old new done own goes = keeps_own (all_of (batches_in (alone old.batches ++ row))) new (goes (alone old.batches) (keeps_alone old own))

@@ -10,7 +10,7 @@ use Rattle.segment_merge.specs.Refusals.{expected_after, IsFirstWrong, IsGap, Is
 use Rattle.segment_merge.proofs.Places.{Places, sooner, one, later, places}
 use Rattle.segment_merge.proofs.Refused.{grows, merged_or_wrong, cut_row}
 
--- no row that goes on behind a first wrong batch merges
+-- no row that goes on after a first wrong batch merges
 none_behind : (first : ℕ) (segments : List SegmentRead) (i e : ℕ) (b : Batch) (w : IsFirstWrong first segments i e b) (mid : List Batch) (after : List (List Batch)) (kept : List Batch)
     → Merged first (batches_in w.before ++ (w.front ++ b ∷ mid) ∷ after) kept → ⊥
 none_behind first segments i e b w mid after kept m =

@@ -39,7 +39,7 @@ unfolding IsContiguous
 begins_some bound [] batch b = b.1.1
 begins_some bound (a ∷ front) batch b = (contiguous_back a.first (a ∷ front) (batch ∷ []) b.1).1
 
--- In a row that merges, a cut that merges may be moved behind the next batch.
+-- In a row that merges, a cut that merges may be moved after the next batch.
 pub grows : (first : ℕ) (before : List (List Batch)) (front : List Batch) (batch : Batch) (back : List Batch) (after : List (List Batch)) (merged kept : List Batch)
     → Merged first (before ++ (front ++ batch ∷ back) ∷ after) merged → Merged first (before ++ front ∷ []) kept
     → (more : List Batch) × Merged first (before ++ (front ++ batch ∷ []) ∷ []) more

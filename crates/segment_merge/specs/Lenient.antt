@@ -12,7 +12,7 @@ use Rattle.segment_merge.specs.Merging.{all_of, IsAscending}
 abbrev pub IsPast : List Batch → Batch → Type 0
 IsPast before batch = (earlier : Batch) → Contains before earlier → end_of earlier ≤ batch.first
 
--- It is one of those before it, or begins behind them all.
+-- It is one of those before it, or begins after them all.
 abbrev pub IsNewOrKept : List Batch → Batch → Type 0
 IsNewOrKept before batch = Contains before batch ⊎ IsPast before batch
 

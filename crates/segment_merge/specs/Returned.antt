@@ -1,4 +1,4 @@
--- What a merge answers, where want of memory may take the place of any answer (docs/FORMATS.md, "Merging").
+-- What a merge answers, where out of memory may take the place of any answer (docs/FORMATS.md, "Merging").
 use Rattle.std.specs.Prelude.{◌≡◌, List, Result, Ok, Err}
 use Rattle.batch_repr.specs.declared.batch.Batch.{Batch}
 use Rattle.segment_merge.specs.declared.fault.MergeFault.{MergeFault}
@@ -16,7 +16,7 @@ RefusedOrMemory (Ok kept) other = ⊥
 RefusedOrMemory (Err faults.NoMemory) other = Unit {0}
 RefusedOrMemory (Err fault) other = fault ≡ other
 
--- The fault is want of memory, or this holds of it.
+-- The fault is out of memory, or this holds of it.
 abbrev pub MemoryOrRefusal : (MergeFault → Type 0) → MergeFault → Type 0
 MemoryOrRefusal P faults.NoMemory = Unit {0}
 MemoryOrRefusal P fault = P fault

@@ -54,14 +54,14 @@ SegmentAnswers first before segment kept (Err fault) = (later : List SegmentRead
 -- ---- where gaps are accepted
 
 -- It began at or above the number that was next, and is kept.
-pub record IsAppendedBehind (old new : Kept) (batch : Batch) : Type 0 where
+pub record IsAppendedAfter (old new : Kept) (batch : Batch) : Type 0 where
   pub above : old.next ≤ batch.first
   pub new_is : new.batches ≡ old.batches ++ batch ∷ []
   pub next_is : new.next ≡ end_of batch
 
 -- What a step answers.
 abbrev pub LenientSteps : Kept → Kept → ℕ → Batch → Result (Unit {0}) MergeFault → Type 0
-LenientSteps old new index batch (Ok done) = IsAppendedBehind old new batch ⊎ IsSkipped old new batch
+LenientSteps old new index batch (Ok done) = IsAppendedAfter old new batch ⊎ IsSkipped old new batch
 LenientSteps old new index batch (Err (faults.Gap i e f)) = ⊥
 LenientSteps old new index batch (Err (faults.Conflict i f)) = (i ≡ index) × (f ≡ batch.first) × (batch.first < old.next) × (Contains old.batches batch → ⊥)
 LenientSteps old new index batch (Err faults.NoMemory) = Unit {0}

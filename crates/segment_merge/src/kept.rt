@@ -11,7 +11,7 @@ use std::alloc::Global;
 use std::marker::Model;
 use wal_base::NoMemory;
 
-/// Batches in the order of their numbers, and the number behind them.
+/// Batches in the order of their numbers, and the number after them.
 #[derive(Drop)]
 pub(crate) struct Kept {
     batches: Batches,

@@ -17,7 +17,7 @@ use batch_repr::{Batch, Batches};
 use std::alloc::Global;
 use std::marker::Model;
 
-/// What the next batch does. It is appended where it begins behind all that is kept, and passed over where it is
+/// What the next batch does. It is appended where it begins after all that is kept, and passed over where it is
 /// kept already.
 fn step(kept: &mut Kept, index: u32, batch: Batch) -> Result<(), MergeFault>
     requires { IsNumbered batch }

@@ -1,6 +1,6 @@
 //! Merging: the segments of a WAL, which may repeat one another, as one list of batches.
 //!
-//! Stands on `batch_repr` for the batches and on `wal_base` for lists and want of memory. The layer above uses one
+//! Stands on `batch_repr` for the batches and on `wal_base` for lists and `NoMemory`. The layer above uses one
 //! contract: `merge` gives the one list that is contiguous from a number and has exactly the batches of all
 //! segments, and refuses a row exactly where there is none, at its first wrong batch. `merge_lenient` is the same
 //! for rows with gaps, and `LenientMerge` goes on with one from row to row.

@@ -21,7 +21,7 @@ pub(crate) fn count(entries: &[Entry]) -> u64
     found
 }
 
-/// The number behind a batch.
+/// The number after a batch.
 pub(crate) fn end(batch: &Batch) -> u64
     requires { IsNumbered batch.now }
     ensures { result ≡ end_of batch.now }

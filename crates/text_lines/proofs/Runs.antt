@@ -19,7 +19,7 @@ waits_more out old bytes start at below behind plain seen =
     ap (λ t. out ++ drop start t) (take_more bytes at 0 below) ∙ ap (λ t. out ++ t) (drop-append-le start (take at bytes) (byte ∷ []) (omega (arith, size)))
     ∙ sym (append_assoc out (drop start (take at bytes)) (byte ∷ [])) ∙ ap (λ t. (out ++ drop start (take at bytes)) ++ t) (sym plain) ∙ printed_more (out ++ drop start (take at bytes)) old bytes at below seen
 
--- what waited is added, and a byte behind it; nothing waits now
+-- what waited is added, and a byte after it; nothing waits now
 pub run_ends : (out mid new old bytes : List ℕ) (start at : ℕ) → at < length bytes → start ≤ at → mid ≡ out ++ take (at - start) (drop start bytes) → new ≡ mid ++ printed_byte (get_or bytes at 0)
     → out ++ drop start (take at bytes) ≡ old ++ flat_map printed_byte (take at bytes) → new ++ drop (at + 1) (take (at + 1) bytes) ≡ old ++ flat_map printed_byte (take (at + 1) bytes)
 run_ends out mid new old bytes start at below behind run escaped seen =

@@ -16,7 +16,7 @@ Holding = BTreeMap (Bor (List ℕ)) (Bor (List ℕ))
 abbrev pub held : Holding → List ℕ → Option (List ℕ)
 held holding key = option_map (λ value. value.now) (get_by (λ own. slice_cmp nat_cmp key own.now) holding)
 
--- the value of a key behind an entry, from the one before it
+-- the value of a key after an entry, from the one before it
 abbrev pub changed : List ℕ → Option (List ℕ) → Entry → Option (List ℕ)
 changed key before entry = cond (is_about key entry) (value_left entry) before
 

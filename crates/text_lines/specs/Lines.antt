@@ -27,7 +27,7 @@ abbrev pub side_word : Side → List ℕ
 side_word Primary = codes "primary"
 side_word Secondary = codes "secondary"
 
--- whether a segment has more than zeros behind its last whole record
+-- whether a segment has more than zeros after its last whole record
 abbrev pub torn_word : Bool → List ℕ
 torn_word true = codes "torn"
 torn_word false = codes "clean"

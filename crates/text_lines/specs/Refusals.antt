@@ -10,7 +10,7 @@ use Rattle.disk_face.specs.Names.{seg_text}
 abbrev pub duplicate_line : SegName → List ℕ
 duplicate_line name = codes "refused duplicate " ++ seg_text name ++ 10 ∷ []
 
--- what is wrong with the bytes of a batch (want of memory is no such fault, and has no words)
+-- what is wrong with the bytes of a batch (out of memory is no such fault, and has no words)
 abbrev pub fault_words : BatchFault → List ℕ
 fault_words faults.ShortHeader = codes "short-header"
 fault_words (faults.ShortEntry at) = codes "short-entry " ++ decimal at

@@ -37,7 +37,7 @@ pub fn put_bad_batch(
     out.append(b"\n")
 }
 
-/// Adds the line of a segment that begins behind the expected number. After an `Err` a part of it may stand there.
+/// Adds the line of a segment that begins after the expected number. After an `Err` a part of it may stand there.
 pub fn put_gap(out: &mut Buf, name: SegName, expected: u64, found: u64) -> Result<(), NoMemory>
     ensures { OnOk result (out.new ≡ out.old ++ gap_line name expected found) }
 {

@@ -18,7 +18,7 @@ pub struct SegmentLine {
     pub len: u64,
     /// Where its last whole record ends.
     pub ends_at: u64,
-    /// Whether more than zeros stand behind that place.
+    /// Whether more than zeros stand after that place.
     pub torn: bool,
 }
 

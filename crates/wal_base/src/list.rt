@@ -60,7 +60,7 @@ impl<T> ListOf<T> {
         self.items.get(at)
     }
 
-    /// Adds an item at the end. `Err` is want of memory, and hands the item back.
+    /// Adds an item at the end. `Err` means out of memory, and hands the item back.
     pub fn push(&mut self, item: T) -> Result<(), T>
         ensures ok { OnOk result (self.new ≡ self.old ++ item ∷ []) }
         ensures err { IfErr result (λ back. back ≡ item) }

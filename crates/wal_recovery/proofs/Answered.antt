@@ -62,7 +62,7 @@ module _ (mode : Mode) (dirs : Dirs) (tells : Bool) (told : IsTrue tells) where
   only_refused (Err (faults.Conflict w i x)) is why fault r = one_reason mode dirs (faults.Conflict w i x) fault (why told) r
   only_refused (Err faults.NoMemory) is why fault r = tt
 
--- ---- an arm of the mode, behind a listing that changes no file
+-- ---- an arm of the mode, after a listing that changes no file
 
 module _ (old mid : DiskView) (same : SameDisk old mid) where
   pub row_behind : (row segments : List Found) → row ≡ segments → IsRowOf (files old) segments → IsRowOf (files mid) row

@@ -39,7 +39,7 @@ reads_more front back old mid new a b = record {
   asked = λ side name. omega (arith, bytes_asked-append side name b.made a.made, bytes_append side name front back, a.asked side name, b.asked side name);
 }
 
--- the row may go on behind what was read
+-- the row may go on after what was read
 pub reads_wider : (front back : List Found) (old new : DiskView) → ReadsOnly front old new → ReadsOnly (front ++ back) old new
 reads_wider front back old new a = record {
   made = a.made;
@@ -49,7 +49,7 @@ reads_wider front back old new a = record {
   asked = λ side name. omega (arith, bytes_append side name front back, a.asked side name);
 }
 
--- a segment of which nothing is asked stands behind
+-- a segment of which nothing is asked stands after
 pub reads_then_nothing : (row : List Found) (old mid new : DiskView) → ReadsOnly row old mid → ReadsOnly [] mid new → ReadsOnly row old new
 reads_then_nothing row old mid new a b = subst (λ (r : List Found). ReadsOnly r old new) (append-nil row) (reads_more row [] old mid new a b)
 

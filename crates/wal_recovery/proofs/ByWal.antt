@@ -1,4 +1,4 @@
--- A row cut into WALs from its back: each segment joins the WAL behind it or begins one. The WALs are the listing of the directories, and those into which the row is cut from its front.
+-- A row cut into WALs from its back: each segment joins the WAL after it or begins one. The WALs are the listing of the directories, and those into which the row is cut from its front.
 use Rattle.std.proofs.Common.{◌≡◌, ◌≢◌, ◌⊎◌, inl, inr, ℕ, suc, ◌≤◌, ◌<◌, List, [], ◌∷◌, ◌++◌, All, Contains, map, subst, sym, ap, ◌∙◌, refl, arith}
 use Rattle.disk_face.specs.View.{Files}
 use Rattle.disk_face.specs.Image.{dirs_as_read}

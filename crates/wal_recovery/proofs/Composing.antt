@@ -1,4 +1,4 @@
--- WALs that merge, with one more behind them; and each listed WAL has a segment.
+-- WALs that merge, with one more after them; and each listed WAL has a segment.
 use Rattle.std.proofs.Common.{inl, inr, ℕ, suc, List, [], ◌∷◌, ◌++◌, sym, subst, ap, ◌∙◌, refl}
 use Rattle.std.specs.Prelude.{Contains, ◌≢◌}
 use Rattle.std.proofs.lemmas.List.{append-nil, append_assoc}

@@ -1,4 +1,4 @@
--- The last item of a list: where it stands, and the numbers that come behind it.
+-- The last item of a list: where it stands, and the numbers that come after it.
 use Rattle.std.proofs.Common.{◌≡◌, ℕ, zero, suc, ◌+◌, ◌-◌, ◌<◌, List, [], ◌∷◌, ◌++◌, Some, None, length, take, get_or, subst, sym, ap, ◌∙◌, refl, arith, append_assoc}
 use Rattle.std.specs.Prelude.{slice_get}
 use Rattle.std.proofs.lemmas.List.{length_push, take_more}
@@ -6,7 +6,7 @@ use Rattle.batch_repr.specs.declared.batch.Batch.{Batch}
 use Rattle.batch_repr.specs.Batches.{end_of, end_after}
 use Rattle.segment_merge.proofs.Laws.{end_append}
 use Rattle.wal_recovery.specs.declared.listing.Found.{Found}
-use Rattle.wal_recovery.specs.Rows.{IsNextBehind}
+use Rattle.wal_recovery.specs.Rows.{IsNextAfter}
 use Rattle.wal_recovery.proofs.Tools.{some_is}
 
 last_split : {X : Type 0} (xs : List X) (n : ℕ) (x : X) → suc n ≡ length xs → slice_get xs n ≡ Some x → (front : List X) × (xs ≡ front ++ x ∷ [])
@@ -27,21 +27,21 @@ no_hole [] n lt e = omega (arith, lt)
 no_hole (x ∷ xs) zero lt e = let no : Some x ≡ None = e in cc
 no_hole (x ∷ xs) (suc n) lt e = no_hole xs n (omega (arith, lt)) e
 
-behind_push : (front : List Found) (f : Found) → IsNextBehind (front ++ f ∷ []) (f.name.wal + 1)
-unfolding IsNextBehind
+behind_push : (front : List Found) (f : Found) → IsNextAfter (front ++ f ∷ []) (f.name.wal + 1)
+unfolding IsNextAfter
 behind_push [] f = refl
 behind_push (g ∷ []) f = refl
 behind_push (g ∷ h ∷ front) f = behind_push (h ∷ front) f
 
-pub behind_last : (row : List Found) (f : Found) → slice_get row (length row - 1) ≡ Some f → IsNextBehind row (f.name.wal + 1)
-behind_last row f g = let cut = last_cut row f g in subst (λ (r : List Found). IsNextBehind r (f.name.wal + 1)) (sym cut.1) (behind_push cut.0 f)
+pub behind_last : (row : List Found) (f : Found) → slice_get row (length row - 1) ≡ Some f → IsNextAfter row (f.name.wal + 1)
+behind_last row f g = let cut = last_cut row f g in subst (λ (r : List Found). IsNextAfter r (f.name.wal + 1)) (sym cut.1) (behind_push cut.0 f)
 
-pub behind_none : (row : List Found) → slice_get row (length row - 1) ≡ None → IsNextBehind row 1
-unfolding IsNextBehind
+pub behind_none : (row : List Found) → slice_get row (length row - 1) ≡ None → IsNextAfter row 1
+unfolding IsNextAfter
 behind_none [] g = refl
 behind_none (f ∷ row) g = absurd (no_hole (f ∷ row) (length (f ∷ row) - 1) (omega arith) g)
 
--- the number behind the last batch
+-- the number after the last batch
 pub end_last : (from : ℕ) (batches : List Batch) (b : Batch) → slice_get batches (length batches - 1) ≡ Some b → end_of b ≡ end_after from batches
 unfolding end_after
 end_last from batches b g =

@@ -1,4 +1,4 @@
--- WALs that are merged one after another as one row, with gaps: their reports hold the row, and what refuses a WAL behind it refuses the directories.
+-- WALs that are merged one after another as one row, with gaps: their reports hold the row, and what refuses a WAL after it refuses the directories.
 use Rattle.std.proofs.Common.{◌≡◌, ℕ, suc, List, [], ◌∷◌, ◌++◌, All, IsTrue, Bool, length, map, take, subst, sym, ap, ◌∙◌, refl, arith}
 use Rattle.std.specs.List.{AllZip, AllByRecursion}
 use Rattle.std.proofs.lemmas.List.{map-append}
@@ -155,7 +155,7 @@ module _ (tells : Bool) (files : Files) where
     read_refused_behind before (faults.Gap number index expected found) h = absurd h.bad
     read_refused_behind before (faults.Conflict number index first) h = absurd h.bad
 
--- ---- what refuses a WAL behind those before it refuses the directories
+-- ---- what refuses a WAL after those before it refuses the directories
 
 module _ (files : Files) (wals : List FoundWal) (i : ℕ) (wal : FoundWal) (at : StandsAt wals i wal) where
   pub refused_behind : (reports : List SegReport) (base : List Batch) (fault : RecoverFault) → ReportOnAll (wals_in files (take i wals)) reports → AreReportsMerged reports base

@@ -67,7 +67,7 @@ module _ (files : Files) (ones others : List Listed) (up : IsAscending ones) (do
       let item : Listed = record { name = name; len = length f.0.reads } in
       (item, refl, (listed side item).1 (good, (f.0, f.1, f.2, refl)))
 
-  -- each name that both sides have stands at or behind the name that they meet at
+  -- each name that both sides have stands at or after the name that they meet at
   behind : (row : List Found) (x y : Listed) (xs ys : List Listed) (name : SegName) → Weaves row ones others (x ∷ xs) (y ∷ ys) → x.name ≡ name → y.name ≡ name
       → (one other : Listed) → Contains ones one → Contains others other → one.name ≡ other.name → (one.name ≡ name) ⊎ IsBefore name one.name
   behind row x y xs ys name w ex ey one other a b e = elim (row_to row ones others (x ∷ xs) (y ∷ ys) w up down Primary one a) [

@@ -1,4 +1,4 @@
--- The number behind the last listed segment is that of the next WAL: the row ascends, and has the segments of the directories.
+-- The number after the last listed segment is that of the next WAL: the row ascends, and has the segments of the directories.
 use Rattle.std.proofs.Common.{◌≡◌, inl, inr, ℕ, suc, ◌≤◌, Bool, List, [], ◌∷◌, Result, Ok, Err, IsTrue, Contains, ap, refl, arith}
 use Rattle.std.specs.Prelude.{IfOk}
 use Rattle.disk_face.specs.View.{Files}
@@ -9,7 +9,7 @@ use Rattle.wal_recovery.specs.declared.listing.Found.{Found}
 use Rattle.wal_recovery.specs.declared.fault.RecoverFault.{RecoverFault}
 use Rattle.wal_recovery.specs.declared.reports.Recovered.{Recovered}
 use Rattle.wal_recovery.specs.Listing.{IsNextWal}
-use Rattle.wal_recovery.specs.Rows.{Ascends, IsRowOf, IsNextBehind, stored_in}
+use Rattle.wal_recovery.specs.Rows.{Ascends, IsRowOf, IsNextAfter, stored_in}
 use Rattle.wal_recovery.proofs.Grouping.{wal_up, found_stands, stands_found}
 
 -- the last of the row
@@ -17,8 +17,8 @@ record IsLast (row : List Found) (f : Found) : Type 0 where
   at : Contains row f
   above : (g : Found) → Contains row g → g.name.wal ≤ f.name.wal
 
-last_behind : (f : Found) (row : List Found) (next : ℕ) → Ascends (f ∷ row) → IsNextBehind (f ∷ row) next → (l : Found) × IsLast (f ∷ row) l × (next ≡ suc l.name.wal)
-unfolding Ascends IsNextBehind
+last_behind : (f : Found) (row : List Found) (next : ℕ) → Ascends (f ∷ row) → IsNextAfter (f ∷ row) next → (l : Found) × IsLast (f ∷ row) l × (next ≡ suc l.name.wal)
+unfolding Ascends IsNextAfter
 last_behind f [] next up is = (
   f,
   record {
@@ -40,8 +40,8 @@ last_behind f (h ∷ row) next up is =
       l.2,
     )
 
-next_wal_is : (files : Files) (row : List Found) (next : ℕ) → Ascends row → IsRowOf files row → IsNextBehind row next → IsNextWal (dirs_as_read files) next
-unfolding IsNextBehind
+next_wal_is : (files : Files) (row : List Found) (next : ℕ) → Ascends row → IsRowOf files row → IsNextAfter row next → IsNextWal (dirs_as_read files) next
+unfolding IsNextAfter
 next_wal_is files [] next up is behind = record {
   above = λ number stored there. let f = stands_found files [] number stored is there in absurd (none_within f.0 f.1);
   least = inl (behind, λ number stored there. let f = stands_found files [] number stored is there in none_within f.0 f.1);
@@ -54,6 +54,6 @@ next_wal_is files (f ∷ row) next up is behind =
     }
 
 pub next_wal_answered : (files : Files) (row : List Found) (tells : Bool) (result : Result Recovered RecoverFault) → Ascends row → (IsTrue tells → IsRowOf files row)
-    → IfOk result (λ (found : Recovered). IsNextBehind row found.next_wal) → IfOk result (λ (found : Recovered). IsTrue tells → IsNextWal (dirs_as_read files) found.next_wal)
+    → IfOk result (λ (found : Recovered). IsNextAfter row found.next_wal) → IfOk result (λ (found : Recovered). IsTrue tells → IsNextWal (dirs_as_read files) found.next_wal)
 next_wal_answered files row tells (Ok found) up is behind = λ told. next_wal_is files row found.next_wal up (is told) behind
 next_wal_answered files row tells (Err fault) up is behind = tt

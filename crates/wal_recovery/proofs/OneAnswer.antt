@@ -62,7 +62,7 @@ of_low low (w ∷ ws) n s by (u, h, is, at) = elim (within_cases w ws u h) [
   | inr later ↦ omega (arith, by.0, of_low (suc w.number) ws n s by.3 (u, later, is, at))
 ]
 
--- a segment of the first WAL's number is of the first WAL, and one of another number is behind it
+-- a segment of the first WAL's number is of the first WAL, and one of another number is after it
 head_of : (w : Wal) (ws : List Wal) (n : ℕ) (s : Stored) → AreByNumber (suc w.number) ws → n ≡ w.number → IsOf (w ∷ ws) n s → Contains w.segments s
 head_of w ws n s by e (u, h, is, at) = elim (within_cases w ws u h) [
   | inl eq ↦ subst (λ (x : Wal). Contains x.segments s) (sym eq) at

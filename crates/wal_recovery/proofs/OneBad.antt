@@ -21,7 +21,7 @@ spelled_at [] bad back (b ∷ batches) h = (b, h.0)
 spelled_at (r ∷ front) bad back [] h = absurd h
 spelled_at (r ∷ front) bad back (b ∷ batches) h = spelled_at front bad back batches h.1
 
--- records that spell batches have no bad one, not even with others behind it
+-- records that spell batches have no bad one, not even with others after it
 spelled_or_bad : (records front back : List Rec) (bad : Rec) (batches : List Batch) (fault : BatchFault) → records ≡ front ++ bad ∷ back → Spell records batches → IsFirstFault bad.bytes fault → ⊥
 spelled_or_bad records front back bad batches fault is h wrong =
     let s = spelled_at front bad back batches (subst (λ (r : List Rec). Spell r batches) is h) in

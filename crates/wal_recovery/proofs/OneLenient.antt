@@ -60,9 +60,9 @@ lenient_once dirs a b h k =
     let held : HoldAll k.wals h.rows = subst (λ (w : List Wal). HoldAll w h.rows) (one_listing dirs h.wals k.wals h.listed k.listed) h.hold in
     one_lenient k.rows a b (subst (λ (r : List (List Batch)). MergedLenient r a) (one_all k.wals h.rows k.rows held k.hold) h.merges) k.merges
 
--- ---- one WAL behind those before it
+-- ---- one WAL after those before it
 
--- a row that goes on behind a conflict has it too
+-- a row that goes on after a conflict has it too
 conflict_on : (row more : List SegmentRead) (index first : ℕ) → IsLenientConflict row index first → IsLenientConflict (row ++ more) index first
 conflict_on row more index first w = record {
   before = w.before;
@@ -143,7 +143,7 @@ record IsWrongAt (dirs : Dirs) (fault : RecoverFault) : Type 0 where
   reached : ReachesLenient dirs wal.number wal.segments
   wrong : IsLenientlyRefusedWal (by_index (segments_of reached.before) reached.rows) wal fault
 
--- so no WALs are merged that go on behind it
+-- so no WALs are merged that go on after it
 wrong_behind : (dirs : Dirs) (fault : RecoverFault) (w : IsWrongAt dirs fault) (wals mid : List Wal) (rows : List (List Batch)) (merged : List Batch) → wals ≡ w.reached.before ++ w.wal ∷ mid → HoldAll wals rows
     → MergedLenient rows merged → ⊥
 wrong_behind dirs fault w wals mid rows merged is h m =

@@ -105,7 +105,7 @@ record IsWrongAt (dirs : Dirs) (fault : RecoverFault) : Type 0 where
   reached : Reaches dirs wal.number wal.segments base
   wrong : IsRefusedWal (end_after NUMBER_FIRST base) wal fault
 
--- so no WALs merge that go on behind it
+-- so no WALs merge that go on after it
 wrong_behind : (dirs : Dirs) (fault : RecoverFault) (w : IsWrongAt dirs fault) (wals mid : List Wal) (merged : List Batch) → wals ≡ w.reached.before ++ w.wal ∷ mid → WalsMerge NUMBER_FIRST wals merged → ⊥
 wrong_behind dirs fault w wals mid merged is m =
     let cut = merges_up_to NUMBER_FIRST w.reached.before w.wal mid merged (subst (λ (l : List Wal). WalsMerge NUMBER_FIRST l merged) is m) in

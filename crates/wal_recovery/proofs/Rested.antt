@@ -45,7 +45,7 @@ all_stable old new row is rested only synced side name f named there =
 
 -- ---- moments
 
--- a run that changes nothing, and one behind it
+-- a run that changes nothing, and one after it
 pub same_then : (old mid new : DiskView) (P : Files → Files → Type 0) → SameDisk old mid → AtEachMoment mid.clock new (P (files mid)) → AtEachMoment old.clock new (P (files old))
 same_then old mid new P same each =
     subst (λ (fs : Files). AtEachMoment old.clock new (P fs)) (same_files old mid same) (subst (λ (k : ℕ). AtEachMoment k new (P (files mid))) same.clock each)

@@ -20,7 +20,7 @@ spell_push [] (c ∷ batches) r b h s = absurd h
 spell_push (q ∷ records) [] r b h s = absurd h
 spell_push (q ∷ records) (c ∷ batches) r b h s = (h.0, spell_push records batches r b h.1 s)
 
--- the record at a place is behind those before it
+-- the record at a place is after those before it
 pub spell_more : (records : List Rec) (batches : List Batch) (i : ℕ) (r : Rec) (b : Batch) → i < length records → r ≡ get_or records i r → Spell (take i records) batches → SpellsBatch r.bytes b
     → Spell (take (i + 1) records) (batches ++ b ∷ [])
 spell_more records batches i r b lt is h s =

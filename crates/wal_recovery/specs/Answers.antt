@@ -1,4 +1,4 @@
--- What recovery answers, by its mode. A fault of the disk or want of memory may take the place of any answer (docs/FORMATS.md, "Recovery").
+-- What recovery answers, by its mode. A fault of the disk or out of memory may take the place of any answer (docs/FORMATS.md, "Recovery").
 use Rattle.std.specs.Prelude.{◌≡◌, List, Result, Ok, Err}
 use Rattle.batch_repr.specs.declared.batch.Batch.{Batch}
 use Rattle.wal_base.specs.Faults.{Rose}
@@ -26,7 +26,7 @@ abbrev pub FaultRose : DiskView → DiskView → RecoverFault → Type 0
 FaultRose old new (faults.Disk side) = Rose (old.faults side) (new.faults side)
 FaultRose old new fault = Unit {0}
 
--- The fault is the disk's or want of memory, or this holds of it.
+-- The fault is the disk's or out of memory, or this holds of it.
 abbrev pub DiskMemoryOr : (RecoverFault → Type 0) → RecoverFault → Type 0
 DiskMemoryOr P (faults.Disk side) = Unit {0}
 DiskMemoryOr P faults.NoMemory = Unit {0}
@@ -46,7 +46,7 @@ ErrOrFailed (Err (faults.Disk side)) refusal = Unit {0}
 ErrOrFailed (Err faults.NoMemory) refusal = Unit {0}
 ErrOrFailed (Err fault) refusal = fault ≡ refusal
 
--- The directories are refused: the fault is neither a side's nor want of memory.
+-- The directories are refused: the fault is neither a side's nor out of memory.
 abbrev pub IsRefusal : RecoverFault → Type 0
 IsRefusal (faults.Disk side) = ⊥
 IsRefusal faults.NoMemory = ⊥

@@ -6,7 +6,7 @@ use Rattle.block_record.specs.declared.records.Rec.{Rec}
 use Rattle.wal_recovery.specs.declared.decoding.DecodeFault.{DecodeFault}
 use Rattle.wal_recovery.specs.declared.decoding.DecodeFault.TheVariants as decodes
 
--- The fault is want of memory, or this holds of the place and of what is wrong there.
+-- The fault is out of memory, or this holds of the place and of what is wrong there.
 abbrev pub BadOrMemory : (ℕ → BatchFault → Type 0) → DecodeFault → Type 0
 BadOrMemory P (decodes.Bad place fault) = P place fault
 BadOrMemory P decodes.NoMemory = Unit {0}

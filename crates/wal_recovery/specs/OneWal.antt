@@ -32,7 +32,7 @@ IsRefusedWal next wal fault = ⊥
 
 -- ---- where gaps are accepted
 
--- Why the WAL is refused behind this row of the WALs before it.
+-- Why the WAL is refused after this row of the WALs before it.
 abbrev pub IsLenientlyRefusedWal : List SegmentRead → Wal → RecoverFault → Type 0
 IsLenientlyRefusedWal before wal (faults.BadBatch number index place fault) = (number ≡ wal.number) × IsBadBatch (log_number wal.number) wal.segments index place fault
 IsLenientlyRefusedWal before wal (faults.Conflict number index first) = (number ≡ wal.number) × (h : HoldsRow wal) × IsLenientConflict (before ++ by_index wal.segments h.row) index first

@@ -58,7 +58,7 @@ unfoldable pub Weaves : List Found → List Listed → List Listed → List List
 Weaves [] ones others ones_left others_left = (ones ≡ ones_left) × (others ≡ others_left)
 Weaves (f ∷ row) ones others ones_left others_left = (a : List Listed) × (b : List Listed) × Takes f ones others a b × Weaves row a b ones_left others_left
 
--- Behind some segments, both sides go on with one of this name.
+-- After some segments, both sides go on with one of this name.
 abbrev pub Meets : SegName → List Listed → List Listed → Type 0
 Meets name ones others = (row : List Found) × (a : List Listed) × (b : List Listed) × Weaves row ones others a b × BothBegin name a b
 
@@ -67,7 +67,7 @@ abbrev pub RefusesTwice : Dirs → RecoverFault → Type 0
 RefusesTwice dirs (faults.DuplicateSegment wal index) = IsDuplicate dirs wal index
 RefusesTwice dirs fault = ⊥
 
--- What is refused of two listings: a name that both have. Want of memory may take its place.
+-- What is refused of two listings: a name that both have. Out of memory may take its place.
 abbrev pub MeetsOrMemory : List Listed → List Listed → RecoverFault → Type 0
 MeetsOrMemory ones others (faults.DuplicateSegment wal index) = Meets (record { wal = wal; index = index }) ones others
 MeetsOrMemory ones others faults.NoMemory = Unit {0}
@@ -112,14 +112,14 @@ wal_in files wal = record { number = wal.number; segments = map (stored_in files
 abbrev pub wals_in : Files → List FoundWal → List Wal
 wals_in files wals = map (wal_in files) wals
 
--- The fault is the disk's or want of memory.
+-- The fault is the disk's or out of memory.
 abbrev pub IsDiskOrMemory : RecoverFault → Type 0
 IsDiskOrMemory (faults.Disk side) = Unit {0}
 IsDiskOrMemory faults.NoMemory = Unit {0}
 IsDiskOrMemory fault = ⊥
 
 -- The number is 1 more than that of the last segment's WAL, and 1 where there is none.
-unfoldable pub IsNextBehind : List Found → ℕ → Type 0
-IsNextBehind [] next = next ≡ 1
-IsNextBehind (f ∷ []) next = next ≡ f.name.wal + 1
-IsNextBehind (f ∷ g ∷ row) next = IsNextBehind (g ∷ row) next
+unfoldable pub IsNextAfter : List Found → ℕ → Type 0
+IsNextAfter [] next = next ≡ 1
+IsNextAfter (f ∷ []) next = next ≡ f.name.wal + 1
+IsNextAfter (f ∷ g ∷ row) next = IsNextAfter (g ∷ row) next

@@ -158,7 +158,7 @@ fn merge_wal<D: Disk>(
     }
 }
 
-/// Adds batches behind others, and moves them there: all at once where there are no others.
+/// Adds batches after others, and moves them there: all at once where there are no others.
 fn append(batches: &mut Batches, more: Batches) -> Result<(), RecoverFault>
     ensures added { OnOk result (batches.new ≡ batches.old ++ more) }
     ensures memory { IfErr result (λ fault. fault ≡ RecoverFault.NoMemory) }
@@ -175,7 +175,7 @@ fn append(batches: &mut Batches, more: Batches) -> Result<(), RecoverFault>
     Ok(())
 }
 
-/// The number behind the last of the batches, or this one where there is none.
+/// The number after the last of the batches, or this one where there is none.
 fn end_behind(from: u64, batches: &[Batch]) -> u64
     requires { All IsNumbered batches.now }
     ensures { result ≡ end_after from batches.now }

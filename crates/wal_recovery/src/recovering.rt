@@ -15,7 +15,7 @@ ghost use Rattle.wal_recovery.specs.Listing.{IsNextWal};
 ghost use Rattle.wal_recovery.specs.Reports.{AreReports};
 ghost use Rattle.wal_recovery.specs.Resting.{AreSegmentsStable, OnlySynced, AddsNoImage};
 ghost use Rattle.wal_recovery.specs.Answers.{RecoversBy, IsRefusedBy, IsRefusal, FaultRose, DiskMemoryOr, OkOrFailed, ErrOrFailed};
-ghost use Rattle.wal_recovery.specs.Rows.{Ascends, IsRowOf, IsNextBehind};
+ghost use Rattle.wal_recovery.specs.Rows.{Ascends, IsRowOf, IsNextAfter};
 ghost use Rattle.wal_recovery.specs.Asking.{AsksOnce, ListsBoth, ReadsOnly};
 
 use crate::fault::RecoverFault;
@@ -27,10 +27,10 @@ use crate::wals::by_wal;
 use disk_face::Disk;
 use std::alloc::Global;
 
-/// The number of the WAL that may be begun behind these segments.
+/// The number of the WAL that may be begun after these segments.
 fn next_wal(segments: &[Found]) -> u64
     requires { All (λ (f : Found). IsSegmentName f.name) segments.now }
-    ensures { IsNextBehind segments.now result }
+    ensures { IsNextAfter segments.now result }
 {
     match segments.last() {
         Some(last) => last.name.wal + 1,
@@ -58,7 +58,7 @@ fn recover_strict<D: Disk>(
     ensures contiguous { IfOk result (λ found. IsContiguous NUMBER_FIRST found.batches) }
     ensures within { IfOk result (λ found. found.next ≤ NUMBER_MAX) }
     ensures next { IfOk result (λ found. found.next ≡ end_after NUMBER_FIRST found.batches) }
-    ensures next_wal { IfOk result (λ found. IsNextBehind segments.now found.next_wal) }
+    ensures next_wal { IfOk result (λ found. IsNextAfter segments.now found.next_wal) }
     ensures each_moment { IsTrue D.tells → AtEachMoment ((D.view disk.old).clock) (D.view disk.new) (OnlySynced (files (D.view disk.old))) }
     ensures untouched { IfErr result (λ fault. IsRefusal fault → SameDisk (D.view disk.old) (D.view disk.new)) }
     ensures stable { OnOk result (IsTrue D.tells → IsRested (files (D.view disk.old)) → AreSegmentsStable (files (D.view disk.new))) }
@@ -94,7 +94,7 @@ fn recover_lenient<D: Disk>(
     ensures reports { IfOk result (λ found. IsTrue D.tells → AreReports (dirs_as_read (files (D.view disk.old))) found.segments) }
     ensures within { IfOk result (λ found. found.next ≤ NUMBER_MAX) }
     ensures next { IfOk result (λ found. found.next ≡ end_after NUMBER_FIRST found.batches) }
-    ensures next_wal { IfOk result (λ found. IsNextBehind segments.now found.next_wal) }
+    ensures next_wal { IfOk result (λ found. IsNextAfter segments.now found.next_wal) }
     ensures same { SameDisk (D.view disk.old) (D.view disk.new) }
 {
     let wals = by_wal(alloc, segments)?;

@@ -20,7 +20,7 @@ pub struct SegReport {
     pub name: SegName,
     /// How many bytes it has.
     pub len: u64,
-    /// The place behind its last whole record, counted from its front.
+    /// The place after its last whole record, counted from its front.
     pub ends_at: u64,
     /// Whether a byte from there on is not zero.
     pub torn: bool,
@@ -36,7 +36,7 @@ pub type SegReports = ListOf<SegReport>;
 pub struct Recovered {
     /// The batches, merged.
     pub batches: Batches,
-    /// The number behind the last batch; 10 where there is none.
+    /// The number after the last batch; 10 where there is none.
     pub next: u64,
     /// 1 more than the greatest number of a WAL that is listed; 1 where none is.
     pub next_wal: u64,

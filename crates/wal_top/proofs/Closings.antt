@@ -41,7 +41,7 @@ closes_stage tells died batches text limited old new before after runs lives dea
       (len_is tells own new after now.stands, has_ended tells start wal first own new after now sound died dead all rests);
 }
 
--- the last line behind a closing
+-- the last line after a closing
 pub ends_run : (tells died : Bool) (old mid : Stage) (acked_now begun visible count : ℕ) (text : List ℕ) → Closes tells died old mid → IsSoundJournal mid.journal → acked_now ≡ acked mid.journal → begun ≡ length mid.journal.segments
     → visible ≡ end_after NUMBER_FIRST mid.batches → IsContiguous NUMBER_FIRST mid.batches → visible ≤ NUMBER_MAX → count ≡ len mid.journal → text ≡ mid.text ++ end_line visible count (record { acked = acked_now; segments = begun; died = died })
     → EndsRun tells (record { acked = acked_now; segments = begun; died = died }) old (record { batches = mid.batches; journal = mid.journal; view = mid.view; text = text; limited = mid.limited })

@@ -1,4 +1,4 @@
--- A replay whose commits all have their batches ends behind all their numbers, and where these are within the limit each commit has its batch.
+-- A replay whose commits all have their batches ends after all their numbers, and where these are within the limit each commit has its batch.
 use Rattle.std.proofs.Common.{◌≡◌, ℕ, zero, suc, Bool, true, false, ◌+◌, ◌≤◌, List, [], ◌∷◌, ◌++◌, length, take, map, Some, refl, sym, ap, ◌∙◌, arith, subst}
 use Rattle.std.specs.Prelude.{sum_by, slice_get}
 use Rattle.std.specs.List.{filter_map}
@@ -43,7 +43,7 @@ all_numbers base acts batches end text is all =
 
 -- ---- no limit
 
--- what is visible behind one batch more
+-- what is visible after one batch more
 visible_next : (from : ℕ) (store : List Batch) (n : ℕ) (batch : Batch) → IsContiguous from store → slice_get store n ≡ Some batch → end_after from (take (n + 1) store) ≡ end_after from (take n store) + count_of batch.entries
 unfolding IsContiguous end_after
 visible_next from [] n batch c is = absurd cc
@@ -66,7 +66,7 @@ unfolding AnswersAll
 lived_all store was_dead died n [] end lines h lives = lived was_dead died h.0 lives
 lived_all store was_dead died n (act ∷ acts) end lines h lives = lived was_dead h.0 h.4 (lived_all store h.0 died h.1 acts end h.3 h.6 lives)
 
--- an act that reaches no limit, where those behind it reach none
+-- an act that reaches no limit, where those after it reach none
 act_unlimited : (store : List Batch) (died : Bool) (n : ℕ) (act : Act) (acts : List Act) (end next : ℕ) (line : List ℕ) → died ≡ false → IsContiguous NUMBER_FIRST store → Answers store died n act next line → visible_after store n + (numbers_taken act + sum_by numbers_taken acts) ≤ NUMBER_MAX
     → ((k : ℕ) → k ≡ next → visible_after store k + sum_by numbers_taken acts ≤ NUMBER_MAX → end ≡ k + length (filter_map committed acts)) → end ≡ n + length (filter_map committed (act ∷ acts))
 act_unlimited store died n _ acts end _ _ lives c (numbered batch lives_then at) room rest =

@@ -32,7 +32,7 @@ last_none (x ∷ xs) e = absurd (last_is_some x xs e)
 last_behind : {X : Type 0} (front ys : List X) (y : X) → last_or None ys ≡ Some y → last_or None (front ++ ys) ≡ Some y
 last_behind front ys y e = last_or-append None front ys ∙ last_any (last_or None front) ys y e
 
--- the one that passes, and none behind it
+-- the one that passes, and none after it
 found_at : {X : Type 0} (p : X → Bool) (xs : List X) (i : ℕ) (d : X) → i < length xs → p (get_or xs i d) ≡ true → filter p (drop (i + 1) xs) ≡ [] → last_or None (filter p xs) ≡ Some (get_or xs i d)
 found_at p xs i d below hit rest =
     let x = get_or xs i d in

@@ -20,7 +20,7 @@ use Rattle.wal_top.specs.Journaling.{Runs}
 use Rattle.wal_top.specs.Doing.{numbered_behind, Stage, Commits, OnlyReplies, DoesCommit, commits, past, died, DoesGet, DoesAct, DoesAll, DoesRun, IsShort, EndsRun, IsBegun, ReplaysOver, status_after}
 use Rattle.wal_top.specs.Doing as doing
 
--- one act more behind answered ones
+-- one act more after answered ones
 pub answers_push : (store : List Batch) (was_dead mid_dead is_dead at_end : Bool) (n : ℕ) (acts : List Act) (act : Act) (mid end : ℕ) (lines line : List ℕ) → AnswersAll store was_dead mid_dead n acts mid lines → StaysDead mid_dead is_dead
     → Answers store is_dead mid act end line → StaysDead is_dead at_end → AnswersAll store was_dead at_end n (acts ++ act ∷ []) end (lines ++ line)
 unfolding AnswersAll
@@ -45,7 +45,7 @@ answers_push store was_dead mid_dead is_dead at_end n (x ∷ acts) act mid end l
   ap (λ (l : List ℕ). l ++ line) h.7 ∙ append_assoc h.2 h.3 line,
 )
 
--- A journal that lives may die behind the last act.
+-- A journal that lives may die after the last act.
 pub answers_later : (store : List Batch) (was_dead mid_dead at_end : Bool) (n : ℕ) (acts : List Act) (end : ℕ) (lines : List ℕ) → AnswersAll store was_dead mid_dead n acts end lines → StaysDead mid_dead at_end → AnswersAll store was_dead at_end n acts end lines
 unfolding AnswersAll
 answers_later store was_dead mid_dead at_end n [] end lines h later = (λ was. later (h.0 was), h.1, h.2)
@@ -65,7 +65,7 @@ died_now state has_died = go state.dead has_died
     go (Some mark) some = refl
     go None some = absurd (some refl)
 
--- ---- what stands behind some batches does not change what they show
+-- ---- what stands after some batches does not change what they show
 
 visible_front : (batches more : List Batch) → visible_after (batches ++ more) (length batches) ≡ end_after NUMBER_FIRST batches
 visible_front batches more = ap (end_after NUMBER_FIRST) (take_at batches more (length batches) refl)
@@ -110,7 +110,7 @@ committed_push [] act = refl
 committed_push (Commit entries ∷ front) act = ap (λ (l : List (List Entry)). entries ∷ l) (committed_push front act)
 committed_push (Get key ∷ front) act = committed_push front act
 
--- how many batches stand behind an act
+-- how many batches stand after an act
 none_more : (front : List Act) (act : Act) (batches : List Batch) → filter_map committed (act ∷ []) ≡ [] → (is_limited : Bool) → IsShort is_limited front batches → IsShort is_limited (front ++ act ∷ []) batches
 none_more front act batches none true short = omega (arith, short, ap length (same_committed front act none))
   where

@@ -1,4 +1,4 @@
--- A batch more behind batches that are numbered one after another.
+-- A batch more after batches that are numbered one after another.
 use Rattle.std.proofs.Common.{◌≡◌, ℕ, ◌+◌, ◌<◌, ◌≤◌, List, [], ◌∷◌, ◌++◌, refl, sym, ap, ◌∙◌, subst, arith}
 use Rattle.wal_base.specs.declared.entry.Entry.{Entry}
 use Rattle.batch_repr.specs.declared.batch.Batch.{Batch}
@@ -39,7 +39,7 @@ kept_committed batches batches' next next' first count entries given numbered ke
     let end_given : next' ≡ first + count_of given = end ∙ ap (λ (n : ℕ). n + count_of numbered.entries) (sym first_is) ∙ ap (λ (n : ℕ). first + n) count_given in
     kept_more batches batches' next next' (record { first = first; entries = given }) kept e same_first (omega arith) end_given small
 
--- the number behind a batch that was numbered behind the others
+-- the number after a batch that was numbered after the others
 pub next_behind : (n m : ℕ) (history more : List Batch) (numbered : Batch) (entries : List Entry) → n ≡ m → m ≡ end_of numbered → numbered ≡ record { first = end_after NUMBER_FIRST history; entries = entries }
     → more ≡ history ++ record { first = end_after NUMBER_FIRST history; entries = entries } ∷ [] → n ≡ end_after NUMBER_FIRST more
 next_behind n m history more numbered entries a b is added =

@@ -38,7 +38,7 @@ rose_now : (start mid new : DiskView) → GoesOn start mid → FaultsRose mid ne
 rose_now start mid new goes (side, rose) = (side, rose_later (start.faults side) (mid.faults side) (new.faults side) (goes.faults side) rose)
 
 module _ (tells : Bool) (start : DiskView) (wal base : ℕ) where
-  -- nothing but the queue, or the numbers behind the last record, changed
+  -- nothing but the queue, or the numbers after the last record, changed
   pub runs_beside : (own own' : List Batch) (old new : State) (v : DiskView) → new.wal ≡ old.wal → new.base ≡ old.base → new.threshold ≡ old.threshold → new.dead ≡ old.dead → new.segments ≡ old.segments
       → StandsFor tells own' new v → ((b : List Batch) → KeepsBase tells b old v → KeepsBase tells b new v) → Runs tells start wal base own old v → Runs tells start wal base own' new v
   runs_beside own own' old new v wal_same base_same threshold dead segments stands keeps r = record {

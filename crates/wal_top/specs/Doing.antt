@@ -21,7 +21,7 @@ use Rattle.wal_top.specs.Printing.{commit_line, limit_line, dead_line, get_line,
 use Rattle.wal_top.specs.Replay.{IsReplayText, AllCommitted, LacksBatch}
 use Rattle.wal_top.specs.Journaling.{Runs, HasEnded}
 
--- the batch of these entries, numbered behind the others
+-- the batch of these entries, numbered after the others
 abbrev pub numbered_behind : List Batch → List Entry → Batch
 numbered_behind batches entries = record { first = end_after NUMBER_FIRST batches; entries = entries }
 
@@ -52,7 +52,7 @@ pub record Logs (batch : Batch) (old : State) (before : DiskView) (new : State) 
   pub lasted : answer ≢ Err NoMemory
   pub unasked : new.want ≡ old.want
 
--- A commit adds its batch behind the old ones and to the journal, and its reply behind the old text.
+-- A commit adds its batch after the old ones and to the journal, and its reply after the old text.
 pub record Commits (tells : Bool) (entries : List Entry) (old new : Stage) : Type 0 where
   pub lives : old.journal.dead ≡ None
   pub room : end_after NUMBER_FIRST old.batches + count_of entries ≤ NUMBER_MAX

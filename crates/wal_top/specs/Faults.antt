@@ -6,7 +6,7 @@ use Rattle.wal_top.specs.declared.status.Status.{Status}
 use Rattle.wal_top.specs.declared.status.Status.TheVariants.{Disk, Refused}
 use Rattle.wal_top.specs.Printing.{disk_fault_text, refusal_text}
 
--- A fault of a side is told by the side, and a refusal by its line. Want of memory is not told so.
+-- A fault of a side is told by the side, and a refusal by its line. Out of memory is not told so.
 abbrev pub SaysFault : RecoverFault → Status → List ℕ → Type 0
 SaysFault (faults.Disk side) status text = (status ≡ Disk) × (text ≡ disk_fault_text side)
 SaysFault faults.NoMemory status text = ⊥

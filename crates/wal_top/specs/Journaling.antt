@@ -42,7 +42,7 @@ pub record HasEnded (tells : Bool) (start : DiskView) (wal first : ℕ) (own : L
   pub recovers : IsTrue tells → (base : List Batch) → IsOpening wal first base (files start) → RecoversTo base own end.acked (files v)
   pub read : IsTrue tells → IsRested (files start) → (FaultsRose start v → ⊥) → ReadsAsImage (files v)
 
--- It went on so, and some batches may have come behind the others.
+-- It went on so, and some batches may have come after the others.
 abbrev pub RunsOn : Bool → State → DiskView → State → DiskView → Type 0
 RunsOn tells old before new after =
     (start : DiskView) (wal first : ℕ) (own : List Batch) → Runs tells start wal first own old before → (more : List Batch) × Runs tells start wal first (own ++ more) new after

@@ -58,7 +58,7 @@ pub record EndsOf (tells : Bool) (wal first : ℕ) (batches : List Batch) (end :
 
 -- The journal of the batches stands in the next WAL of the directories, where the disk tells its files. No other file changed but
 -- by a sync, and no file at all where there is no batch. Where the files were at rest, whatever a crash leaves recovers to the base
--- followed by the first of the batches, with all that are acked; and so do the directories as they read, where no fault rose.
+-- followed by a prefix of the batches, with all that are acked; and so do the directories as they read, where no fault rose.
 pub record LogsBatches (tells : Bool) (base batches : List Batch) (acked : ℕ) (old new : DiskView) : Type 0 where
   pub wal : ℕ
   pub within : wal ≤ WAL_MAX

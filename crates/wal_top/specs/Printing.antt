@@ -70,7 +70,7 @@ abbrev pub disk_fault_text : Side → List ℕ
 disk_fault_text Primary = codes "disk fault primary\n"
 disk_fault_text Secondary = codes "disk fault secondary\n"
 
--- the whole text where the directories are refused (a fault of a side and want of memory are no refusals)
+-- the whole text where the directories are refused (a fault of a side and out of memory are no refusals)
 abbrev pub refusal_text : RecoverFault → List ℕ
 refusal_text (faults.Disk side) = []
 refusal_text (faults.DuplicateSegment wal index) = duplicate_line (name_in wal index)

@@ -6,7 +6,7 @@ use Rattle.wal_top.specs.declared.script.Act.{Act}
 use Rattle.wal_top.specs.Cutting.{lines_of}
 use Rattle.wal_top.specs.Script.{IsScript, IsFirstBad}
 
--- So many bytes were taken of the source, and stand behind the old ones.
+-- So many bytes were taken of the source, and stand after the old ones.
 pub record AddsPiece (count : ℕ) (before after : Option (List ℕ)) (old new : List ℕ) : Type 0 where
   pub piece : List ℕ
   pub count_is : length piece ≡ count

@@ -24,7 +24,7 @@ numbers_taken (Get key) = 0
 abbrev pub visible_after : List Batch → ℕ → ℕ
 visible_after store n = end_after NUMBER_FIRST (take n store)
 
--- How an act is answered behind the first n batches of the store, and how many batches then stand. Where the journal is dead, a
+-- How an act is answered after the first n batches of the store, and how many batches then stand. Where the journal is dead, a
 -- commit is told so; else it is the next batch, or would end past the numbers. A read answers after those n.
 pub data Answers (store : List Batch) (is_dead : Bool) (n : ℕ) : Act → ℕ → List ℕ → Type 0 where
   numbered : (batch : Batch) → is_dead ≡ false → slice_get store n ≡ Some batch → Answers store is_dead n (Commit batch.entries) (n + 1) (commit_line 0 batch.first (count_of batch.entries))
@@ -36,8 +36,8 @@ pub data Answers (store : List Batch) (is_dead : Bool) (n : ℕ) : Act → ℕ �
 abbrev pub StaysDead : Bool → Bool → Type 0
 StaysDead was_dead is_dead = IsTrue was_dead → IsTrue is_dead
 
--- The acts are answered by these lines one after another, the first behind n batches, from where the journal was dead to where it is
--- dead. Once it is dead it stays so. So many batches stand behind the last act.
+-- The acts are answered by these lines one after another, the first after n batches, from where the journal was dead to where it is
+-- dead. Once it is dead it stays so. So many batches stand after the last act.
 unfoldable pub AnswersAll : List Batch → Bool → Bool → ℕ → List Act → ℕ → List ℕ → Type 0
 AnswersAll store was_dead died n [] end lines = StaysDead was_dead died × (end ≡ n) × (lines ≡ [])
 AnswersAll store was_dead died n (act ∷ acts) end lines =

@@ -92,14 +92,14 @@ impl History {
         History { batches, next }
     }
 
-    /// Whether a batch that takes so many numbers may still be numbered behind the others.
+    /// Whether a batch that takes so many numbers may still be numbered after the others.
     pub(crate) fn has_room(&self, count: u32) -> bool
         ensures { MatchBool result (end_after NUMBER_FIRST self.now + count ≤ NUMBER_MAX) (NUMBER_MAX < end_after NUMBER_FIRST self.now + count) }
     {
         self.next + u64::from(count) <= NUMBER_MAX
     }
 
-    /// Numbers the batch behind the others, keeps it, and answers it as it is written.
+    /// Numbers the batch after the others, keeps it, and answers it as it is written.
     pub(crate) fn commit(&mut self, batch: Unnumbered) -> Result<Numbered, NoMemory>
         requires { end_after NUMBER_FIRST self.old + count_of batch ≤ NUMBER_MAX }
         ensures numbered { IfOk result (λ numbered. numbered ≡ record { first = end_after NUMBER_FIRST self.old; entries = batch }) }

@@ -69,7 +69,7 @@ impl<D: Disk> Model for Course<D> {
 }
 
 impl<D: Disk> Course<D> {
-    /// Over the recovered batches and the number after them, before the first act. `Err` is want of memory and hands the
+    /// Over the recovered batches and the number after them, before the first act. `Err` means out of memory and hands the
     /// disk back.
     fn begin(alloc: Global, base: Batches, next: u64, wal: u64, disk: D) -> Result<Course<D>, D>
         requires numbered { IsContiguous NUMBER_FIRST base }
@@ -111,7 +111,7 @@ impl<D: Disk> Course<D> {
         self.number(batch)
     }
 
-    /// Numbers a batch behind the others, hands it to the journal, and replies.
+    /// Numbers a batch after the others, hands it to the journal, and replies.
     fn number(&mut self, batch: Unnumbered) -> Result<(), NoMemory>
         requires lives { self.old.journal.state.dead ≡ None }
         requires room { end_after NUMBER_FIRST self.old.batches + count_of batch ≤ NUMBER_MAX }

@@ -99,7 +99,7 @@ fn ended<K: Sink>(out: &mut K, said: &Said) -> Status
     }
 }
 
-/// Does all that the program does. `words` are those behind the program's name. Nothing is in flight on the
+/// Does all that the program does. `words` are those after the program's name. Nothing is in flight on the
 /// disk, which is handed back as it stands at the end.
 pub fn run<S: Source, K: Sink, D: Disk + Send, G: Gate + Sync, R: Threads + Wait + Sync>(
     rt: &R,

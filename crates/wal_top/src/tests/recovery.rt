@@ -136,7 +136,7 @@ fn an_index_may_be_missing(rt: HostRuntime) -> Result<(), Fail> {
     let store = "a = 3\nend batches 3 next 13\n";
     let disk = check_command(&rt, alloc, rig, &["recover"], b"", Status::Done, store)?;
     let rig = Rig::after_crash(&rt, alloc, disk);
-    // The empty segment has a WAL of its own, and the log stands behind it.
+    // The empty segment has a WAL of its own, and the log stands after it.
     let script = b"commit 0 nosync set a 4\n";
     let text = "s0 commit 13 1\nend visible 14 batches 1 acked 1 segments 1 closed\n";
     let disk = check_command(&rt, alloc, rig, &["replay"], script, Status::Done, text)?;

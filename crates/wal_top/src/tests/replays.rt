@@ -200,7 +200,7 @@ impl<D: Disk> Disk for Late<D> {
 fn a_late_sync_is_told_by_a_dead_run(rt: HostRuntime) -> Result<(), Fail> {
     let alloc = rt.alloc();
     let mut rig = Rig::new(alloc)?;
-    // The sync of segment 0 hangs. The nine creations behind it fail, and in the step that finds the last of them failed
+    // The sync of segment 0 hangs. The nine creations after it fail, and in the step that finds the last of them failed
     // the sync is done at its twelfth poll.
     for number in 3..12 {
         rig.fail_op(&rt, number);

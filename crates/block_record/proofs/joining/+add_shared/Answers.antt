@@ -4,7 +4,7 @@ use Rattle.std.proofs.lemmas.List.{take_rest, length-take-le, length-drop, appen
 use Rattle.std.proofs.lemmas.Result.{on_ok_weaker}
 use Rattle.block_record.specs.declared.records.Rec.{Rec}
 use Rattle.block_record.specs.declared.joining.Place.{Place}
-use Rattle.block_record.specs.Joined.{rec_in, rec_behind, AreApart, StandsBetween}
+use Rattle.block_record.specs.Joined.{rec_in, rec_after, AreApart, StandsBetween}
 use Rattle.block_record.proofs.Joined.{all_stand, is_cut}
 use Rattle.block_record.proofs.joining.+add_shared.Goals as goal
 
@@ -57,8 +57,8 @@ returns t c =
     let front : c.shrink_to_fit.new.self.items ≡ take place bytes = c.shrink_to_fit.ensures.items ∙ c.in_ok-tail.ensures.items in
     let in_front = map (rec_in (take place bytes)) (take first places) in
     let before : c.add_shared.new.records ≡ old ++ in_front = c.in_ok-add_shared.ensures ∙ ap (λ (b : List ℕ). old ++ map (rec_in b) (take first places)) front in
-    let in_tail = map (rec_behind place (drop place bytes)) (drop first places) in
-    let behind : map (rec_behind place c.in_ok-piece-2.piece) (take (length places - first) (drop first places)) ≡ in_tail =
-    ap (λ (b : List ℕ). map (rec_behind place b) (take (length places - first) (drop first places))) tail ∙ ap (map (rec_behind place (drop place bytes))) (take_rest places first) in
-    on_ok_weaker c.add_parts-2.result (λ e. e ∙ ap (λ (rs : List Rec). rs ++ map (rec_behind place c.in_ok-piece-2.piece) (take (length places - first) (drop first places))) before
+    let in_tail = map (rec_after place (drop place bytes)) (drop first places) in
+    let behind : map (rec_after place c.in_ok-piece-2.piece) (take (length places - first) (drop first places)) ≡ in_tail =
+    ap (λ (b : List ℕ). map (rec_after place b) (take (length places - first) (drop first places))) tail ∙ ap (map (rec_after place (drop place bytes))) (take_rest places first) in
+    on_ok_weaker c.add_parts-2.result (λ e. e ∙ ap (λ (rs : List Rec). rs ++ map (rec_after place c.in_ok-piece-2.piece) (take (length places - first) (drop first places))) before
     ∙ ap (λ (rs : List Rec). old ++ in_front ++ rs) behind ∙ append_assoc old in_front in_tail ∙ ap (λ (rs : List Rec). old ++ rs) cut.same) c.add_parts-2.ensures

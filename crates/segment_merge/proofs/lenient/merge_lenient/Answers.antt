@@ -3,7 +3,7 @@ use Rattle.segment_merge.proofs.LenientRefusals.{Answers, why_refused, never_gap
 use Rattle.segment_merge.proofs.LenientRows.{merged_none}
 use Rattle.segment_merge.proofs.lenient.merge_lenient.Goals as goal
 
--- the row is refused behind no segments
+-- the row is refused after no segments
 refused : (c : goal.After-from_residual) → Answers c.args.segs c.from_residual.result
 refused c =
     let is : c.from_residual.result ≡ Err c.in_err-merge.field-0.0 = search rules in

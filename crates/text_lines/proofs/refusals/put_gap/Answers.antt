@@ -1,4 +1,4 @@
--- Each piece is added behind the others, and together they are the line.
+-- Each piece is added after the others, and together they are the line.
 use Rattle.std.proofs.Common.{◌≡◌, [], ◌∷◌, ◌++◌, append_assoc, subst, List, ℕ}
 use Rattle.std.specs.Prelude.{OnOk}
 use Rattle.text_lines.specs.Refusals.{gap_line}

@@ -1,4 +1,4 @@
--- A WAL whose row goes on with the merge is merged behind those before it, and a bad record of it or a refusal of its row is its refusal there.
+-- A WAL whose row goes on with the merge is merged after those before it, and a bad record of it or a refusal of its row is its refusal there.
 use Rattle.std.proofs.Common.{◌≡◌, Err, IsTrue, sym, subst, rules}
 use Rattle.std.specs.Prelude.{IfErr, Result, List}
 use Rattle.batch_repr.specs.declared.batch.Batch.{Batch}

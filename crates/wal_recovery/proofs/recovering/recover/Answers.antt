@@ -1,4 +1,4 @@
--- A listing changes no file, so what an arm says of the files behind it holds of those before. What holds of them is answered, since they have one answer.
+-- A listing changes no file, so what an arm says of the files after it holds of those before. What holds of them is answered, since they have one answer.
 use Rattle.std.proofs.Common.{◌≡◌, List, Result, Err, IsTrue, sym, subst, rules, arith}
 use Rattle.disk_face.specs.View.{files}
 use Rattle.disk_face.specs.Image.{dirs_as_read, IsRested}

@@ -1,4 +1,4 @@
--- The WALs are those of the row, so what was merged of them is what the directories recover to. The syncs behind it add no image.
+-- The WALs are those of the row, so what was merged of them is what the directories recover to. The syncs after it add no image.
 use Rattle.std.proofs.Common.{◌≡◌, List, All, Result, Err, IsTrue, sym, subst, arith, rules}
 use Rattle.std.specs.Prelude.{IfErr}
 use Rattle.disk_face.specs.View.{Files, files, syncing, AtEachMoment}

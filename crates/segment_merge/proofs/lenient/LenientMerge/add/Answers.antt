@@ -9,7 +9,7 @@ use Rattle.segment_merge.proofs.LenientRefusals.{Answers, why_refused, only_merg
 use Rattle.segment_merge.proofs.LenientRows.{keeps_before, keeps_on, answers_ok}
 use Rattle.segment_merge.proofs.lenient.LenientMerge.add.Goals as goal
 
--- a segment that is refused refuses the row behind those before it
+-- a segment that is refused refuses the row after those before it
 refused : (c : goal.After-drop-kept-inside) → (before : List SegmentRead) → AreMergedOf before c.args.self → Answers (before ++ c.args.row) c.from_residual.result
 refused c before m =
     let kept = c.self.inside.kept in

@@ -1,5 +1,5 @@
 use Rattle.block_record.proofs.Laying.{one_more}
-use Rattle.block_record.proofs.theorems.next_record_is_laid_behind.Goals as goal
+use Rattle.block_record.proofs.theorems.next_record_is_laid_after.Goals as goal
 
 pub returns : goal.returns
 returns c = one_more
