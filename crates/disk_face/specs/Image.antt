@@ -1,6 +1,6 @@
 -- What a crash may leave of the files, and when no torn chunk passes for a whole one (docs/FORMATS.md, "Images").
 use Rattle.std.specs.Prelude.{◌≡◌, ℕ, ◌≤◌, ◌%◌, ◌^◌, true, false, List, [], ◌++◌, take, drop, length, Option, Some, None, if◌then◌else◌}
-use Rattle.disk_face.specs.View.{Place, segment, table, File, Files, Dirs}
+use Rattle.disk_face.specs.View.{Place, segment, table, File, Files, Dirs, DiskView, files}
 
 -- the bytes begin with that front
 abbrev pub IsFrontOf : List ℕ → List ℕ → Type 0
@@ -62,6 +62,10 @@ as_read (Some f) = if f.created then Some f.reads else None
 -- the directories as they read now
 abbrev pub dirs_as_read : Files → Dirs
 dirs_as_read files p = as_read (files p)
+
+-- the directories of a disk, as they read
+abbrev pub directories : DiskView → Dirs
+directories v = dirs_as_read (files v)
 
 -- what was sent to a file of which a creation was started
 abbrev pub as_sent : Option File → Option (List ℕ)

@@ -9,7 +9,7 @@ ghost use Rattle.disk_face.specs.declared.Side.{Side};
 ghost use Rattle.disk_face.specs.declared.SegName.{SegName};
 ghost use Rattle.disk_face.specs.Listing.{IsSegmentName};
 ghost use Rattle.disk_face.specs.View.{segment, File, Files, DiskView, files};
-ghost use Rattle.disk_face.specs.Image.{IsImage, IsChanceFree, IsRested, dirs_as_read};
+ghost use Rattle.disk_face.specs.Image.{IsImage, IsChanceFree, IsRested, dirs_as_read, directories};
 ghost use Rattle.wal_recovery.specs.Recovering.{Recovers};
 ghost use Rattle.wal_recovery.specs.Resting.{AreSegmentsStable};
 ghost use Rattle.failover_writer.specs.State.{State, acked, broken_count};
@@ -39,7 +39,7 @@ pub fn stable_files_open_a_journal()
 
 /// A journal of which no segment has failed, begun on files at rest, reads as an image of its disk that no torn chunk deceives.
 pub fn a_journal_without_failures_reads_as_an_image()
-    ensures { (tells : Bool) (records : List Batch) (opening : Files) (state : State) (v : DiskView) → IsTrue tells → StandsFor tells records state v → broken_count state ≡ 0 → IsRested opening → OthersStay opening state (files v) → IsImage (files v) (dirs_as_read (files v)) × IsChanceFree IsChunkOf (files v) (dirs_as_read (files v)) }
+    ensures { (tells : Bool) (records : List Batch) (opening : Files) (state : State) (v : DiskView) → IsTrue tells → StandsFor tells records state v → broken_count state ≡ 0 → IsRested opening → OthersStay opening state (files v) → IsImage (files v) (directories v) × IsChanceFree IsChunkOf (files v) (directories v) }
 {}
 
 /// A journal at hand, as one from behind a lock, of which nothing but its type is known: it stands for some records, and is

@@ -2,7 +2,7 @@
 
 ghost use Rattle.std.specs.Prelude.{◌≡◌, [], ◌∷◌, All, MatchBool, IfOk, IfErr, IsTrue};
 ghost use Rattle.disk_face.specs.View.{files, was_listed, Makes};
-ghost use Rattle.disk_face.specs.Image.{dirs_as_read};
+ghost use Rattle.disk_face.specs.Image.{directories};
 ghost use Rattle.disk_face.specs.Listing.{IsBefore, IsAscending, AreSegmentNames, IsListing, IsSegmentName};
 ghost use Rattle.disk_face.specs.Calls.{GoesOn, SameDisk};
 ghost use Rattle.wal_recovery.specs.declared.listing.Found.{Found};
@@ -132,7 +132,7 @@ pub(crate) fn list_all<D: Disk>(alloc: Global, disk: &mut D) -> Result<Row, Reco
     ensures ascends { IfOk result Ascends }
     ensures numbers { IfOk result (All (λ (f : Found). IsSegmentName f.name)) }
     ensures listed { IfOk result (λ row. IsTrue D.tells → IsRowOf (files (D.view disk.old)) row) }
-    ensures refused { IfErr result (λ fault. IsTrue D.tells → DiskMemoryOr (RefusesTwice (dirs_as_read (files (D.view disk.old)))) fault) }
+    ensures refused { IfErr result (λ fault. IsTrue D.tells → DiskMemoryOr (RefusesTwice (directories (D.view disk.old))) fault) }
 {
     let primary = names_on(disk, Side::Primary)?;
     let secondary = names_on(disk, Side::Secondary)?;

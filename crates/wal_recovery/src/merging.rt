@@ -8,7 +8,7 @@ ghost use Rattle.segment_merge.specs.Rows.{IsNumbered, IsRow};
 ghost use Rattle.segment_merge.specs.declared.segment.SegmentRead.{SegmentRead};
 ghost use Rattle.segment_merge.specs.Lenient.{AreMergedOf};
 ghost use Rattle.disk_face.specs.View.{files};
-ghost use Rattle.disk_face.specs.Image.{dirs_as_read};
+ghost use Rattle.disk_face.specs.Image.{directories};
 ghost use Rattle.disk_face.specs.Calls.{GoesOn, SameDisk};
 ghost use Rattle.wal_recovery.specs.Listing.{AreByIndex, AreByNumber};
 ghost use Rattle.wal_recovery.specs.Recovering.{WalMerges, WalsMerge, RecoversLenient};
@@ -212,7 +212,7 @@ pub(crate) fn merge_strict<D: Disk>(
     ensures within { IfOk result (λ merged. merged.next ≤ NUMBER_MAX) }
     ensures merged { IfOk result (λ merged. IsTrue D.tells → AreListedWals (files (D.view disk.old)) wals.now → WalsMerge NUMBER_FIRST (wals_in (files (D.view disk.old)) wals.now) merged.batches) }
     ensures reports { OnOk result (IsTrue D.tells → AreListedWals (files (D.view disk.old)) wals.now → ReportOnAll (wals_in (files (D.view disk.old)) wals.now) reports.new) }
-    ensures refused { IfErr result (λ fault. IsTrue D.tells → AreListedWals (files (D.view disk.old)) wals.now → DiskMemoryOr (IsRefused (dirs_as_read (files (D.view disk.old)))) fault) }
+    ensures refused { IfErr result (λ fault. IsTrue D.tells → AreListedWals (files (D.view disk.old)) wals.now → DiskMemoryOr (IsRefused (directories (D.view disk.old))) fault) }
 {
     let mut batches = Batches::new(alloc);
     let mut next = NUMBER_FIRST;
@@ -266,9 +266,9 @@ pub(crate) fn merge_all<D: Disk>(
     ensures rose { IfErr result (FaultRose (D.view disk.old) (D.view disk.new)) }
     ensures next { IfOk result (λ merged. merged.next ≡ end_after NUMBER_FIRST merged.batches) }
     ensures within { IfOk result (λ merged. merged.next ≤ NUMBER_MAX) }
-    ensures merged { IfOk result (λ merged. IsTrue D.tells → AreListedWals (files (D.view disk.old)) wals.now → RecoversLenient (dirs_as_read (files (D.view disk.old))) merged.batches) }
+    ensures merged { IfOk result (λ merged. IsTrue D.tells → AreListedWals (files (D.view disk.old)) wals.now → RecoversLenient (directories (D.view disk.old)) merged.batches) }
     ensures reports { OnOk result (IsTrue D.tells → AreListedWals (files (D.view disk.old)) wals.now → ReportOnAll (wals_in (files (D.view disk.old)) wals.now) reports.new) }
-    ensures refused { IfErr result (λ fault. IsTrue D.tells → AreListedWals (files (D.view disk.old)) wals.now → DiskMemoryOr (IsLenientlyRefused (dirs_as_read (files (D.view disk.old)))) fault) }
+    ensures refused { IfErr result (λ fault. IsTrue D.tells → AreListedWals (files (D.view disk.old)) wals.now → DiskMemoryOr (IsLenientlyRefused (directories (D.view disk.old))) fault) }
 {
     let mut so_far = LenientMerge::new(alloc);
     for wal in wals.as_slice() {

@@ -5,7 +5,7 @@ ghost use Rattle.batch_repr.specs.declared.batch.Batch.{Batch};
 ghost use Rattle.batch_repr.specs.declared.limits.TheConstants.{NUMBER_FIRST, NUMBER_MAX};
 ghost use Rattle.batch_repr.specs.Batches.{end_after, IsContiguous};
 ghost use Rattle.disk_face.specs.View.{files, NothingInFlight, AtEachMoment};
-ghost use Rattle.disk_face.specs.Image.{dirs_as_read, IsRested};
+ghost use Rattle.disk_face.specs.Image.{IsRested, directories};
 ghost use Rattle.disk_face.specs.Listing.{IsSegmentName};
 ghost use Rattle.disk_face.specs.Calls.{GoesOn, SameDisk};
 ghost use Rattle.wal_recovery.specs.declared.fault.RecoverFault.{RecoverFault};
@@ -52,9 +52,9 @@ fn recover_strict<D: Disk>(
     ensures idle { NothingInFlight (D.view disk.new) }
     ensures asks { ReadsOnly segments.now (D.view disk.old) (D.view disk.new) }
     ensures disk { IfErr result (FaultRose (D.view disk.old) (D.view disk.new)) }
-    ensures recovered { IfOk result (λ found. IsTrue D.tells → RecoversBy Strict (dirs_as_read (files (D.view disk.old))) found.batches) }
-    ensures refused { IfErr result (λ fault. IsTrue D.tells → DiskMemoryOr (IsRefusedBy Strict (dirs_as_read (files (D.view disk.old)))) fault) }
-    ensures reports { IfOk result (λ found. IsTrue D.tells → AreReports (dirs_as_read (files (D.view disk.old))) found.segments) }
+    ensures recovered { IfOk result (λ found. IsTrue D.tells → RecoversBy Strict (directories (D.view disk.old)) found.batches) }
+    ensures refused { IfErr result (λ fault. IsTrue D.tells → DiskMemoryOr (IsRefusedBy Strict (directories (D.view disk.old))) fault) }
+    ensures reports { IfOk result (λ found. IsTrue D.tells → AreReports (directories (D.view disk.old)) found.segments) }
     ensures contiguous { IfOk result (λ found. IsContiguous NUMBER_FIRST found.batches) }
     ensures within { IfOk result (λ found. found.next ≤ NUMBER_MAX) }
     ensures next { IfOk result (λ found. found.next ≡ end_after NUMBER_FIRST found.batches) }
@@ -89,9 +89,9 @@ fn recover_lenient<D: Disk>(
     ensures idle { NothingInFlight (D.view disk.new) }
     ensures asks { ReadsOnly segments.now (D.view disk.old) (D.view disk.new) }
     ensures disk { IfErr result (FaultRose (D.view disk.old) (D.view disk.new)) }
-    ensures recovered { IfOk result (λ found. IsTrue D.tells → RecoversBy Lenient (dirs_as_read (files (D.view disk.old))) found.batches) }
-    ensures refused { IfErr result (λ fault. IsTrue D.tells → DiskMemoryOr (IsRefusedBy Lenient (dirs_as_read (files (D.view disk.old)))) fault) }
-    ensures reports { IfOk result (λ found. IsTrue D.tells → AreReports (dirs_as_read (files (D.view disk.old))) found.segments) }
+    ensures recovered { IfOk result (λ found. IsTrue D.tells → RecoversBy Lenient (directories (D.view disk.old)) found.batches) }
+    ensures refused { IfErr result (λ fault. IsTrue D.tells → DiskMemoryOr (IsRefusedBy Lenient (directories (D.view disk.old))) fault) }
+    ensures reports { IfOk result (λ found. IsTrue D.tells → AreReports (directories (D.view disk.old)) found.segments) }
     ensures within { IfOk result (λ found. found.next ≤ NUMBER_MAX) }
     ensures next { IfOk result (λ found. found.next ≡ end_after NUMBER_FIRST found.batches) }
     ensures next_wal { IfOk result (λ found. IsNextAfter segments.now found.next_wal) }
@@ -123,13 +123,13 @@ pub fn recover<D: Disk>(alloc: Global, disk: &mut D, mode: Mode) -> Result<Recov
     ensures disk { IfErr result (FaultRose (D.view disk.old) (D.view disk.new)) }
 
     // The directories, as they read.
-    ensures recovered { IfOk result (λ found. IsTrue D.tells → RecoversBy mode (dirs_as_read (files (D.view disk.old))) found.batches) }
-    ensures complete { IsTrue D.tells → (merged : List Batch) → RecoversBy mode (dirs_as_read (files (D.view disk.old))) merged → OkOrFailed result merged }
-    ensures refused { IfErr result (λ fault. IsTrue D.tells → DiskMemoryOr (IsRefusedBy mode (dirs_as_read (files (D.view disk.old)))) fault) }
-    ensures refusal { IsTrue D.tells → (fault : RecoverFault) → IsRefusedBy mode (dirs_as_read (files (D.view disk.old))) fault → ErrOrFailed result fault }
-    ensures reports { IfOk result (λ found. IsTrue D.tells → AreReports (dirs_as_read (files (D.view disk.old))) found.segments) }
+    ensures recovered { IfOk result (λ found. IsTrue D.tells → RecoversBy mode (directories (D.view disk.old)) found.batches) }
+    ensures complete { IsTrue D.tells → (merged : List Batch) → RecoversBy mode (directories (D.view disk.old)) merged → OkOrFailed result merged }
+    ensures refused { IfErr result (λ fault. IsTrue D.tells → DiskMemoryOr (IsRefusedBy mode (directories (D.view disk.old))) fault) }
+    ensures refusal { IsTrue D.tells → (fault : RecoverFault) → IsRefusedBy mode (directories (D.view disk.old)) fault → ErrOrFailed result fault }
+    ensures reports { IfOk result (λ found. IsTrue D.tells → AreReports (directories (D.view disk.old)) found.segments) }
     ensures next { IfOk result (λ found. found.next ≡ end_after NUMBER_FIRST found.batches) }
-    ensures next_wal { IfOk result (λ found. IsTrue D.tells → IsNextWal (dirs_as_read (files (D.view disk.old))) found.next_wal) }
+    ensures next_wal { IfOk result (λ found. IsTrue D.tells → IsNextWal (directories (D.view disk.old)) found.next_wal) }
 
     // The numbers, also where the disk does not tell its files.
     ensures contiguous { mode ≡ Strict → IfOk result (λ found. IsContiguous NUMBER_FIRST found.batches) }

@@ -1,4 +1,5 @@
 -- What a run has to say comes exactly where its cause holds.
+use Rattle.disk_face.specs.Image.{directories}
 use Rattle.std.proofs.Common.{◌≡◌, ◌⊎◌, inl, inr, ℕ, ◌<◌, ◌≤◌, List, refl, sym, ◌∙◌, arith, subst}
 use Rattle.std.specs.Prelude.{IsTrue}
 use Rattle.batch_repr.specs.declared.batch.Batch.{Batch}
@@ -20,7 +21,6 @@ use Rattle.wal_top.specs.Call.{Invocation, Rises, HasCalmSource, HasCalmDisk}
 use Rattle.wal_top.specs.Words.{IsCommand, IsReplay, IsRecover, IsDump, RecoversIn, ReadsSource}
 use Rattle.wal_top.specs.Reading.{TellsScript, TellsNoScript}
 use Rattle.wal_top.specs.Replay.{IsReplayText, AllCommitted, LacksBatch}
-use Rattle.wal_top.specs.Log.{directories}
 use Rattle.wal_top.specs.Outcomes.{ReachesDisk, read, unread, Replays, IsDoneRun, replayed, recovered, dumped, IsLimited, of_numbers, of_wals, FailsDisk, in_recovery, dead, RefusesDirectories, HasToSay}
 use Rattle.wal_top.specs.Run.{Run, YieldsTo, IsDoneUnless, MayBegin, end_of_script, ComesExactly}
 use Rattle.wal_top.proofs.Coming.{one_next_wal}

@@ -5,7 +5,7 @@ use Rattle.batch_repr.specs.declared.batch.Batch.{Batch}
 use Rattle.batch_repr.specs.Batches.{end_after}
 use Rattle.disk_face.specs.declared.Side.{Side}
 use Rattle.disk_face.specs.View.{Place, segment, DiskView, File, Files, files}
-use Rattle.disk_face.specs.Image.{IsSound, IsRested, as_read, dirs_as_read}
+use Rattle.disk_face.specs.Image.{IsSound, IsRested, as_read, dirs_as_read, directories}
 use Rattle.disk_face.specs.Calls.{GoesOn}
 use Rattle.disk_face.proofs.Laws.{rose_later}
 use Rattle.log_writer.specs.Fits.{IsUnsent}
@@ -20,7 +20,7 @@ use Rattle.wal_top.specs.declared.script.Act.{Act}
 use Rattle.wal_top.specs.declared.replies.JournalEnd.{JournalEnd}
 use Rattle.wal_top.specs.declared.status.Status.{Status}
 use Rattle.disk_face.specs.declared.names.TheConstants.{WAL_MAX}
-use Rattle.wal_top.specs.Log.{directories, OthersOnlySynced, PollsLeft, EndsAs, LogsBatches}
+use Rattle.wal_top.specs.Log.{OthersOnlySynced, PollsLeft, EndsAs, LogsBatches}
 use Rattle.wal_top.specs.Journaling.{OthersSame, HasEnded}
 use Rattle.wal_top.specs.Outcomes.{ReplaysActs}
 use Rattle.wal_top.specs.Doing.{ReplaysOver}

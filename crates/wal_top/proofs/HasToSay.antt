@@ -4,7 +4,7 @@ use Rattle.std.proofs.Common.{◌≡◌, ℕ, Bool, true, false, List, ◌++◌,
 use Rattle.batch_repr.specs.declared.batch.Batch.{Batch}
 use Rattle.disk_face.specs.View.{DiskView, files, NothingInFlight}
 use Rattle.batch_repr.specs.Batches.{end_after}
-use Rattle.disk_face.specs.Image.{IsRested}
+use Rattle.disk_face.specs.Image.{IsRested, directories}
 use Rattle.disk_face.specs.Calls.{SameDisk}
 use Rattle.text_lines.specs.Store.{IsStoreText}
 use Rattle.text_lines.specs.Lines.{recovered_end}
@@ -23,7 +23,6 @@ use Rattle.wal_top.specs.Call.{Invocation, Stays}
 use Rattle.wal_top.specs.Words.{IsReplay, IsRecover, IsDump, RecoversIn}
 use Rattle.wal_top.specs.Printing.{refusal_text, segments_text}
 use Rattle.wal_top.specs.Reading.{ReadsScript}
-use Rattle.wal_top.specs.Log.{directories}
 use Rattle.wal_top.specs.Faults.{SaysFault}
 use Rattle.wal_top.specs.Doing.{IsShort, status_after, ReplaysOver}
 use Rattle.wal_top.specs.Outcomes.{ReachesDisk, ReplaysActs, Replays, replayed, recovered, dumped, of_numbers, in_recovery, dead, HasToSay}

@@ -1,4 +1,5 @@
 -- What a run leaves, by whether it writes a journal.
+use Rattle.disk_face.specs.Image.{directories}
 use Rattle.std.proofs.Common.{◌+◌, ℕ, Bool, List, Option, IsTrue, inl, refl}
 use Rattle.disk_face.specs.View.{DiskView, files, NothingInFlight}
 use Rattle.disk_face.specs.Calls.{GoesOn, SameDisk}
@@ -9,7 +10,7 @@ use Rattle.wal_top.specs.declared.reading.TheConstants.{SCRIPT_MAX}
 use Rattle.wal_top.specs.Call.{Invocation, Stays}
 use Rattle.wal_top.specs.Words.{IsReplay, StartsOperations}
 use Rattle.wal_top.specs.Reading.{TookAtMost}
-use Rattle.wal_top.specs.Log.{directories, OthersOnlySynced}
+use Rattle.wal_top.specs.Log.{OthersOnlySynced}
 use Rattle.wal_top.specs.Run.{WritesNoJournal, Leaves}
 use Rattle.wal_top.proofs.Taking.{took_none}
 

@@ -4,7 +4,7 @@ use Rattle.batch_repr.specs.declared.batch.Batch.{Batch}
 use Rattle.disk_face.specs.declared.Side.{Side}
 use Rattle.disk_face.specs.declared.SegName.{SegName}
 use Rattle.disk_face.specs.View.{Place, segment, File, Files, Dirs, DiskView, files, NothingInFlight}
-use Rattle.disk_face.specs.Image.{IsRested, dirs_as_read}
+use Rattle.disk_face.specs.Image.{IsRested, directories}
 use Rattle.disk_face.specs.Listing.{IsSegmentName}
 use Rattle.wal_recovery.specs.Listing.{IsNextWal}
 use Rattle.wal_recovery.specs.Resting.{IsAsOrSynced, OnlySynced, IsStable}
@@ -15,10 +15,6 @@ use Rattle.failover_writer.specs.Keeping.{IsElsewhere, RecoversTo, RecoversWith}
 use Rattle.wal_top.specs.declared.replay.TheConstants.{THRESHOLD}
 use Rattle.disk_face.specs.declared.names.TheConstants.{WAL_MAX}
 use Rattle.wal_top.specs.declared.replies.JournalEnd.{JournalEnd}
-
--- the directories, as the disk reads them
-abbrev pub directories : DiskView → Dirs
-directories view = dirs_as_read (files view)
 
 -- No file but the segments of the WAL changed, unless by a sync.
 abbrev pub OthersOnlySynced : ℕ → Files → Files → Type 0

@@ -6,7 +6,7 @@ use Rattle.batch_repr.specs.declared.batch.Batch.{Batch}
 use Rattle.batch_repr.specs.Batches.{end_after}
 use Rattle.disk_face.specs.declared.Side.{Side}
 use Rattle.disk_face.specs.View.{DiskView, files, NothingInFlight}
-use Rattle.disk_face.specs.Image.{IsRested}
+use Rattle.disk_face.specs.Image.{IsRested, directories}
 use Rattle.disk_face.specs.Calls.{SameDisk}
 use Rattle.text_lines.specs.Store.{IsStoreText}
 use Rattle.text_lines.specs.Lines.{recovered_end}
@@ -27,7 +27,7 @@ use Rattle.wal_top.specs.Call.{Change, Invocation, Stays, Rises}
 use Rattle.wal_top.specs.Words.{IsCommand, IsReplay, IsRecover, IsDump, RecoversIn, ReadsSource}
 use Rattle.wal_top.specs.Printing.{usage_text, read_fault_text, too_long_text, bad_line_text, disk_fault_text, refusal_text, limit_wal_text, segments_text}
 use Rattle.wal_top.specs.Replay.{IsReplayText, AllCommitted, LacksBatch}
-use Rattle.wal_top.specs.Log.{directories, EndsAs, EndsOf, LogsBatches}
+use Rattle.wal_top.specs.Log.{EndsAs, EndsOf, LogsBatches}
 use Rattle.wal_top.specs.Reading.{ReadsScript, ReadsTooMuch, ReadsBadLine}
 
 -- A script of the source was refused with this text: for its length, or for its first bad line.

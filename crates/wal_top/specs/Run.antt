@@ -1,4 +1,5 @@
 -- A run, and all that it promises by its status (docs/FORMATS.md, "Statuses").
+use Rattle.disk_face.specs.Image.{directories}
 use Rattle.std.specs.Prelude.{◌≡◌, ◌⊎◌, ℕ, ◌+◌, ◌<◌, ◌≤◌, Bool, IsTrue, List, ◌++◌, Option, sum_by}
 use Rattle.wal_base.specs.Told.{told_back}
 use Rattle.batch_repr.specs.declared.batch.Batch.{Batch}
@@ -20,7 +21,7 @@ use Rattle.wal_top.specs.Call.{Change, change_in, Invocation, Rises, Stays, HasC
 use Rattle.wal_top.specs.Words.{IsCommand, IsReplay, IsRecover, IsDump, RecoversIn, ReadsSource, HasJournal, StartsOperations}
 use Rattle.wal_top.specs.Reading.{TookAtMost, TellsScript, TellsNoScript}
 use Rattle.wal_top.specs.Replay.{numbers_taken}
-use Rattle.wal_top.specs.Log.{directories, OthersOnlySynced}
+use Rattle.wal_top.specs.Log.{OthersOnlySynced}
 use Rattle.wal_top.specs.Outcomes.{HasToSay}
 
 -- a run: what it has to go by, the bytes written to the sink, and the counts of its faults and shortages

@@ -1,5 +1,6 @@
 //! A script, replayed over what the directories recover to.
 
+ghost use Rattle.disk_face.specs.Image.{directories};
 ghost use Rattle.std.specs.Prelude.{◌≡◌, ◌≤◌, length, IfOk, IsTrue};
 ghost use Rattle.disk_face.specs.View.{files, NothingInFlight};
 ghost use Rattle.disk_face.specs.Calls.{GoesOn};
@@ -7,7 +8,7 @@ ghost use Rattle.wal_recovery.specs.Listing.{IsNextWal};
 ghost use Rattle.wal_top.specs.declared.reading.TheConstants.{SCRIPT_MAX};
 ghost use Rattle.wal_top.specs.declared.status.Status.TheVariants as statuses;
 ghost use Rattle.wal_top.specs.Printing.{bad_line_text};
-ghost use Rattle.wal_top.specs.Log.{directories, OthersOnlySynced};
+ghost use Rattle.wal_top.specs.Log.{OthersOnlySynced};
 ghost use Rattle.wal_top.specs.Call.{change_in};
 ghost use Rattle.wal_top.specs.Parts.{SaysOfActs, SaysOfScript};
 
