@@ -4,3 +4,4 @@ pub mod Picks
 pub mod Leaving
 pub mod Sent
 pub mod Finite
+pub mod Seen

@@ -62,34 +62,36 @@ pub struct MemDisk {
 const FIRST_FILES: usize = 8;
 
 impl MemDisk {
+    ghost use Rattle.mem_disk.specs.Seen.{seen};
+
     /// Two empty directories, no fault, no poll to stall, and nothing in flight. `Err` means out of memory.
     pub fn new(alloc: Global) -> Result<MemDisk, NoMemory>
         ensures tells { IsTrue ⟦<MemDisk as Disk>⟧.tells }
-        ensures empty { IfOk result (λ disk. (p : Place) → files (⟦<MemDisk as Disk>⟧.view disk) p ≡ None) }
-        ensures no_faults { IfOk result (λ disk. (s : Side) → (⟦<MemDisk as Disk>⟧.view disk).faults s ≡ 0) }
-        ensures no_polls { IfOk result (λ disk. (s : Side) → (⟦<MemDisk as Disk>⟧.view disk).polls_left s ≡ 0) }
+        ensures empty { IfOk result (λ disk. (p : Place) → files (seen disk) p ≡ None) }
+        ensures no_faults { IfOk result (λ disk. (s : Side) → (seen disk).faults s ≡ 0) }
+        ensures no_polls { IfOk result (λ disk. (s : Side) → (seen disk).polls_left s ≡ 0) }
         ensures no_plan { IfOk result (λ disk. ⟦<MemDisk as Planned>⟧.plan disk ≡ record { failing_ops = []; starts = 0; failing_calls = []; calls = 0 }) }
-        ensures idle { IfOk result (λ disk. NothingInFlight (⟦<MemDisk as Disk>⟧.view disk)) }
-        ensures no_calls { IfOk result (λ disk. (⟦<MemDisk as Disk>⟧.view disk).calls ≡ []) }
+        ensures idle { IfOk result (λ disk. NothingInFlight (seen disk)) }
+        ensures no_calls { IfOk result (λ disk. (seen disk).calls ≡ []) }
     {
         let files = Vec::with_capacity(alloc, FIRST_FILES)?;
-        Ok(holding(alloc, files))
+        Ok(MemDisk::holding(alloc, files))
     }
 
     /// Puts a whole file, all of it stable. No operation may be in flight on it. `Err` means out of memory, and
     /// changes nothing.
     pub fn put_file(&mut self, side: Side, name: SegName, bytes: &[u8]) -> Result<(), NoMemory>
-        requires absent { files (⟦<MemDisk as Disk>⟧.view self.old) (segment side name) ≡ None }
-        requires free { IsFree (⟦<MemDisk as Disk>⟧.view self.old) (segment side name) }
-        ensures goes_on { GoesOn (⟦<MemDisk as Disk>⟧.view self.old) (⟦<MemDisk as Disk>⟧.view self.new) }
-        ensures flights { (⟦<MemDisk as Disk>⟧.view self.new).in_flight ≡ (⟦<MemDisk as Disk>⟧.view self.old).in_flight }
-        ensures put { OnOk result (ChangesFile (segment side name) (λ f g. g ≡ Some (whole bytes.now)) (⟦<MemDisk as Disk>⟧.view self.old) (⟦<MemDisk as Disk>⟧.view self.new)) }
-        ensures err { OnErr result (⟦<MemDisk as Disk>⟧.view self.new ≡ ⟦<MemDisk as Disk>⟧.view self.old) }
-        ensures stalls { (⟦<MemDisk as Disk>⟧.view self.new).polls_left ≡ (⟦<MemDisk as Disk>⟧.view self.old).polls_left }
-        ensures steady { (⟦<MemDisk as Disk>⟧.view self.new).faults ≡ (⟦<MemDisk as Disk>⟧.view self.old).faults }
-        ensures calls { (⟦<MemDisk as Disk>⟧.view self.new).calls ≡ (⟦<MemDisk as Disk>⟧.view self.old).calls }
+        requires absent { files (seen self.old) (segment side name) ≡ None }
+        requires free { IsFree (seen self.old) (segment side name) }
+        ensures goes_on { GoesOn (seen self.old) (seen self.new) }
+        ensures flights { (seen self.new).in_flight ≡ (seen self.old).in_flight }
+        ensures put { OnOk result (ChangesFile (segment side name) (λ f g. g ≡ Some (whole bytes.now)) (seen self.old) (seen self.new)) }
+        ensures err { OnErr result (seen self.new ≡ seen self.old) }
+        ensures stalls { (seen self.new).polls_left ≡ (seen self.old).polls_left }
+        ensures steady { (seen self.new).faults ≡ (seen self.old).faults }
+        ensures calls { (seen self.new).calls ≡ (seen self.old).calls }
         ensures plan { ⟦<MemDisk as Planned>⟧.plan self.new ≡ ⟦<MemDisk as Planned>⟧.plan self.old }
-        ensures rested { IsRested (files (⟦<MemDisk as Disk>⟧.view self.old)) → IsRested (files (⟦<MemDisk as Disk>⟧.view self.new)) }
+        ensures rested { IsRested (files (seen self.old)) → IsRested (files (seen self.new)) }
     {
         let Some(room) = self.ops.len().checked_add(1) else {
             return Err(NoMemory);
@@ -104,7 +106,7 @@ impl MemDisk {
     /// The operation of that number is to fail, at its first poll that is not stalled. The operations are counted
     /// from 0, over all starts that were answered `Ok`. `Err` means out of memory.
     pub fn fail_op(&mut self, number: u64) -> Result<(), NoMemory>
-        ensures same { ⟦<MemDisk as Disk>⟧.view self.new ≡ ⟦<MemDisk as Disk>⟧.view self.old }
+        ensures same { seen self.new ≡ seen self.old }
         ensures planned { OnOk result (⟦<MemDisk as Planned>⟧.plan self.new ≡ record (⟦<MemDisk as Planned>⟧.plan self.old) { failing_ops = (⟦<MemDisk as Planned>⟧.plan self.old).failing_ops ++ number ∷ [] }) }
         ensures err { OnErr result (⟦<MemDisk as Planned>⟧.plan self.new ≡ ⟦<MemDisk as Planned>⟧.plan self.old) }
     {
@@ -115,7 +117,7 @@ impl MemDisk {
     /// The call of `list` or `read` of that number is to fail. The calls are counted from 0, over both. `Err` is
     /// out of memory.
     pub fn fail_call(&mut self, number: u64) -> Result<(), NoMemory>
-        ensures same { ⟦<MemDisk as Disk>⟧.view self.new ≡ ⟦<MemDisk as Disk>⟧.view self.old }
+        ensures same { seen self.new ≡ seen self.old }
         ensures planned { OnOk result (⟦<MemDisk as Planned>⟧.plan self.new ≡ record (⟦<MemDisk as Planned>⟧.plan self.old) { failing_calls = (⟦<MemDisk as Planned>⟧.plan self.old).failing_calls ++ number ∷ [] }) }
         ensures err { OnErr result (⟦<MemDisk as Planned>⟧.plan self.new ≡ ⟦<MemDisk as Planned>⟧.plan self.old) }
     {
@@ -125,8 +127,8 @@ impl MemDisk {
 
     /// What a read gives. `None` exactly where no file of that segment is created.
     pub fn content(&self, side: Side, name: SegName) -> Option<&[u8]>
-        ensures some { IfSome result (λ bytes. as_read (files (⟦<MemDisk as Disk>⟧.view self.now) (segment side name)) ≡ Some bytes.now) }
-        ensures none { IfNone result (as_read (files (⟦<MemDisk as Disk>⟧.view self.now) (segment side name)) ≡ None) }
+        ensures some { IfSome result (λ bytes. as_read (files (seen self.now) (segment side name)) ≡ Some bytes.now) }
+        ensures none { IfNone result (as_read (files (seen self.now) (segment side name)) ≡ None) }
     {
         content_of(&self.files, side, name)
     }
@@ -134,8 +136,8 @@ impl MemDisk {
     /// The bytes of all writes started on a file. `None` exactly where no creation of it was started and it was
     /// not put.
     pub fn sent(&self, side: Side, name: SegName) -> Option<&[u8]>
-        ensures some { IfSome result (λ bytes. as_sent (files (⟦<MemDisk as Disk>⟧.view self.now) (segment side name)) ≡ Some bytes.now) }
-        ensures none { IfNone result (files (⟦<MemDisk as Disk>⟧.view self.now) (segment side name) ≡ None) }
+        ensures some { IfSome result (λ bytes. as_sent (files (seen self.now) (segment side name)) ≡ Some bytes.now) }
+        ensures none { IfNone result (files (seen self.now) (segment side name) ≡ None) }
     {
         sent_of(&self.files, side, name)
     }
@@ -143,83 +145,85 @@ impl MemDisk {
     /// The image that the pick names, as a disk in which every byte is stable: no fault, no poll to stall, nothing
     /// in flight, and no failure asked for. `Err` means out of memory, and gives the disk up.
     pub fn crash(self, pick: &CrashPick) -> Result<MemDisk, NoMemory>
-        ensures image { IfOk result (λ disk. IsImage (files (⟦<MemDisk as Disk>⟧.view self)) (dirs_as_read (files (⟦<MemDisk as Disk>⟧.view disk)))) }
-        ensures picked { IfOk result (λ disk. (p : Place) → dirs_as_read (files (⟦<MemDisk as Disk>⟧.view disk)) p ≡ picked_dirs (files (⟦<MemDisk as Disk>⟧.view self)) pick.now.files p) }
-        ensures stable { IfOk result (λ disk. (p : Place) → files (⟦<MemDisk as Disk>⟧.view disk) p ≡ whole_files (dirs_as_read (files (⟦<MemDisk as Disk>⟧.view disk))) p) }
-        ensures rested { IfOk result (λ disk. IsRested (files (⟦<MemDisk as Disk>⟧.view disk))) }
-        ensures no_faults { IfOk result (λ disk. (s : Side) → (⟦<MemDisk as Disk>⟧.view disk).faults s ≡ 0) }
-        ensures no_polls { IfOk result (λ disk. (s : Side) → (⟦<MemDisk as Disk>⟧.view disk).polls_left s ≡ 0) }
+        ensures image { IfOk result (λ disk. IsImage (files (seen self)) (dirs_as_read (files (seen disk)))) }
+        ensures picked { IfOk result (λ disk. (p : Place) → dirs_as_read (files (seen disk)) p ≡ picked_dirs (files (seen self)) pick.now.files p) }
+        ensures stable { IfOk result (λ disk. (p : Place) → files (seen disk) p ≡ whole_files (dirs_as_read (files (seen disk))) p) }
+        ensures rested { IfOk result (λ disk. IsRested (files (seen disk))) }
+        ensures no_faults { IfOk result (λ disk. (s : Side) → (seen disk).faults s ≡ 0) }
+        ensures no_polls { IfOk result (λ disk. (s : Side) → (seen disk).polls_left s ≡ 0) }
         ensures no_plan { IfOk result (λ disk. ⟦<MemDisk as Planned>⟧.plan disk ≡ record { failing_ops = []; starts = 0; failing_calls = []; calls = 0 }) }
-        ensures idle { IfOk result (λ disk. NothingInFlight (⟦<MemDisk as Disk>⟧.view disk)) }
-        ensures no_calls { IfOk result (λ disk. (⟦<MemDisk as Disk>⟧.view disk).calls ≡ []) }
+        ensures idle { IfOk result (λ disk. NothingInFlight (seen disk)) }
+        ensures no_calls { IfOk result (λ disk. (seen disk).calls ≡ []) }
     {
         let MemDisk { alloc, files, .. } = self;
         let files = files_left(alloc, files, pick.files.as_slice())?;
-        Ok(holding(alloc, files))
+        Ok(MemDisk::holding(alloc, files))
     }
 
     /// The premise on checksums, of the image that the pick names: whether each whole chunk in it that has the log
     /// number of its file was sent to its place. `Err` means out of memory.
     pub fn chance_free(&self, pick: &CrashPick) -> Result<bool, NoMemory>
-        ensures { IfOk result (λ free. IsTrue free ↔ IsChanceFree IsChunkOf (files (⟦<MemDisk as Disk>⟧.view self.now)) (picked_dirs (files (⟦<MemDisk as Disk>⟧.view self.now)) pick.now.files)) }
+        ensures { IfOk result (λ free. IsTrue free ↔ IsChanceFree IsChunkOf (files (seen self.now)) (picked_dirs (files (seen self.now)) pick.now.files)) }
     {
         is_chance_free(self.alloc, &self.files, pick.files.as_slice())
     }
-}
 
-/// A disk that holds these files, on which nothing has happened yet.
-fn holding(alloc: Global, kept: Vec<MemFile>) -> MemDisk
-    requires ordered { AreInOrder kept.items }
-    ensures kept { files (⟦<MemDisk as Disk>⟧.view result) ≡ files_held kept.items }
-    ensures no_faults { (s : Side) → (⟦<MemDisk as Disk>⟧.view result).faults s ≡ 0 }
-    ensures no_polls { (s : Side) → (⟦<MemDisk as Disk>⟧.view result).polls_left s ≡ 0 }
-    ensures no_plan { ⟦<MemDisk as Planned>⟧.plan result ≡ record { failing_ops = []; starts = 0; failing_calls = []; calls = 0 } }
-    ensures idle { NothingInFlight (⟦<MemDisk as Disk>⟧.view result) }
-    ensures no_calls { (⟦<MemDisk as Disk>⟧.view result).calls ≡ [] }
-{
-    MemDisk {
-        alloc,
-        files: kept,
-        ops: Vec::new(alloc),
-        undos: Vec::new(alloc),
-        faults: BySide {
-            primary: 0,
-            secondary: 0,
-        },
-        polls: BySide {
-            primary: 0,
-            secondary: 0,
-        },
-        fail_ops: Vec::new(alloc),
-        calls: CallFaults {
-            numbers: Vec::new(alloc),
-            calls: 0,
-        },
-        log: CallLog::new(),
+    /// A disk that holds these files, on which nothing has happened yet.
+    fn holding(alloc: Global, kept: Vec<MemFile>) -> MemDisk
+        requires ordered { AreInOrder kept.items }
+        ensures kept { files (seen result) ≡ files_held kept.items }
+        ensures no_faults { (s : Side) → (seen result).faults s ≡ 0 }
+        ensures no_polls { (s : Side) → (seen result).polls_left s ≡ 0 }
+        ensures no_plan { ⟦<MemDisk as Planned>⟧.plan result ≡ record { failing_ops = []; starts = 0; failing_calls = []; calls = 0 } }
+        ensures idle { NothingInFlight (seen result) }
+        ensures no_calls { (seen result).calls ≡ [] }
+    {
+        MemDisk {
+            alloc,
+            files: kept,
+            ops: Vec::new(alloc),
+            undos: Vec::new(alloc),
+            faults: BySide {
+                primary: 0,
+                secondary: 0,
+            },
+            polls: BySide {
+                primary: 0,
+                secondary: 0,
+            },
+            fail_ops: Vec::new(alloc),
+            calls: CallFaults {
+                numbers: Vec::new(alloc),
+                calls: 0,
+            },
+            log: CallLog::new(),
+        }
     }
 }
 
 impl Disk for MemDisk {
+    ghost use Rattle.mem_disk.specs.Seen.{seen};
+
     ghost tells = { true };
 
     ghost view = { λ d. mem_view d.files.items d.ops.items d.undos.items (by_side d.faults.primary d.faults.secondary) (by_side d.polls.primary d.polls.secondary) d.log.calls };
 
     fn list(&mut self, side: Side) -> Result<Names, DiskErr>
-        ensures goes_on { GoesOn (⟦<MemDisk as Disk>⟧.view self.old) (⟦<MemDisk as Disk>⟧.view self.new) }
-        ensures same { SameDisk (⟦<MemDisk as Disk>⟧.view self.old) (⟦<MemDisk as Disk>⟧.view self.new) }
-        ensures failed { IsErrOf result DiskErr.Failed → Rose ((⟦<MemDisk as Disk>⟧.view self.old).faults side) ((⟦<MemDisk as Disk>⟧.view self.new).faults side) }
+        ensures goes_on { GoesOn (seen self.old) (seen self.new) }
+        ensures same { SameDisk (seen self.old) (seen self.new) }
+        ensures failed { IsErrOf result DiskErr.Failed → Rose ((seen self.old).faults side) ((seen self.new).faults side) }
         ensures ascending { IfOk result IsAscending }
         ensures numbers { IfOk result AreSegmentNames }
-        ensures names { IfOk result (IsListing (files (⟦<MemDisk as Disk>⟧.view self.old)) side) }
-        ensures noted { (⟦<MemDisk as Disk>⟧.view self.new).calls ≡ was_listed side (answered result) ∷ (⟦<MemDisk as Disk>⟧.view self.old).calls }
+        ensures names { IfOk result (IsListing (files (seen self.old)) side) }
+        ensures noted { (seen self.new).calls ≡ was_listed side (answered result) ∷ (seen self.old).calls }
 
         // It fails exactly at the calls that were to fail.
         ensures fails { IsErrOf result DiskErr.Failed ↔ FailsNext (⟦<MemDisk as Planned>⟧.plan self.old) }
         ensures counts { ⟦<MemDisk as Planned>⟧.plan self.new ≡ after_call (⟦<MemDisk as Planned>⟧.plan self.old) }
 
         // No poll to stall is taken, and nothing is counted but the failure that is answered.
-        ensures stalls { (⟦<MemDisk as Disk>⟧.view self.new).polls_left ≡ (⟦<MemDisk as Disk>⟧.view self.old).polls_left }
-        ensures steady { (s : Side) → (IsErrOf result DiskErr.Failed × (s ≡ side) → ⊥) → (⟦<MemDisk as Disk>⟧.view self.new).faults s ≡ (⟦<MemDisk as Disk>⟧.view self.old).faults s }
+        ensures stalls { (seen self.new).polls_left ≡ (seen self.old).polls_left }
+        ensures steady { (s : Side) → (IsErrOf result DiskErr.Failed × (s ≡ side) → ⊥) → (seen self.new).faults s ≡ (seen self.old).faults s }
     {
         if self.calls.next() {
             self.faults.raise(side);
@@ -233,22 +237,22 @@ impl Disk for MemDisk {
     }
 
     fn read(&mut self, side: Side, name: SegName, at: u64, buf: &mut [u8]) -> Result<usize, DiskErr>
-        ensures goes_on { GoesOn (⟦<MemDisk as Disk>⟧.view self.old) (⟦<MemDisk as Disk>⟧.view self.new) }
-        ensures same { SameDisk (⟦<MemDisk as Disk>⟧.view self.old) (⟦<MemDisk as Disk>⟧.view self.new) }
-        ensures failed { IsErrOf result DiskErr.Failed → Rose ((⟦<MemDisk as Disk>⟧.view self.old).faults side) ((⟦<MemDisk as Disk>⟧.view self.new).faults side) }
+        ensures goes_on { GoesOn (seen self.old) (seen self.new) }
+        ensures same { SameDisk (seen self.old) (seen self.new) }
+        ensures failed { IsErrOf result DiskErr.Failed → Rose ((seen self.old).faults side) ((seen self.new).faults side) }
         ensures within { IfOk result (λ n. n ≤ length buf.new) }
         ensures behind { IfOk result (λ n. drop n buf.new ≡ drop n buf.old) }
-        ensures bytes { IfOk result (λ n. (f : File) → files (⟦<MemDisk as Disk>⟧.view self.old) (segment side name) ≡ Some f → FillsFrom f.reads at buf.new n) }
-        ensures no_file { IfOk result (λ n. files (⟦<MemDisk as Disk>⟧.view self.old) (segment side name) ≡ None → n ≡ 0) }
-        ensures noted { (⟦<MemDisk as Disk>⟧.view self.new).calls ≡ was_read side name (length buf.old) ∷ (⟦<MemDisk as Disk>⟧.view self.old).calls }
+        ensures bytes { IfOk result (λ n. (f : File) → files (seen self.old) (segment side name) ≡ Some f → FillsFrom f.reads at buf.new n) }
+        ensures no_file { IfOk result (λ n. files (seen self.old) (segment side name) ≡ None → n ≡ 0) }
+        ensures noted { (seen self.new).calls ≡ was_read side name (length buf.old) ∷ (seen self.old).calls }
 
         // It fails exactly at the calls that were to fail.
         ensures fails { IsErrOf result DiskErr.Failed ↔ FailsNext (⟦<MemDisk as Planned>⟧.plan self.old) }
         ensures counts { ⟦<MemDisk as Planned>⟧.plan self.new ≡ after_call (⟦<MemDisk as Planned>⟧.plan self.old) }
 
         // No poll to stall is taken, and nothing is counted but the failure that is answered.
-        ensures stalls { (⟦<MemDisk as Disk>⟧.view self.new).polls_left ≡ (⟦<MemDisk as Disk>⟧.view self.old).polls_left }
-        ensures steady { (s : Side) → (IsErrOf result DiskErr.Failed × (s ≡ side) → ⊥) → (⟦<MemDisk as Disk>⟧.view self.new).faults s ≡ (⟦<MemDisk as Disk>⟧.view self.old).faults s }
+        ensures stalls { (seen self.new).polls_left ≡ (seen self.old).polls_left }
+        ensures steady { (s : Side) → (IsErrOf result DiskErr.Failed × (s ≡ side) → ⊥) → (seen self.new).faults s ≡ (seen self.old).faults s }
     {
         self.log.note_read(side, name, buf.len());
         if self.calls.next() {
@@ -259,18 +263,18 @@ impl Disk for MemDisk {
     }
 
     fn start(&mut self, op: DiskOp<'_>) -> Result<OpId, NoMemory>
-        requires free { IsFree (⟦<MemDisk as Disk>⟧.view self.old) (place_of op) }
-        requires may { MayStart (flight_of op).act (files (⟦<MemDisk as Disk>⟧.view self.old) (place_of op)) }
-        ensures goes_on { GoesOn (⟦<MemDisk as Disk>⟧.view self.old) (⟦<MemDisk as Disk>⟧.view self.new) }
-        ensures starts { IfOk result (λ id. Starts (flight_of op.entry) (side_of op.entry) id (⟦<MemDisk as Disk>⟧.view self.old) (⟦<MemDisk as Disk>⟧.view self.new)) }
-        ensures file { OnOk result (ChangesFile (place_of op.entry) (λ f g. g ≡ after_start (flight_of op.entry).act (bytes_sent_by op.entry) f) (⟦<MemDisk as Disk>⟧.view self.old) (⟦<MemDisk as Disk>⟧.view self.new)) }
-        ensures err { OnErr result ((⟦<MemDisk as Disk>⟧.view self.new) ≡ (⟦<MemDisk as Disk>⟧.view self.old)) }
-        ensures noted { IfOk result (λ id. (⟦<MemDisk as Disk>⟧.view self.new).calls ≡ was_started id ∷ (⟦<MemDisk as Disk>⟧.view self.old).calls) }
+        requires free { IsFree (seen self.old) (place_of op) }
+        requires may { MayStart (flight_of op).act (files (seen self.old) (place_of op)) }
+        ensures goes_on { GoesOn (seen self.old) (seen self.new) }
+        ensures starts { IfOk result (λ id. Starts (flight_of op.entry) (side_of op.entry) id (seen self.old) (seen self.new)) }
+        ensures file { OnOk result (ChangesFile (place_of op.entry) (λ f g. g ≡ after_start (flight_of op.entry).act (bytes_sent_by op.entry) f) (seen self.old) (seen self.new)) }
+        ensures err { OnErr result ((seen self.new) ≡ (seen self.old)) }
+        ensures noted { IfOk result (λ id. (seen self.new).calls ≡ was_started id ∷ (seen self.old).calls) }
 
         // The operations are numbered as they are started.
         ensures number { IfOk result (λ id. id.number ≡ (⟦<MemDisk as Planned>⟧.plan self.old).starts) }
         ensures counts { OnOk result (⟦<MemDisk as Planned>⟧.plan self.new ≡ after_op (⟦<MemDisk as Planned>⟧.plan self.old)) }
-        ensures stalls { (⟦<MemDisk as Disk>⟧.view self.new).polls_left ≡ (⟦<MemDisk as Disk>⟧.view self.old).polls_left }
+        ensures stalls { (seen self.new).polls_left ≡ (seen self.old).polls_left }
         ensures not_counted { OnErr result (⟦<MemDisk as Planned>⟧.plan self.new ≡ ⟦<MemDisk as Planned>⟧.plan self.old) }
     {
         let made = op_of(op);
@@ -292,22 +296,22 @@ impl Disk for MemDisk {
     }
 
     fn poll(&mut self, id: OpId) -> Progress
-        requires in_flight { IsSome ((⟦<MemDisk as Disk>⟧.view self.old).in_flight id) }
-        ensures goes_on { GoesOn (⟦<MemDisk as Disk>⟧.view self.old) (⟦<MemDisk as Disk>⟧.view self.new) }
-        ensures polled { Polled true id (⟦<MemDisk as Disk>⟧.view self.old) (⟦<MemDisk as Disk>⟧.view self.new) result }
-        ensures noted { (⟦<MemDisk as Disk>⟧.view self.new).calls ≡ was_polled id ∷ (⟦<MemDisk as Disk>⟧.view self.old).calls }
+        requires in_flight { IsSome ((seen self.old).in_flight id) }
+        ensures goes_on { GoesOn (seen self.old) (seen self.new) }
+        ensures polled { Polled true id (seen self.old) (seen self.new) result }
+        ensures noted { (seen self.new).calls ≡ was_polled id ∷ (seen self.old).calls }
 
         // It fails exactly where the operation was to fail, once it is not stalled.
-        ensures answers { AnswersAsPlanned (⟦<MemDisk as Planned>⟧.plan self.old) id.number ((⟦<MemDisk as Disk>⟧.view self.old).polls_left id.side) result }
+        ensures answers { AnswersAsPlanned (⟦<MemDisk as Planned>⟧.plan self.old) id.number ((seen self.old).polls_left id.side) result }
         ensures plan { ⟦<MemDisk as Planned>⟧.plan self.new ≡ ⟦<MemDisk as Planned>⟧.plan self.old }
 
         // A stalled poll takes one poll of its side, and no other one does. Nothing is counted but the failure that is answered.
-        ensures took { result ≡ Progress.Pending → (⟦<MemDisk as Disk>⟧.view self.new).polls_left id.side + 1 ≡ (⟦<MemDisk as Disk>⟧.view self.old).polls_left id.side }
-        ensures stalls { (s : Side) → ((result ≡ Progress.Pending) × (s ≡ id.side) → ⊥) → (⟦<MemDisk as Disk>⟧.view self.new).polls_left s ≡ (⟦<MemDisk as Disk>⟧.view self.old).polls_left s }
-        ensures steady { (s : Side) → ((result ≡ Progress.Failed) × (s ≡ id.side) → ⊥) → (⟦<MemDisk as Disk>⟧.view self.new).faults s ≡ (⟦<MemDisk as Disk>⟧.view self.old).faults s }
+        ensures took { result ≡ Progress.Pending → (seen self.new).polls_left id.side + 1 ≡ (seen self.old).polls_left id.side }
+        ensures stalls { (s : Side) → ((result ≡ Progress.Pending) × (s ≡ id.side) → ⊥) → (seen self.new).polls_left s ≡ (seen self.old).polls_left s }
+        ensures steady { (s : Side) → ((result ≡ Progress.Failed) × (s ≡ id.side) → ⊥) → (seen self.new).faults s ≡ (seen self.old).faults s }
 
         // A failed operation leaves each file as it stands.
-        ensures kept { result ≡ Progress.Failed → files (⟦<MemDisk as Disk>⟧.view self.new) ≡ files (⟦<MemDisk as Disk>⟧.view self.old) }
+        ensures kept { result ≡ Progress.Failed → files (seen self.new) ≡ files (seen self.old) }
     {
         self.log.note_poll(id);
         if self.polls.take_one(id.side) {
@@ -330,8 +334,10 @@ impl Disk for MemDisk {
 }
 
 impl StallDisk for MemDisk {
+    ghost use Rattle.mem_disk.specs.Seen.{seen};
+
     fn stall(&mut self, side: Side, polls: u32)
-        ensures stalls { Stalls side polls (⟦<MemDisk as Disk>⟧.view self.old) (⟦<MemDisk as Disk>⟧.view self.new) }
+        ensures stalls { Stalls side polls (seen self.old) (seen self.new) }
         ensures plan { ⟦<MemDisk as Planned>⟧.plan self.new ≡ ⟦<MemDisk as Planned>⟧.plan self.old }
     {
         self.polls.add(side, polls);
