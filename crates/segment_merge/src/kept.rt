@@ -4,8 +4,6 @@ ghost use Rattle.std.specs.Prelude.{◌≡◌, ◌≤◌, ◌∷◌, ◌++◌, [
 ghost use Rattle.batch_repr.specs.Batches.{end_of};
 ghost use Rattle.segment_merge.specs.Rows.{IsNumbered};
 
-use crate::numbers::end;
-use crate::same::same_batch;
 use batch_repr::{Batch, Batches};
 use std::alloc::Global;
 use std::marker::Model;
@@ -55,7 +53,7 @@ impl Kept {
         let first = batch.first;
         let place = batches.partition_point(|kept| kept.first < first);
         match batches.get(place) {
-            Some(kept) => same_batch(kept, batch),
+            Some(kept) => kept.same_as(batch),
             None => false,
         }
     }
@@ -67,7 +65,7 @@ impl Kept {
         ensures batches { OnOk result (self.new.batches ≡ self.old.batches ++ batch ∷ []) }
         ensures next { OnOk result (self.new.next ≡ end_of batch) }
     {
-        let next = end(&batch);
+        let next = batch.end();
         match self.batches.push(batch) {
             Ok(()) => {
                 self.next = next;

@@ -13,8 +13,6 @@ mod fault;
 mod kept;
 mod lenient;
 mod merging;
-mod numbers;
-mod same;
 mod segment;
 mod theorems;
 

@@ -12,7 +12,6 @@ ghost use Rattle.segment_merge.specs.Steps.{KeepsMerged, Steps, SegmentAnswers};
 
 use crate::fault::MergeFault;
 use crate::kept::Kept;
-use crate::numbers::end;
 use crate::segment::{SegmentRead, Segments};
 use batch_repr::{Batch, Batches};
 use std::alloc::Global;
@@ -59,7 +58,7 @@ fn merge_segment(kept: &mut Kept, segment: SegmentRead) -> Result<(), MergeFault
     let mut expected = kept.next();
     let mut is_first = true;
     for batch in segment.batches.into_vec() {
-        let behind = end(&batch);
+        let behind = batch.end();
         step(kept, expected, is_first, index, batch)?;
         expected = behind;
         is_first = false;

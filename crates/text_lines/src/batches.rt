@@ -1,7 +1,6 @@
 //! The lines of a batch.
 
 ghost use Rattle.std.specs.Prelude.{◌≡◌, ◌++◌, OnOk};
-ghost use Rattle.batch_repr.specs.Batches.{count_of};
 ghost use Rattle.text_lines.specs.Lines.{entry_line, batch_lines};
 
 use crate::{put_number, put_printed};
@@ -16,26 +15,12 @@ pub fn put_batch(out: &mut Buf, batch: &Batch) -> Result<(), NoMemory>
     out.append(b"batch ")?;
     put_number(out, batch.first)?;
     out.append(b" ")?;
-    put_number(out, count(entries))?;
+    put_number(out, batch.count())?;
     out.append(b"\n")?;
     for entry in entries {
         put_entry(out, entry)?;
     }
     Ok(())
-}
-
-/// How many of the entries take a number.
-fn count(entries: &[Entry]) -> u64
-    ensures { result ≡ count_of entries.now }
-{
-    let mut found = 0;
-    for entry in entries {
-        match entry {
-            Entry::Note { .. } => {}
-            Entry::Set { .. } | Entry::Delete { .. } => found += 1,
-        }
-    }
-    found
 }
 
 /// Adds the line of an entry.

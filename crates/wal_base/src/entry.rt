@@ -1,6 +1,6 @@
 //! Entries of batches.
 
-ghost use Rattle.std.specs.Prelude.{◌≡◌, IfOk};
+ghost use Rattle.std.specs.Prelude.{◌≡◌, ◌≢◌, IfOk, MatchBool};
 
 use crate::NoMemory;
 use crate::bytes::Blob;
@@ -31,6 +31,20 @@ impl Entry {
             Entry::Note { bytes } => Ok(Entry::Note {
                 bytes: bytes.share()?,
             }),
+        }
+    }
+
+    /// Whether the entries are of one kind and have the same bytes.
+    pub fn same_as(&self, other: &Entry) -> bool
+        ensures { MatchBool result (self.now ≡ other.now) (self.now ≢ other.now) }
+    {
+        match (self, other) {
+            (Entry::Set { key, value }, Entry::Set { key: k, value: v }) => {
+                key.as_slice() == k.as_slice() && value.as_slice() == v.as_slice()
+            }
+            (Entry::Delete { key }, Entry::Delete { key: k }) => key.as_slice() == k.as_slice(),
+            (Entry::Note { bytes }, Entry::Note { bytes: b }) => bytes.as_slice() == b.as_slice(),
+            _ => false,
         }
     }
 }

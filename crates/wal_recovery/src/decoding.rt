@@ -1,7 +1,6 @@
 //! The batches of records, and those of them that take a number.
 
 ghost use Rattle.std.specs.Prelude.{◌≡◌, IfOk, IfErr};
-ghost use Rattle.batch_repr.specs.Batches.{count_of};
 ghost use Rattle.batch_repr.specs.Spelling.{SpellsBatch};
 ghost use Rattle.wal_recovery.specs.Recovering.{taking_numbers, Spell};
 ghost use Rattle.wal_recovery.specs.Refused.{IsBadRecord};
@@ -11,7 +10,7 @@ use batch_repr::{Batch, BatchFault, Batches, decode_shared};
 use block_record::Rec;
 use std::alloc::Global;
 use thiserror::Error;
-use wal_base::{Entry, NoMemory};
+use wal_base::NoMemory;
 
 /// Why records were not decoded.
 #[derive(Clone, Copy, Debug, PartialEq, Eq, Error)]
@@ -56,27 +55,13 @@ pub(crate) fn batches_of(alloc: Global, records: &[Rec]) -> Result<Batches, Deco
     Ok(batches)
 }
 
-/// How many of the entries take a number.
-pub(crate) fn count(entries: &[Entry]) -> u64
-    ensures { result ≡ count_of entries.now }
-{
-    let mut found = 0u64;
-    for entry in entries {
-        match entry {
-            Entry::Note { .. } => {}
-            Entry::Set { .. } | Entry::Delete { .. } => found += 1,
-        }
-    }
-    found
-}
-
 /// The batches that take a number, whose bytes are shared with those of the report.
 pub(crate) fn counted_of(alloc: Global, batches: &[Batch]) -> Result<Batches, NoMemory>
     ensures { IfOk result (λ shared. shared ≡ taking_numbers batches.now) }
 {
     let mut counted = Batches::with_capacity(alloc, batches.len())?;
     for batch in batches {
-        if count(batch.entries.as_slice()) > 0 {
+        if batch.count() > 0 {
             let same = batch.share(alloc)?;
             if counted.push(same).is_err() {
                 return Err(NoMemory);

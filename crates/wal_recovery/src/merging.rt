@@ -20,7 +20,7 @@ ghost use Rattle.wal_recovery.specs.Gathered.{IsAsListed, AreAsListed, IsReportO
 ghost use Rattle.wal_recovery.specs.OneWal.{AddsReports, IsRefusedWal, IsLenientlyRefusedWal};
 ghost use Rattle.wal_recovery.specs.Asking.{ReadsOnly, found_in};
 
-use crate::decoding::{DecodeFault, batches_of, count, counted_of};
+use crate::decoding::{DecodeFault, batches_of, counted_of};
 use crate::fault::RecoverFault;
 use crate::listing::Found;
 use crate::reading::read_bytes;
@@ -181,7 +181,7 @@ fn end_behind(from: u64, batches: &[Batch]) -> u64
     ensures { result ≡ end_after from batches.now }
 {
     match batches.last() {
-        Some(last) => last.first + count(last.entries.as_slice()),
+        Some(last) => last.end(),
         None => from,
     }
 }

@@ -18,8 +18,8 @@ returns-in-Some c =
     let below : place < length batches = grind (arith, nat_tests) in
     let read : get_or batches place c.args.batch.now ≡ c.in-Some.kept.now = search rules in
     let same : batches ≡ c.args.self.now.batches = search rules in
-    subst (λ xs. MatchBool c.same_batch.result (Contains xs c.args.batch.now) (Contains xs c.args.batch.now → ⊥)) same
-    (found_there batches c.args.batch.now c.in-Some.kept.now place c.same_batch.result up point below read c.same_batch.ensures)
+    subst (λ xs. MatchBool c.same_as.result (Contains xs c.args.batch.now) (Contains xs c.args.batch.now → ⊥)) same
+    (found_there batches c.args.batch.now c.in-Some.kept.now place c.same_as.result up point below read c.same_as.ensures)
 
 pub returns-in-None : goal.returns-in-None
 returns-in-None c =

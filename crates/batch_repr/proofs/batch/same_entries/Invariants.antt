@@ -1,5 +1,5 @@
 use Rattle.std.proofs.Common.{◌≡◌, take}
-use Rattle.segment_merge.proofs.same.same_entries.Given as goal
+use Rattle.batch_repr.proofs.batch.same_entries.Given as goal
 
 abbrev pub invariant-loop-i : goal.invariant-loop-i
 invariant-loop-i l = take l.i l.entries ≡ take l.i l.others
