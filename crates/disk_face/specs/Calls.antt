@@ -1,5 +1,5 @@
 -- What the calls of a disk do to what it means (docs/FORMATS.md, "The disk").
-use Rattle.std.specs.Prelude.{◌≡◌, ◌≢◌, ℕ, suc, ◌+◌, ◌-◌, ◌≤◌, ◌^◌, min, Bool, true, false, List, [], ◌++◌, length, take, drop, Option, Some, None, IsTrue}
+use Rattle.std.specs.Prelude.{◌≡◌, ◌≢◌, ℕ, suc, ◌+◌, ◌-◌, ◌≤◌, ◌^◌, min, Bool, true, false, List, [], ◌∷◌, ◌++◌, length, take, drop, Option, Some, None, IsTrue}
 use Rattle.disk_face.specs.declared.Side.{Side}
 use Rattle.disk_face.specs.declared.OpId.{OpId}
 use Rattle.disk_face.specs.declared.DiskOp.{DiskOp}
@@ -7,7 +7,7 @@ use Rattle.disk_face.specs.declared.DiskOp.TheVariants.{Create, Write, Sync}
 use Rattle.disk_face.specs.declared.Progress.{Progress}
 use Rattle.disk_face.specs.declared.Progress.TheVariants.{Pending, Done, Failed}
 use Rattle.wal_base.specs.Faults.{Rose}
-use Rattle.disk_face.specs.View.{Place, segment, Act, creating, writing, syncing, Flight, File, DiskView, files}
+use Rattle.disk_face.specs.View.{Place, segment, Act, creating, writing, syncing, Flight, File, Call, DiskView, files}
 
 -- the side whose directory an operation works in
 abbrev pub side_of : DiskOp → Side
@@ -122,6 +122,22 @@ abbrev pub Polled : Bool → OpId → DiskView → DiskView → Progress → Typ
 Polled tells id old new Pending = StaysPending id old new
 Polled tells id old new Done = IsDone tells id old new
 Polled tells id old new Failed = HasFailed tells id old new
+
+-- the faults stay, but on the side of the operation where `Failed` is answered
+abbrev pub FaultsStayBut : OpId → Progress → DiskView → DiskView → Type 0
+FaultsStayBut id answer old new = (s : Side) → ((answer ≡ Failed) × (s ≡ id.side) → ⊥) → new.faults s ≡ old.faults s
+
+-- the polls left stay, but on the side of the operation where `Pending` is answered
+abbrev pub StallsStayBut : OpId → Progress → DiskView → DiskView → Type 0
+StallsStayBut id answer old new = (s : Side) → ((answer ≡ Pending) × (s ≡ id.side) → ⊥) → new.polls_left s ≡ old.polls_left s
+
+-- the polls left stay on both sides
+abbrev pub StallsStay : DiskView → DiskView → Type 0
+StallsStay old new = new.polls_left ≡ old.polls_left
+
+-- this call alone is noted
+abbrev pub Notes : Call → DiskView → DiskView → Type 0
+Notes call old new = new.calls ≡ call ∷ old.calls
 
 -- the buffer is filled from that place of the file, or as far as the file goes
 abbrev pub FillsFrom : List ℕ → ℕ → List ℕ → ℕ → Type 0

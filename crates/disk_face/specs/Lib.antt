@@ -3,7 +3,9 @@ pub mod Image
 pub mod Listing
 pub mod Calls
 pub mod Asked
+pub mod Answers
 pub mod Tables
 pub mod NoFiles
 pub mod Names
 pub mod Script
+pub mod Seen

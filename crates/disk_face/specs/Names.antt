@@ -1,6 +1,7 @@
 -- How a segment is named (docs/FORMATS.md, "Segment names").
-use Rattle.std.specs.Prelude.{◌≡◌, ℕ, zero, suc, ◌-◌, List, [], ◌∷◌, ◌++◌, length, replicate, decimal, codes}
+use Rattle.std.specs.Prelude.{◌≡◌, ◌≢◌, ℕ, zero, suc, ◌-◌, List, [], ◌∷◌, ◌++◌, length, replicate, decimal, codes, Option, Some, IsAscii}
 use Rattle.disk_face.specs.declared.SegName.{SegName}
+use Rattle.disk_face.specs.Listing.{IsSegmentName}
 
 -- the decimal digits of a number, with zeros in front up to that width
 abbrev pub filled : ℕ → ℕ → List ℕ
@@ -22,3 +23,19 @@ seg_text name = stem_text name ++ codes ".log"
 -- the bytes are the digits of that number, maybe with zeros in front
 abbrev pub IsFilled : List ℕ → ℕ → Type 0
 IsFilled bytes n = (width : ℕ) × (bytes ≡ filled width n)
+
+-- the text names no segment
+abbrev pub NamesNone : List ℕ → Type 0
+NamesNone text = (name : SegName) → IsSegmentName name → seg_text name ≢ text
+
+-- a segment that the text names is the one that was found
+abbrev pub FindsNamed : List ℕ → Option SegName → Type 0
+FindsNamed text found = (name : SegName) → IsSegmentName name → seg_text name ≡ text → found ≡ Some name
+
+-- P holds of what stands before the end of a text that ends as names do
+abbrev pub OfEachStem : List ℕ → (List ℕ → Type 0) → Type 0
+OfEachStem text P = (bytes : List ℕ) → IsAscii bytes → text ≡ bytes ++ codes ".log" → P bytes
+
+-- the stem of a name is cut into the digits of its WAL and those of its index
+abbrev pub CutsStem : List ℕ → List ℕ → List ℕ → Type 0
+CutsStem stem wal index = (name : SegName) → IsSegmentName name → stem ≡ stem_text name → IsFilled wal name.wal × IsFilled index name.index

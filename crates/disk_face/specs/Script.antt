@@ -19,6 +19,10 @@ pub record TellsOf (inner outer : DiskView) : Type 0 where
   pub history : outer.history ≡ inner.history
   pub polls : (side : Side) → inner.polls_left side ≤ outer.polls_left side
 
+-- on each side as many polls are left in both
+abbrev pub StallsAlike : DiskView → DiskView → Type 0
+StallsAlike inner outer = (side : Side) → outer.polls_left side ≡ inner.polls_left side
+
 -- the own polls of one side are raised, up to the last value
 pub record RaisesOwnPolls (side : Side) (polls : ℕ) (old new : Side → ℕ) : Type 0 where
   pub raised : new side ≡ min (old side + polls) (2 ^ 64 - 1)

@@ -1,6 +1,11 @@
 -- What the calls on tables and the removals do to a disk, over the same view (docs/FORMATS.md, "Tables").
-use Rattle.std.specs.Prelude.{◌≡◌, ◌≢◌, ℕ, ◌<◌, ◌≤◌, true, false, List, length, Option, Some, None}
-use Rattle.disk_face.specs.View.{Place, table, File, DiskView, files}
+use Rattle.std.specs.Prelude.{◌≡◌, ◌≢◌, ℕ, ◌<◌, ◌≤◌, Bool, true, false, List, length, Option, Some, None, Result, IfOk, OnOk, IsSome, IsTrue}
+use Rattle.disk_face.specs.declared.Side.{Side}
+use Rattle.disk_face.specs.declared.SegName.{SegName}
+use Rattle.disk_face.specs.declared.TableListed.{TableListed}
+use Rattle.disk_face.specs.declared.DiskErr.{DiskErr}
+use Rattle.disk_face.specs.View.{Place, segment, table, File, DiskView, files}
+use Rattle.disk_face.specs.Listing.{IsTableListing}
 
 -- a file that stands whole in each image
 abbrev pub whole : List ℕ → File
@@ -30,3 +35,31 @@ PutsTable upto bytes old new = ChangesInCall (table upto) (IsBeingPut bytes) old
 -- the call removes this file, and changes no other one
 abbrev pub Removes : Place → DiskView → DiskView → Type 0
 Removes place old new = ChangesInCall place (IsBeingRemoved (files old place)) old new
+
+-- the answer is a listing of the tables, where the disk tells them
+abbrev pub ListsTables : Bool → Result (List TableListed) DiskErr → DiskView → Type 0
+ListsTables tells result v = IfOk result (λ tables. IsTrue tells → IsTableListing (files v) tables)
+
+-- where the disk tells its files, the call puts this table
+abbrev pub Puts : Bool → ℕ → List ℕ → DiskView → DiskView → Type 0
+Puts tells upto bytes old new = IsTrue tells → PutsTable upto bytes old new
+
+-- where the disk tells its files, the call removes this segment
+abbrev pub Drops : Bool → Side → SegName → DiskView → DiskView → Type 0
+Drops tells side name old new = IsTrue tells → Removes (segment side name) old new
+
+-- where the disk tells its files, the call removes this table
+abbrev pub DropsTable : Bool → ℕ → DiskView → DiskView → Type 0
+DropsTable tells upto old new = IsTrue tells → Removes (table upto) old new
+
+-- after `Ok` the file stands whole, where the disk tells it
+abbrev pub StandsWhole : {T : Type 0} → Bool → Place → List ℕ → Result T DiskErr → DiskView → Type 0
+StandsWhole tells place bytes result v = OnOk result (IsTrue tells → files v place ≡ Some (whole bytes))
+
+-- after `Ok` the file is gone, where the disk tells it
+abbrev pub IsGone : {T : Type 0} → Bool → Place → Result T DiskErr → DiskView → Type 0
+IsGone tells place result v = OnOk result (IsTrue tells → files v place ≡ None)
+
+-- the file is there, where the disk tells it
+abbrev pub IsThere : Bool → Place → DiskView → Type 0
+IsThere tells place v = IsTrue tells → IsSome (files v place)

@@ -1,12 +1,11 @@
 //! The names of segments: one spelling each, read and written.
 
-ghost use Rattle.std.specs.Prelude.{◌≡◌, ◌≢◌, ◌+◌, ◌≤◌, ◌<◌, ◌^◌, ℕ, List, ◌++◌, length, codes, IfSome, IfNone, OnOk, OnErr, Some};
+ghost use Rattle.std.specs.Prelude.{◌≡◌, ◌+◌, ◌≤◌, ◌<◌, ◌++◌, length, IfSome, IfNone, OnOk, OnErr, Some};
 ghost use Rattle.std.specs.Option.{MatchOption};
-ghost use Rattle.std.specs.Str.{IsAscii};
 ghost use Rattle.arrayvec.specs.ArrayVec.{array_vec_len};
 ghost use Rattle.disk_face.specs.declared.SegName.{SegName};
 ghost use Rattle.disk_face.specs.Listing.{IsSegmentName};
-ghost use Rattle.disk_face.specs.Names.{filled, stem_text, seg_text, IsFilled};
+ghost use Rattle.disk_face.specs.Names.{filled, seg_text, NamesNone, FindsNamed, OfEachStem, CutsStem};
 
 use crate::SegName;
 use arrayvec::ArrayVec;
@@ -25,7 +24,7 @@ impl SegName {
     /// Reads the one spelling of a name. `None` exactly where the text is the spelling of no name.
     pub fn parse(text: &[u8]) -> Option<SegName>
         ensures some { IfSome result (λ name. (seg_text name ≡ text.now) × IsSegmentName name) }
-        ensures none { IfNone result ((name : SegName) → IsSegmentName name → seg_text name ≢ text.now) }
+        ensures none { IfNone result (NamesNone text.now) }
     {
         let name = candidate(text)?;
         if name.wal > WAL_MAX || name.index > INDEX_MAX {
@@ -51,7 +50,7 @@ impl SegName {
 
 /// The only name of which the text may be the spelling.
 fn candidate(text: &[u8]) -> Option<SegName>
-    ensures { (name : SegName) → IsSegmentName name → seg_text name ≡ text.now → result ≡ Some name }
+    ensures { FindsNamed text.now result }
 {
     let (wal, index) = split(stem(text)?);
     let wal = wal.parse::<u64>().ok()?;
@@ -61,7 +60,7 @@ fn candidate(text: &[u8]) -> Option<SegName>
 
 /// What stands before `.log`, if it is text.
 fn stem(text: &[u8]) -> Option<&str>
-    ensures { (bytes : List ℕ) → IsAscii bytes → text.now ≡ bytes ++ codes ".log" → MatchOption result ⊥ (λ stem. stem.now ≡ bytes) }
+    ensures { OfEachStem text.now (λ bytes. MatchOption result ⊥ (λ stem. stem.now ≡ bytes)) }
 {
     let stem = text.strip_suffix(b".log")?;
     std::str::from_utf8(stem).ok()
@@ -69,7 +68,7 @@ fn stem(text: &[u8]) -> Option<&str>
 
 /// The number of the WAL and the index, which is 0 where no dash is.
 fn split(stem: &str) -> (&str, &str)
-    ensures { (name : SegName) → IsSegmentName name → stem.now ≡ stem_text name → IsFilled result.0.now name.wal × IsFilled result.1.now name.index }
+    ensures { CutsStem stem.now result.0.now result.1.now }
 {
     match stem.split_once('-') {
         Some(parts) => parts,

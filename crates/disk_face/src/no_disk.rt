@@ -1,9 +1,11 @@
 //! A disk that keeps nothing, for a log without files.
 
-ghost use Rattle.std.specs.Prelude.{◌≡◌, false, [], ◌∷◌, length, IsErr, IsErrOf};
+ghost use Rattle.std.specs.Prelude.{◌≡◌, false, [], IsErr, IsErrOf};
 ghost use Rattle.disk_face.specs.declared.Side.{Side};
-ghost use Rattle.disk_face.specs.View.{was_listed, was_read, was_polled, NothingInFlight};
-ghost use Rattle.disk_face.specs.Calls.{GoesOn};
+ghost use Rattle.disk_face.specs.View.{was_listed, was_polled, NothingInFlight};
+ghost use Rattle.disk_face.specs.Calls.{GoesOn, StallsStay, Notes};
+ghost use Rattle.disk_face.specs.Answers.{AsksFor};
+ghost use Rattle.disk_face.specs.Seen.{bare};
 
 use crate::{
     CallLog, Disk, DiskErr, DiskOp, Names, OpId, Progress, SegName, Side, StallDisk, TableDisk,
@@ -25,9 +27,9 @@ impl NoDisk {
     /// Tells nothing. It has counted no fault, has nothing in flight, and leaves no polls to stall.
     pub fn new(alloc: Global) -> NoDisk
         ensures silent { ⟦<NoDisk as Disk>⟧.tells ≡ false }
-        ensures no_faults { (s : Side) → (⟦<NoDisk as Disk>⟧.view result).faults s ≡ 0 }
-        ensures no_polls { (s : Side) → (⟦<NoDisk as Disk>⟧.view result).polls_left s ≡ 0 }
-        ensures idle { NothingInFlight (⟦<NoDisk as Disk>⟧.view result) }
+        ensures no_faults { (s : Side) → (bare result).faults s ≡ 0 }
+        ensures no_polls { (s : Side) → (bare result).polls_left s ≡ 0 }
+        ensures idle { NothingInFlight (bare result) }
     {
         NoDisk {
             alloc,
@@ -49,9 +51,9 @@ impl Disk for NoDisk {
 
     fn list(&mut self, side: Side) -> Result<Names, DiskErr>
         ensures nothing { result ≡ Ok [] }
-        ensures goes_on { GoesOn (⟦<NoDisk as Disk>⟧.view self.old) (⟦<NoDisk as Disk>⟧.view self.new) }
-        ensures stalls { (⟦<NoDisk as Disk>⟧.view self.new).polls_left ≡ (⟦<NoDisk as Disk>⟧.view self.old).polls_left }
-        ensures noted { (⟦<NoDisk as Disk>⟧.view self.new).calls ≡ was_listed side [] ∷ (⟦<NoDisk as Disk>⟧.view self.old).calls }
+        ensures goes_on { GoesOn (bare self.old) (bare self.new) }
+        ensures stalls { StallsStay (bare self.old) (bare self.new) }
+        ensures noted { Notes (was_listed side []) (bare self.old) (bare self.new) }
     {
         let answer = Ok(Names::new(self.alloc));
         self.log.note_listing(side, &answer);
@@ -67,9 +69,9 @@ impl Disk for NoDisk {
     ) -> Result<usize, DiskErr>
         ensures nothing { result ≡ Ok 0 }
         ensures buffer { buf.new ≡ buf.old }
-        ensures goes_on { GoesOn (⟦<NoDisk as Disk>⟧.view self.old) (⟦<NoDisk as Disk>⟧.view self.new) }
-        ensures stalls { (⟦<NoDisk as Disk>⟧.view self.new).polls_left ≡ (⟦<NoDisk as Disk>⟧.view self.old).polls_left }
-        ensures noted { (⟦<NoDisk as Disk>⟧.view self.new).calls ≡ was_read side name (length buf.old) ∷ (⟦<NoDisk as Disk>⟧.view self.old).calls }
+        ensures goes_on { GoesOn (bare self.old) (bare self.new) }
+        ensures stalls { StallsStay (bare self.old) (bare self.new) }
+        ensures noted { AsksFor side name buf.old (bare self.old) (bare self.new) }
     {
         self.log.note_read(side, name, buf.len());
         // There is no file to read.
@@ -86,8 +88,8 @@ impl Disk for NoDisk {
     /// Asks of an operation that was never started. It may be asked of any.
     fn poll(&mut self, id: OpId) -> Progress
         ensures not_done { result ≡ Progress.Failed }
-        ensures stalls { (⟦<NoDisk as Disk>⟧.view self.new).polls_left ≡ (⟦<NoDisk as Disk>⟧.view self.old).polls_left }
-        ensures noted { (⟦<NoDisk as Disk>⟧.view self.new).calls ≡ was_polled id ∷ (⟦<NoDisk as Disk>⟧.view self.old).calls }
+        ensures stalls { StallsStay (bare self.old) (bare self.new) }
+        ensures noted { Notes (was_polled id) (bare self.old) (bare self.new) }
     {
         self.log.note_poll(id);
         Progress::Failed

@@ -1,13 +1,13 @@
 //! A disk over another one, that answers polls pending as it was told.
 
-ghost use Rattle.std.specs.Prelude.{◌≡◌, ◌≤◌, ◌<◌, ◌∷◌, ℕ, [], length, drop, IfOk, OnErr, IsErrOf, IsSome, IsTrue, None, Some};
+ghost use Rattle.std.specs.Prelude.{◌≡◌, ◌≤◌, ◌<◌, ℕ, [], length, drop, IfOk, OnErr, IsSome, IsTrue};
 ghost use Rattle.disk_face.specs.declared.Side.{Side};
-ghost use Rattle.disk_face.specs.View.{DiskView, File, segment, files, was_listed, was_read, was_started, was_polled, IsFree};
-ghost use Rattle.disk_face.specs.Listing.{IsAscending, AreSegmentNames, IsListing};
-ghost use Rattle.disk_face.specs.Asked.{answered};
-ghost use Rattle.disk_face.specs.Calls.{side_of, flight_of, place_of, bytes_sent_by, MayStart, after_start, GoesOn, SameDisk, Starts, ChangesFile, Polled, FillsFrom, Stalls};
-ghost use Rattle.disk_face.specs.Script.{stalled, TellsOf, RaisesOwnPolls, AnswersItself, PassesPollOn};
-ghost use Rattle.wal_base.specs.Faults.{Rose};
+ghost use Rattle.disk_face.specs.View.{DiskView, segment, was_polled, IsFree};
+ghost use Rattle.disk_face.specs.Listing.{IsAscending, AreSegmentNames};
+ghost use Rattle.disk_face.specs.Answers.{CountsFailure, CountsNoOther, NotesListing, AsksFor, NotesStart, ListsFiles, ReadsSegment, ReadsNoFile, MayStartOn, IsStarted};
+ghost use Rattle.disk_face.specs.Calls.{place_of, GoesOn, SameDisk, StallsStay, FaultsStayBut, StallsStayBut, Notes, Polled, Stalls};
+ghost use Rattle.disk_face.specs.Script.{stalled, TellsOf, StallsAlike, RaisesOwnPolls};
+ghost use Rattle.disk_face.specs.Seen.{outer, within, own_polls_of, OwnPollsStay, OuterSends, AnswersWhileOwn, PassesOnElse};
 
 use crate::{CallLog, Disk, DiskErr, DiskOp, Names, OpId, Progress, SegName, Side, StallDisk};
 use wal_base::NoMemory;
@@ -48,11 +48,11 @@ pub struct ScriptDisk<D: Disk> {
 impl<D: Disk> ScriptDisk<D> {
     /// A disk that stalls nothing by itself yet.
     pub fn new(inner: D) -> ScriptDisk<D>
-        ensures tells { TellsOf (D.view inner) (⟦<ScriptDisk<D> as Disk>⟧.view result) }
-        ensures no_polls { (side : Side) → (⟦<ScriptDisk<D> as Disk>⟧.view result).polls_left side ≡ (D.view inner).polls_left side }
-        ensures no_own { (side : Side) → ⟦<ScriptDisk<D> as Scripted>⟧.own_polls result side ≡ 0 }
-        ensures within { ⟦<ScriptDisk<D> as Scripted>⟧.within result ≡ D.view inner }
-        ensures no_calls { (⟦<ScriptDisk<D> as Disk>⟧.view result).calls ≡ [] }
+        ensures tells { TellsOf (D.view inner) (outer D.view result) }
+        ensures no_polls { StallsAlike (D.view inner) (outer D.view result) }
+        ensures no_own { (side : Side) → own_polls_of result side ≡ 0 }
+        ensures within { within D.view result ≡ D.view inner }
+        ensures no_calls { (outer D.view result).calls ≡ [] }
     {
         ScriptDisk {
             inner,
@@ -64,8 +64,8 @@ impl<D: Disk> ScriptDisk<D> {
 
     /// The disk within, as it stands.
     pub fn into_inner(self) -> D
-        ensures tells { TellsOf (D.view result) (⟦<ScriptDisk<D> as Disk>⟧.view self) }
-        ensures within { D.view result ≡ ⟦<ScriptDisk<D> as Scripted>⟧.within self }
+        ensures tells { TellsOf (D.view result) (outer D.view self) }
+        ensures within { D.view result ≡ within D.view self }
     {
         let ScriptDisk {
             inner,
@@ -85,19 +85,19 @@ impl<D: Disk> Disk for ScriptDisk<D> {
     ghost view = { λ d. stalled (D.view d.inner) d.primary_polls d.secondary_polls d.log.calls };
 
     fn list(&mut self, side: Side) -> Result<Names, DiskErr>
-        ensures goes_on { GoesOn (⟦<ScriptDisk<D> as Disk>⟧.view self.old) (⟦<ScriptDisk<D> as Disk>⟧.view self.new) }
-        ensures same { SameDisk (⟦<ScriptDisk<D> as Disk>⟧.view self.old) (⟦<ScriptDisk<D> as Disk>⟧.view self.new) }
-        ensures failed { IsErrOf result DiskErr.Failed → Rose ((⟦<ScriptDisk<D> as Disk>⟧.view self.old).faults side) ((⟦<ScriptDisk<D> as Disk>⟧.view self.new).faults side) }
-        ensures steady { (s : Side) → (IsErrOf result DiskErr.Failed × (s ≡ side) → ⊥) → (⟦<ScriptDisk<D> as Disk>⟧.view self.new).faults s ≡ (⟦<ScriptDisk<D> as Disk>⟧.view self.old).faults s }
-        ensures stalls { (⟦<ScriptDisk<D> as Disk>⟧.view self.new).polls_left ≡ (⟦<ScriptDisk<D> as Disk>⟧.view self.old).polls_left }
-        ensures noted { (⟦<ScriptDisk<D> as Disk>⟧.view self.new).calls ≡ was_listed side (answered result) ∷ (⟦<ScriptDisk<D> as Disk>⟧.view self.old).calls }
+        ensures goes_on { GoesOn (outer D.view self.old) (outer D.view self.new) }
+        ensures same { SameDisk (outer D.view self.old) (outer D.view self.new) }
+        ensures failed { CountsFailure side result (outer D.view self.old) (outer D.view self.new) }
+        ensures steady { CountsNoOther side result (outer D.view self.old) (outer D.view self.new) }
+        ensures stalls { StallsStay (outer D.view self.old) (outer D.view self.new) }
+        ensures noted { NotesListing side result (outer D.view self.old) (outer D.view self.new) }
         ensures ascending { IfOk result IsAscending }
         ensures numbers { IfOk result AreSegmentNames }
-        ensures names { IfOk result (λ names. IsTrue D.tells → IsListing (files (⟦<ScriptDisk<D> as Disk>⟧.view self.old)) side names) }
+        ensures names { ListsFiles D.tells side result (outer D.view self.old) }
 
         // The polls that this disk answers itself stay, and the disk within is asked once.
-        ensures own { ⟦<ScriptDisk<D> as Scripted>⟧.own_polls self.new ≡ ⟦<ScriptDisk<D> as Scripted>⟧.own_polls self.old }
-        ensures once { (⟦<ScriptDisk<D> as Scripted>⟧.within self.new).calls ≡ was_listed side (answered result) ∷ (⟦<ScriptDisk<D> as Scripted>⟧.within self.old).calls }
+        ensures own { OwnPollsStay self.old self.new }
+        ensures once { NotesListing side result (within D.view self.old) (within D.view self.new) }
     {
         let answer = self.inner.list(side);
         self.log.note_listing(side, &answer);
@@ -105,39 +105,39 @@ impl<D: Disk> Disk for ScriptDisk<D> {
     }
 
     fn read(&mut self, side: Side, name: SegName, at: u64, buf: &mut [u8]) -> Result<usize, DiskErr>
-        ensures goes_on { GoesOn (⟦<ScriptDisk<D> as Disk>⟧.view self.old) (⟦<ScriptDisk<D> as Disk>⟧.view self.new) }
-        ensures same { SameDisk (⟦<ScriptDisk<D> as Disk>⟧.view self.old) (⟦<ScriptDisk<D> as Disk>⟧.view self.new) }
-        ensures failed { IsErrOf result DiskErr.Failed → Rose ((⟦<ScriptDisk<D> as Disk>⟧.view self.old).faults side) ((⟦<ScriptDisk<D> as Disk>⟧.view self.new).faults side) }
-        ensures steady { (s : Side) → (IsErrOf result DiskErr.Failed × (s ≡ side) → ⊥) → (⟦<ScriptDisk<D> as Disk>⟧.view self.new).faults s ≡ (⟦<ScriptDisk<D> as Disk>⟧.view self.old).faults s }
-        ensures stalls { (⟦<ScriptDisk<D> as Disk>⟧.view self.new).polls_left ≡ (⟦<ScriptDisk<D> as Disk>⟧.view self.old).polls_left }
-        ensures noted { (⟦<ScriptDisk<D> as Disk>⟧.view self.new).calls ≡ was_read side name (length buf.old) ∷ (⟦<ScriptDisk<D> as Disk>⟧.view self.old).calls }
+        ensures goes_on { GoesOn (outer D.view self.old) (outer D.view self.new) }
+        ensures same { SameDisk (outer D.view self.old) (outer D.view self.new) }
+        ensures failed { CountsFailure side result (outer D.view self.old) (outer D.view self.new) }
+        ensures steady { CountsNoOther side result (outer D.view self.old) (outer D.view self.new) }
+        ensures stalls { StallsStay (outer D.view self.old) (outer D.view self.new) }
+        ensures noted { AsksFor side name buf.old (outer D.view self.old) (outer D.view self.new) }
         ensures within { IfOk result (λ n. n ≤ length buf.new) }
         ensures behind { IfOk result (λ n. drop n buf.new ≡ drop n buf.old) }
-        ensures bytes { IfOk result (λ n. IsTrue D.tells → (f : File) → files (⟦<ScriptDisk<D> as Disk>⟧.view self.old) (segment side name) ≡ Some f → FillsFrom f.reads at buf.new n) }
-        ensures no_file { IfOk result (λ n. IsTrue D.tells → files (⟦<ScriptDisk<D> as Disk>⟧.view self.old) (segment side name) ≡ None → n ≡ 0) }
+        ensures bytes { ReadsSegment D.tells side name at buf.new result (outer D.view self.old) }
+        ensures no_file { ReadsNoFile D.tells (segment side name) result (outer D.view self.old) }
 
         // The polls that this disk answers itself stay, and the disk within is asked once.
-        ensures own { ⟦<ScriptDisk<D> as Scripted>⟧.own_polls self.new ≡ ⟦<ScriptDisk<D> as Scripted>⟧.own_polls self.old }
-        ensures once { (⟦<ScriptDisk<D> as Scripted>⟧.within self.new).calls ≡ was_read side name (length buf.old) ∷ (⟦<ScriptDisk<D> as Scripted>⟧.within self.old).calls }
+        ensures own { OwnPollsStay self.old self.new }
+        ensures once { AsksFor side name buf.old (within D.view self.old) (within D.view self.new) }
     {
         self.log.note_read(side, name, buf.len());
         self.inner.read(side, name, at, buf)
     }
 
     fn start(&mut self, op: DiskOp<'_>) -> Result<OpId, NoMemory>
-        requires free { IsFree (⟦<ScriptDisk<D> as Disk>⟧.view self.old) (place_of op) }
-        requires may { IsTrue D.tells → MayStart (flight_of op).act (files (⟦<ScriptDisk<D> as Disk>⟧.view self.old) (place_of op)) }
-        ensures goes_on { GoesOn (⟦<ScriptDisk<D> as Disk>⟧.view self.old) (⟦<ScriptDisk<D> as Disk>⟧.view self.new) }
-        ensures starts { IfOk result (λ id. Starts (flight_of op.entry) (side_of op.entry) id (⟦<ScriptDisk<D> as Disk>⟧.view self.old) (⟦<ScriptDisk<D> as Disk>⟧.view self.new)) }
-        ensures file { IfOk result (λ id. IsTrue D.tells → ChangesFile (place_of op.entry) (λ f g. g ≡ after_start (flight_of op.entry).act (bytes_sent_by op.entry) f) (⟦<ScriptDisk<D> as Disk>⟧.view self.old) (⟦<ScriptDisk<D> as Disk>⟧.view self.new)) }
-        ensures stalls { (⟦<ScriptDisk<D> as Disk>⟧.view self.new).polls_left ≡ (⟦<ScriptDisk<D> as Disk>⟧.view self.old).polls_left }
-        ensures noted { IfOk result (λ id. (⟦<ScriptDisk<D> as Disk>⟧.view self.new).calls ≡ was_started id ∷ (⟦<ScriptDisk<D> as Disk>⟧.view self.old).calls) }
-        ensures err { OnErr result (⟦<ScriptDisk<D> as Disk>⟧.view self.new ≡ ⟦<ScriptDisk<D> as Disk>⟧.view self.old) }
+        requires free { IsFree (outer D.view self.old) (place_of op) }
+        requires may { IsTrue D.tells → MayStartOn op (outer D.view self.old) }
+        ensures goes_on { GoesOn (outer D.view self.old) (outer D.view self.new) }
+        ensures starts { IsStarted op.entry result (outer D.view self.old) (outer D.view self.new) }
+        ensures file { OuterSends D.view D.tells op.entry result self.old self.new }
+        ensures stalls { StallsStay (outer D.view self.old) (outer D.view self.new) }
+        ensures noted { NotesStart result (outer D.view self.old) (outer D.view self.new) }
+        ensures err { OnErr result (outer D.view self.new ≡ outer D.view self.old) }
 
         // The polls that this disk answers itself stay, and the disk within is asked once.
-        ensures own { ⟦<ScriptDisk<D> as Scripted>⟧.own_polls self.new ≡ ⟦<ScriptDisk<D> as Scripted>⟧.own_polls self.old }
-        ensures once { IfOk result (λ id. (⟦<ScriptDisk<D> as Scripted>⟧.within self.new).calls ≡ was_started id ∷ (⟦<ScriptDisk<D> as Scripted>⟧.within self.old).calls) }
-        ensures refused { OnErr result (⟦<ScriptDisk<D> as Scripted>⟧.within self.new ≡ ⟦<ScriptDisk<D> as Scripted>⟧.within self.old) }
+        ensures own { OwnPollsStay self.old self.new }
+        ensures once { NotesStart result (within D.view self.old) (within D.view self.new) }
+        ensures refused { OnErr result (within D.view self.new ≡ within D.view self.old) }
     {
         let id = self.inner.start(op)?;
         self.log.note_start(id);
@@ -146,18 +146,16 @@ impl<D: Disk> Disk for ScriptDisk<D> {
 
     #[tactic(auto, using(crate::proofs::Passed::passed_on))]
     fn poll(&mut self, id: OpId) -> Progress
-        requires { IsSome ((⟦<ScriptDisk<D> as Disk>⟧.view self.old).in_flight id) }
-        ensures goes_on { GoesOn (⟦<ScriptDisk<D> as Disk>⟧.view self.old) (⟦<ScriptDisk<D> as Disk>⟧.view self.new) }
-        ensures steady { (s : Side) → ((result ≡ Progress.Failed) × (s ≡ id.side) → ⊥) → (⟦<ScriptDisk<D> as Disk>⟧.view self.new).faults s ≡ (⟦<ScriptDisk<D> as Disk>⟧.view self.old).faults s }
-        ensures stalls { (s : Side) → ((result ≡ Progress.Pending) × (s ≡ id.side) → ⊥) → (⟦<ScriptDisk<D> as Disk>⟧.view self.new).polls_left s ≡ (⟦<ScriptDisk<D> as Disk>⟧.view self.old).polls_left s }
-        ensures noted { (⟦<ScriptDisk<D> as Disk>⟧.view self.new).calls ≡ was_polled id ∷ (⟦<ScriptDisk<D> as Disk>⟧.view self.old).calls }
-        ensures polled { Polled D.tells id (⟦<ScriptDisk<D> as Disk>⟧.view self.old) (⟦<ScriptDisk<D> as Disk>⟧.view self.new) result }
+        requires { IsSome ((outer D.view self.old).in_flight id) }
+        ensures goes_on { GoesOn (outer D.view self.old) (outer D.view self.new) }
+        ensures steady { FaultsStayBut id result (outer D.view self.old) (outer D.view self.new) }
+        ensures stalls { StallsStayBut id result (outer D.view self.old) (outer D.view self.new) }
+        ensures noted { Notes (was_polled id) (outer D.view self.old) (outer D.view self.new) }
+        ensures polled { Polled D.tells id (outer D.view self.old) (outer D.view self.new) result }
 
         // It answers itself while the side has own polls left, and else passes the poll on.
-        ensures own { 0 < ⟦<ScriptDisk<D> as Scripted>⟧.own_polls self.old id.side
-            → AnswersItself id.side (⟦<ScriptDisk<D> as Scripted>⟧.own_polls self.old) (⟦<ScriptDisk<D> as Scripted>⟧.own_polls self.new) (⟦<ScriptDisk<D> as Scripted>⟧.within self.old) (⟦<ScriptDisk<D> as Scripted>⟧.within self.new) result }
-        ensures passed { ⟦<ScriptDisk<D> as Scripted>⟧.own_polls self.old id.side ≡ 0
-            → PassesPollOn D.tells id (⟦<ScriptDisk<D> as Scripted>⟧.own_polls self.old) (⟦<ScriptDisk<D> as Scripted>⟧.own_polls self.new) (⟦<ScriptDisk<D> as Scripted>⟧.within self.old) (⟦<ScriptDisk<D> as Scripted>⟧.within self.new) result }
+        ensures own { AnswersWhileOwn D.view id.side self.old self.new result }
+        ensures passed { PassesOnElse D.view D.tells id self.old self.new result }
     {
         self.log.note_poll(id);
         let own = match id.side {
@@ -181,9 +179,9 @@ impl<D: Disk> Disk for ScriptDisk<D> {
 
 impl<D: Disk> StallDisk for ScriptDisk<D> {
     fn stall(&mut self, side: Side, polls: u32)
-        ensures stalls { Stalls side polls (⟦<ScriptDisk<D> as Disk>⟧.view self.old) (⟦<ScriptDisk<D> as Disk>⟧.view self.new) }
-        ensures own { RaisesOwnPolls side polls (⟦<ScriptDisk<D> as Scripted>⟧.own_polls self.old) (⟦<ScriptDisk<D> as Scripted>⟧.own_polls self.new) }
-        ensures within { ⟦<ScriptDisk<D> as Scripted>⟧.within self.new ≡ ⟦<ScriptDisk<D> as Scripted>⟧.within self.old }
+        ensures stalls { Stalls side polls (outer D.view self.old) (outer D.view self.new) }
+        ensures own { RaisesOwnPolls side polls (own_polls_of self.old) (own_polls_of self.new) }
+        ensures within { within D.view self.new ≡ within D.view self.old }
     {
         let polls = u64::from(polls);
         match side {

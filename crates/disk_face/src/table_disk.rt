@@ -1,12 +1,12 @@
 //! A disk that keeps tables too, and removes files. It means what a disk means, by the same view.
 
-ghost use Rattle.std.specs.Prelude.{◌≡◌, ◌≤◌, length, drop, IfOk, OnOk, IsErrOf, IsSome, IsTrue, Some, None};
-ghost use Rattle.wal_base.specs.Faults.{Rose};
+ghost use Rattle.std.specs.Prelude.{◌≡◌, ◌≤◌, length, drop, IfOk};
 ghost use Rattle.disk_face.specs.declared.Side.TheVariants.{Primary};
-ghost use Rattle.disk_face.specs.View.{segment, table, File, files, IsFree};
-ghost use Rattle.disk_face.specs.Listing.{AreTablesAscending, AreTableNumbers, IsTableNumber, IsTableListing};
-ghost use Rattle.disk_face.specs.Calls.{GoesOn, SameDisk, FillsFrom};
-ghost use Rattle.disk_face.specs.Tables.{whole, PutsTable, Removes};
+ghost use Rattle.disk_face.specs.View.{segment, table, IsFree};
+ghost use Rattle.disk_face.specs.Listing.{AreTablesAscending, AreTableNumbers, IsTableNumber};
+ghost use Rattle.disk_face.specs.Calls.{GoesOn, SameDisk};
+ghost use Rattle.disk_face.specs.Answers.{CountsFailure, ReadsFile, ReadsNoFile};
+ghost use Rattle.disk_face.specs.Tables.{ListsTables, Puts, Drops, DropsTable, StandsWhole, IsGone, IsThere};
 
 use crate::{Disk, DiskErr, SegName, Side, TableNames};
 
@@ -18,10 +18,10 @@ pub trait TableDisk: Disk {
     fn tables(&mut self) -> Result<TableNames, DiskErr>
         ensures goes_on { GoesOn (Self.view self.old) (Self.view self.new) }
         ensures same { SameDisk (Self.view self.old) (Self.view self.new) }
-        ensures failed { IsErrOf result DiskErr.Failed → Rose ((Self.view self.old).faults Primary) ((Self.view self.new).faults Primary) }
+        ensures failed { CountsFailure Primary result (Self.view self.old) (Self.view self.new) }
         ensures ascending { IfOk result AreTablesAscending }
         ensures numbers { IfOk result AreTableNumbers }
-        ensures tables { IfOk result (λ tables. IsTrue Self.tells → IsTableListing (files (Self.view self.old)) tables) };
+        ensures tables { ListsTables Self.tells result (Self.view self.old) };
 
     /// Reads from a place of a table, counted from 0, into the front of the buffer, and answers how many bytes it
     /// read: 0 at the end, and 0 where no table is. After an error the buffer may hold anything.
@@ -29,11 +29,11 @@ pub trait TableDisk: Disk {
         requires { IsTableNumber upto }
         ensures goes_on { GoesOn (Self.view self.old) (Self.view self.new) }
         ensures same { SameDisk (Self.view self.old) (Self.view self.new) }
-        ensures failed { IsErrOf result DiskErr.Failed → Rose ((Self.view self.old).faults Primary) ((Self.view self.new).faults Primary) }
+        ensures failed { CountsFailure Primary result (Self.view self.old) (Self.view self.new) }
         ensures within { IfOk result (λ n. n ≤ length buf.new) }
         ensures behind { IfOk result (λ n. drop n buf.new ≡ drop n buf.old) }
-        ensures bytes { IfOk result (λ n. IsTrue Self.tells → (f : File) → files (Self.view self.old) (table upto) ≡ Some f → FillsFrom f.reads at buf.new n) }
-        ensures no_file { IfOk result (λ n. IsTrue Self.tells → files (Self.view self.old) (table upto) ≡ None → n ≡ 0) };
+        ensures bytes { ReadsFile Self.tells (table upto) at buf.new result (Self.view self.old) }
+        ensures no_file { ReadsNoFile Self.tells (table upto) result (Self.view self.old) };
 
     /// Puts a table, in place of one of that number. After `Ok` it stands whole whatever a crash leaves; until
     /// then, and after an error, a crash may leave it absent or with any bytes.
@@ -41,29 +41,29 @@ pub trait TableDisk: Disk {
         requires { IsTableNumber upto }
         ensures goes_on { GoesOn (Self.view self.old) (Self.view self.new) }
         ensures flights { (Self.view self.new).in_flight ≡ (Self.view self.old).in_flight }
-        ensures failed { IsErrOf result DiskErr.Failed → Rose ((Self.view self.old).faults Primary) ((Self.view self.new).faults Primary) }
-        ensures moments { IsTrue Self.tells → PutsTable upto bytes.now (Self.view self.old) (Self.view self.new) }
-        ensures put { OnOk result (IsTrue Self.tells → files (Self.view self.new) (table upto) ≡ Some (whole bytes.now)) };
+        ensures failed { CountsFailure Primary result (Self.view self.old) (Self.view self.new) }
+        ensures moments { Puts Self.tells upto bytes.now (Self.view self.old) (Self.view self.new) }
+        ensures put { StandsWhole Self.tells (table upto) bytes.now result (Self.view self.new) };
 
     /// Removes a segment that is there and on which no operation is in flight. After `Ok` it is gone whatever a
     /// crash leaves; until then, and after an error, a crash may leave it as it was or absent.
     fn drop_segment(&mut self, side: Side, name: SegName) -> Result<(), DiskErr>
         requires free { IsFree (Self.view self.old) (segment side name) }
-        requires there { IsTrue Self.tells → IsSome (files (Self.view self.old) (segment side name)) }
+        requires there { IsThere Self.tells (segment side name) (Self.view self.old) }
         ensures goes_on { GoesOn (Self.view self.old) (Self.view self.new) }
         ensures flights { (Self.view self.new).in_flight ≡ (Self.view self.old).in_flight }
-        ensures failed { IsErrOf result DiskErr.Failed → Rose ((Self.view self.old).faults side) ((Self.view self.new).faults side) }
-        ensures moments { IsTrue Self.tells → Removes (segment side name) (Self.view self.old) (Self.view self.new) }
-        ensures gone { OnOk result (IsTrue Self.tells → files (Self.view self.new) (segment side name) ≡ None) };
+        ensures failed { CountsFailure side result (Self.view self.old) (Self.view self.new) }
+        ensures moments { Drops Self.tells side name (Self.view self.old) (Self.view self.new) }
+        ensures gone { IsGone Self.tells (segment side name) result (Self.view self.new) };
 
     /// Removes a table that is there. After `Ok` it is gone whatever a crash leaves; until then, and after an
     /// error, a crash may leave it as it was or absent.
     fn drop_table(&mut self, upto: u64) -> Result<(), DiskErr>
         requires number { IsTableNumber upto }
-        requires there { IsTrue Self.tells → IsSome (files (Self.view self.old) (table upto)) }
+        requires there { IsThere Self.tells (table upto) (Self.view self.old) }
         ensures goes_on { GoesOn (Self.view self.old) (Self.view self.new) }
         ensures flights { (Self.view self.new).in_flight ≡ (Self.view self.old).in_flight }
-        ensures failed { IsErrOf result DiskErr.Failed → Rose ((Self.view self.old).faults Primary) ((Self.view self.new).faults Primary) }
-        ensures moments { IsTrue Self.tells → Removes (table upto) (Self.view self.old) (Self.view self.new) }
-        ensures gone { OnOk result (IsTrue Self.tells → files (Self.view self.new) (table upto) ≡ None) };
+        ensures failed { CountsFailure Primary result (Self.view self.old) (Self.view self.new) }
+        ensures moments { DropsTable Self.tells upto (Self.view self.old) (Self.view self.new) }
+        ensures gone { IsGone Self.tells (table upto) result (Self.view self.new) };
 }
