@@ -41,13 +41,11 @@ impl NoDisk {
 }
 
 impl Disk for NoDisk {
-    ghost use Rattle.std.specs.Prelude.{None};
-    ghost use Rattle.disk_face.specs.View.{by_side};
     ghost use Rattle.disk_face.specs.NoFiles.{no_files, no_sound};
 
     ghost tells = { false };
 
-    ghost view = { λ d. record { faults = λ s. 0; polls_left = by_side d.primary_polls d.secondary_polls; in_flight = λ id. None; clock = 0; history = λ k p. None; calls = d.log.calls } };
+    ghost view = { bare };
 
     fn list(&mut self, side: Side) -> Result<Names, DiskErr>
         ensures nothing { result ≡ Ok [] }

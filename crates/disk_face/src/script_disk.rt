@@ -26,9 +26,8 @@ pub trait Scripted: Disk {
 
 impl<D: Disk> Scripted for ScriptDisk<D> {
     ghost use Rattle.std.specs.Prelude.{refl};
-    ghost use Rattle.disk_face.specs.View.{by_side};
 
-    ghost own_polls = { λ d. by_side d.primary_polls d.secondary_polls };
+    ghost own_polls = { λ d. own_polls_of d };
 
     ghost within = { λ d. D.view d.inner };
 
@@ -78,11 +77,9 @@ impl<D: Disk> ScriptDisk<D> {
 }
 
 impl<D: Disk> Disk for ScriptDisk<D> {
-    ghost use Rattle.disk_face.specs.Script.{stalled};
-
     ghost tells = { D.tells };
 
-    ghost view = { λ d. stalled (D.view d.inner) d.primary_polls d.secondary_polls d.log.calls };
+    ghost view = { λ d. outer D.view d };
 
     fn list(&mut self, side: Side) -> Result<Names, DiskErr>
         ensures goes_on { GoesOn (outer D.view self.old) (outer D.view self.new) }
