@@ -5,3 +5,5 @@ pub mod Leaving
 pub mod Sent
 pub mod Finite
 pub mod Seen
+pub mod Counts
+pub mod Changes

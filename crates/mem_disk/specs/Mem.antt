@@ -1,6 +1,6 @@
 -- What the fields of a disk in memory stand for (docs/FORMATS.md, "The disk").
 use Rattle.disk_face.specs.declared.names.TheConstants.{WAL_MAX, INDEX_MAX}
-use Rattle.std.specs.Prelude.{◌≡◌, ◌≢◌, ℕ, suc, ◌==◌, ◌&&◌, ◌||◌, not, nat_lt, nat_le, Bool, true, false, if◌then◌else◌, List, [], ◌∷◌, take, drop, length, slice_get, Option, Some, None, option_map, ◌<◌, slice_index_or, slice_set, ◌++◌}
+use Rattle.std.specs.Prelude.{◌≡◌, ◌≢◌, ℕ, suc, ◌==◌, ◌&&◌, ◌||◌, not, nat_lt, nat_le, Bool, true, false, if◌then◌else◌, List, [], ◌∷◌, take, drop, length, slice_get, Option, Some, None, option_map, ◌<◌, slice_index_or, slice_set, insert, ◌++◌}
 use Rattle.disk_face.specs.declared.Side.{Side}
 use Rattle.disk_face.specs.declared.SegName.{SegName}
 use Rattle.disk_face.specs.declared.OpId.{OpId}
@@ -84,6 +84,18 @@ pub record ChangesAt (p : Place) (Change : Option File → Option File → Type 
   pub here : Change (old p) (new p)
   pub others : (q : Place) → q ≢ p → new q ≡ old q
 
+-- an operation as it is kept, in the words of a disk
+abbrev pub flight_kept : MemOp → Flight
+flight_kept op = record { place = segment op.side op.name; act = act_in_memory op.act }
+
+-- the operation of that number, on its side
+abbrev pub id_of : MemOp → ℕ → OpId
+id_of op number = record { side = op.side; number = number }
+
+-- every other operation stands as it did
+abbrev pub FlightsStayBut : OpId → List MemOp → List MemOp → Type 0
+FlightsStayBut id old new = (q : OpId) → q ≢ id → flight_in new q ≡ flight_in old q
+
 -- whether the first name stands before the second one
 abbrev pub is_before : SegName → SegName → Bool
 is_before a b = nat_lt a.wal b.wal || (a.wal == b.wal && nat_lt a.index b.index)
@@ -127,6 +139,10 @@ listed_of side (m ∷ ms) = listed_one side m ++ listed_of side ms
 -- it is the file of this segment
 abbrev pub IsFor : Side → SegName → MemFile → Type 0
 IsFor side name m = (m.side ≡ side) × (m.name ≡ name)
+
+-- a file of this segment is put in the order at i
+abbrev pub IsPutAt : Side → SegName → List MemFile → ℕ → Type 0
+IsPutAt side name fs i = (m : MemFile) → m.side ≡ side → m.name ≡ name → put m fs ≡ insert fs i m
 
 -- the file of this segment stands at i
 pub record FoundAt (side : Side) (name : SegName) (fs : List MemFile) (i : ℕ) : Type 0 where

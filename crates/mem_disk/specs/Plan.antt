@@ -1,7 +1,9 @@
 -- What is to fail on a disk in memory, and how far its counts are (docs/FORMATS.md, "The disk").
-use Rattle.std.specs.Prelude.{◌≡◌, ℕ, ◌+◌, ◌-◌, ◌^◌, ◌<◌, min, List, Contains}
+use Rattle.std.specs.Prelude.{◌≡◌, ℕ, ◌+◌, ◌-◌, ◌^◌, ◌<◌, min, List, [], ◌∷◌, ◌++◌, Contains}
+use Rattle.disk_face.specs.declared.OpId.{OpId}
 use Rattle.disk_face.specs.declared.Progress.{Progress}
 use Rattle.disk_face.specs.declared.Progress.TheVariants.{Pending, Done, Failed}
+use Rattle.disk_face.specs.View.{DiskView}
 
 -- the failures that were asked for, by numbers that are counted from 0
 pub record Plan : Type 0 where
@@ -13,6 +15,18 @@ pub record Plan : Type 0 where
   pub failing_calls : List ℕ
   -- how many such calls there were. The count stops at its last value
   pub calls : ℕ
+
+-- no failure was asked for, and nothing is counted
+abbrev pub nothing_planned : Plan
+nothing_planned = record { failing_ops = []; starts = 0; failing_calls = []; calls = 0 }
+
+-- one operation more is to fail
+abbrev pub failing_op : ℕ → Plan → Plan
+failing_op number plan = record plan { failing_ops = plan.failing_ops ++ number ∷ [] }
+
+-- one call more is to fail
+abbrev pub failing_call : ℕ → Plan → Plan
+failing_call number plan = record plan { failing_calls = plan.failing_calls ++ number ∷ [] }
 
 -- the next call of `list` or `read` is to fail
 abbrev pub FailsNext : Plan → Type 0
@@ -32,3 +46,11 @@ abbrev pub AnswersAsPlanned : Plan → ℕ → ℕ → Progress → Type 0
 AnswersAsPlanned plan number polls Pending = 0 < polls
 AnswersAsPlanned plan number polls Done = (polls ≡ 0) × (Contains plan.failing_ops number → ⊥)
 AnswersAsPlanned plan number polls Failed = (polls ≡ 0) × Contains plan.failing_ops number
+
+-- an operation is answered so, by the polls that are left on its side
+abbrev pub AnswersByPlan : Plan → OpId → DiskView → Progress → Type 0
+AnswersByPlan plan id v answer = AnswersAsPlanned plan id.number (v.polls_left id.side) answer
+
+-- a poll that is pending takes one poll of its side
+abbrev pub TakesOnePoll : OpId → Progress → DiskView → DiskView → Type 0
+TakesOnePoll id answer old new = answer ≡ Pending → new.polls_left id.side + 1 ≡ old.polls_left id.side

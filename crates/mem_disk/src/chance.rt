@@ -1,10 +1,9 @@
 //! The premise on checksums: that no chunk of an image is there by chance.
 
 ghost use Rattle.std.specs.Prelude.{◌≡◌, ◌↔◌, ℕ, ◌+◌, ◌<◌, ◌≤◌, ◌^◌, length, take, drop, IfOk, IfSome, IfNone, IsTrue};
-ghost use Rattle.disk_face.specs.Image.{IsChanceFree};
 ghost use Rattle.crc_chunk.specs.Chunk.{IsChunkOf};
 ghost use Rattle.mem_disk.specs.Mem.{files_held, AreInOrder};
-ghost use Rattle.mem_disk.specs.Picks.{picked_dirs};
+ghost use Rattle.mem_disk.specs.Picks.{DecidesChance};
 ghost use Rattle.mem_disk.specs.Sent.{IsSentAt, AreChunksSent, IsFileSent, AreFilesSent};
 
 use crate::files::sent_in;
@@ -91,7 +90,7 @@ pub fn is_chance_free(
     picks: &[FilePick],
 ) -> Result<bool, NoMemory>
     requires ordered { AreInOrder files.now }
-    ensures { IfOk result (λ free. IsTrue free ↔ IsChanceFree IsChunkOf (files_held files.now) (picked_dirs (files_held files.now) picks.now)) }
+    ensures { IfOk result (DecidesChance (files_held files.now) picks.now) }
 {
     are_files_sent(alloc, files, picks)
 }

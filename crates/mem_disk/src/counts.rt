@@ -2,7 +2,7 @@
 
 ghost use Rattle.std.specs.Prelude.{◌≡◌, ◌≢◌, ◌+◌, ◌<◌, ◌≤◌, ◌^◌, ◌-◌, ◌↔◌, min, MatchBool, IsTrue, Contains};
 ghost use Rattle.disk_face.specs.declared.Side.{Side};
-ghost use Rattle.disk_face.specs.View.{by_side};
+ghost use Rattle.mem_disk.specs.Counts.{on_side, FallsIf, FallsByOneIf};
 ghost use Rattle.wal_base.specs.Faults.{Rose};
 
 use disk_face::Side;
@@ -19,11 +19,11 @@ pub struct BySide {
 impl BySide {
     /// Takes one off, where there is one, and says whether it did.
     pub fn take_one(&mut self, side: Side) -> bool
-        ensures taken { MatchBool result (by_side self.new.primary self.new.secondary side < by_side self.old.primary self.old.secondary side) (self.new ≡ self.old) }
-        ensures none { MatchBool result (0 < by_side self.old.primary self.old.secondary side) (by_side self.old.primary self.old.secondary side ≡ 0) }
-        ensures others { (s : Side) → by_side self.new.primary self.new.secondary s ≤ by_side self.old.primary self.old.secondary s }
-        ensures exact { MatchBool result (by_side self.new.primary self.new.secondary side + 1 ≡ by_side self.old.primary self.old.secondary side) (self.new ≡ self.old) }
-        ensures others_stay { (s : Side) → s ≢ side → by_side self.new.primary self.new.secondary s ≡ by_side self.old.primary self.old.secondary s }
+        ensures taken { FallsIf result side self.old self.new }
+        ensures none { MatchBool result (0 < on_side self.old side) (on_side self.old side ≡ 0) }
+        ensures others { (s : Side) → on_side self.new s ≤ on_side self.old s }
+        ensures exact { FallsByOneIf result side self.old self.new }
+        ensures others_stay { (s : Side) → s ≢ side → on_side self.new s ≡ on_side self.old s }
     {
         match side {
             Side::Primary => {
@@ -44,9 +44,9 @@ impl BySide {
 
     /// Adds so many, up to the last value.
     pub fn add(&mut self, side: Side, polls: u32)
-        ensures raised { min (by_side self.old.primary self.old.secondary side + polls) (2 ^ 64 - 1) ≤ by_side self.new.primary self.new.secondary side }
-        ensures no_more { by_side self.new.primary self.new.secondary side ≤ by_side self.old.primary self.old.secondary side + polls }
-        ensures others { (s : Side) → s ≢ side → by_side self.new.primary self.new.secondary s ≡ by_side self.old.primary self.old.secondary s }
+        ensures raised { min (on_side self.old side + polls) (2 ^ 64 - 1) ≤ on_side self.new side }
+        ensures no_more { on_side self.new side ≤ on_side self.old side + polls }
+        ensures others { (s : Side) → s ≢ side → on_side self.new s ≡ on_side self.old s }
     {
         match side {
             Side::Primary => self.primary = self.primary.saturating_add(u64::from(polls)),
@@ -56,10 +56,10 @@ impl BySide {
 
     /// Adds one, up to the last value.
     pub fn raise(&mut self, side: Side)
-        ensures here { Rose (by_side self.old.primary self.old.secondary side) (by_side self.new.primary self.new.secondary side) }
-        ensures others { (s : Side) → by_side self.old.primary self.old.secondary s ≤ by_side self.new.primary self.new.secondary s }
-        ensures exact { by_side self.new.primary self.new.secondary side ≡ min (by_side self.old.primary self.old.secondary side + 1) (2 ^ 64 - 1) }
-        ensures others_stay { (s : Side) → s ≢ side → by_side self.new.primary self.new.secondary s ≡ by_side self.old.primary self.old.secondary s }
+        ensures here { Rose (on_side self.old side) (on_side self.new side) }
+        ensures others { (s : Side) → on_side self.old s ≤ on_side self.new s }
+        ensures exact { on_side self.new side ≡ min (on_side self.old side + 1) (2 ^ 64 - 1) }
+        ensures others_stay { (s : Side) → s ≢ side → on_side self.new s ≡ on_side self.old s }
     {
         match side {
             Side::Primary => self.primary = self.primary.saturating_add(1),

@@ -1,9 +1,8 @@
 //! What a crash leaves of the files.
 
-ghost use Rattle.std.specs.Prelude.{◌≡◌, IfOk, OnOk};
-ghost use Rattle.disk_face.specs.View.{Place};
-ghost use Rattle.mem_disk.specs.Mem.{files_held, AreInOrder};
-ghost use Rattle.mem_disk.specs.Picks.{picked_dirs, whole_files};
+ghost use Rattle.std.specs.Prelude.{IfOk, OnOk};
+ghost use Rattle.mem_disk.specs.Mem.{AreInOrder};
+ghost use Rattle.mem_disk.specs.Picks.{LeaveWhole};
 ghost use Rattle.mem_disk.specs.Leaving.{IsLeft, IsOneMoreLeft, AreLeft};
 
 use crate::parts::MemFile;
@@ -69,7 +68,7 @@ pub fn files_left(
     picks: &[FilePick],
 ) -> Result<Vec<MemFile>, NoMemory>
     requires ordered { AreInOrder files.items }
-    ensures files { IfOk result (λ left. (p : Place) → files_held left.items p ≡ whole_files (picked_dirs (files_held files.items) picks.now) p) }
+    ensures files { IfOk result (λ left. LeaveWhole files.items picks.now left.items) }
     ensures ordered { IfOk result (λ left. AreInOrder left.items) }
 {
     all_left(alloc, files, picks)

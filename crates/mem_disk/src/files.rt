@@ -1,11 +1,12 @@
 //! The files of a disk in memory, and what one operation does to them.
 
-ghost use Rattle.std.specs.Prelude.{◌≡◌, ◌+◌, ◌≤◌, ◌<◌, length, drop, OnOk, OnErr, IfOk, IfNone, IfSome, Some, None};
-ghost use Rattle.disk_face.specs.View.{segment, File};
-ghost use Rattle.disk_face.specs.Image.{as_read, as_sent};
-ghost use Rattle.disk_face.specs.Calls.{AfterDone, MayStart, flight_of, place_of, bytes_sent_by, after_start, fresh, FillsFrom};
+ghost use Rattle.std.specs.Prelude.{◌≡◌, ◌+◌, ◌≤◌, ◌<◌, length, drop, OnOk, OnErr, IfNone, IfSome, Some, None};
+ghost use Rattle.disk_face.specs.View.{segment};
+ghost use Rattle.disk_face.specs.Image.{as_read};
+ghost use Rattle.disk_face.specs.Calls.{MayStart, flight_of, place_of, fresh, FillsFrom};
 ghost use Rattle.disk_face.specs.Tables.{whole};
-ghost use Rattle.mem_disk.specs.Mem.{files_held, file_of, is_at, index_at, undo_at, act_in_memory, ChangesAt, FoundAt, IsUncreated, IsCreated, IsExtended, AreInOrder};
+ghost use Rattle.mem_disk.specs.Changes.{PutsAt, SettlesAt, BeginsAt, ExtendsAt, HeldReads, HeldSent, HeldFills};
+ghost use Rattle.mem_disk.specs.Mem.{files_held, file_of, is_at, index_at, undo_at, FoundAt, IsUncreated, IsCreated, AreInOrder};
 
 use crate::order::{insert_file, is_side};
 use crate::parts::{MemAct, MemFile, Undo};
@@ -67,7 +68,7 @@ pub fn undo_of(files: &Vec<MemFile>, side: Side, name: SegName) -> Undo
 
 /// The operation on this file is done.
 pub fn settle(files: &mut Vec<MemFile>, side: Side, name: SegName, act: MemAct)
-    ensures changes { ChangesAt (segment side name) (AfterDone (act_in_memory act)) (files_held files.old.items) (files_held files.new.items) }
+    ensures changes { SettlesAt side name act files.old.items files.new.items }
     ensures ordered { AreInOrder files.old.items → AreInOrder files.new.items }
 {
     let Some(at) = find(files, side, name) else {
@@ -95,7 +96,7 @@ pub fn settle(files: &mut Vec<MemFile>, side: Side, name: SegName, act: MemAct)
 /// Starts an operation: what it does to the files at once.
 pub fn begin(alloc: Global, files: &mut Vec<MemFile>, op: DiskOp<'_>) -> Result<(), NoMemory>
     requires { MayStart (flight_of op).act (files_held files.old.items (place_of op)) }
-    ensures ok { OnOk result (ChangesAt (place_of op.entry) (λ f g. g ≡ after_start (flight_of op.entry).act (bytes_sent_by op.entry) f) (files_held files.old.items) (files_held files.new.items)) }
+    ensures ok { OnOk result (BeginsAt op.entry files.old.items files.new.items) }
     ensures err { OnErr result (files_held files.new.items ≡ files_held files.old.items) }
     ensures ordered { AreInOrder files.old.items → AreInOrder files.new.items }
 {
@@ -113,7 +114,7 @@ fn create(
     name: SegName,
 ) -> Result<(), NoMemory>
     requires { IsUncreated (files_held files.old.items (segment side name)) }
-    ensures ok { OnOk result (ChangesAt (segment side name) (λ f g. g ≡ Some fresh) (files_held files.old.items) (files_held files.new.items)) }
+    ensures ok { OnOk result (PutsAt side name fresh files.old.items files.new.items) }
     ensures err { OnErr result (files.new.items ≡ files.old.items) }
     ensures ordered { AreInOrder files.old.items → AreInOrder files.new.items }
 {
@@ -125,7 +126,7 @@ fn create(
 
 fn add(alloc: Global, files: &mut Vec<MemFile>, side: Side, name: SegName) -> Result<(), NoMemory>
     requires { files_held files.old.items (segment side name) ≡ None }
-    ensures ok { OnOk result (ChangesAt (segment side name) (λ f g. g ≡ Some fresh) (files_held files.old.items) (files_held files.new.items)) }
+    ensures ok { OnOk result (PutsAt side name fresh files.old.items files.new.items) }
     ensures err { OnErr result (files.new.items ≡ files.old.items) }
     ensures ordered { AreInOrder files.old.items → AreInOrder files.new.items }
 {
@@ -149,7 +150,7 @@ pub fn place(
     bytes: &[u8],
 ) -> Result<(), NoMemory>
     requires { files_held files.old.items (segment side name) ≡ None }
-    ensures ok { OnOk result (ChangesAt (segment side name) (λ f g. g ≡ Some (whole bytes.now)) (files_held files.old.items) (files_held files.new.items)) }
+    ensures ok { OnOk result (PutsAt side name (whole bytes.now) files.old.items files.new.items) }
     ensures err { OnErr result (files.new.items ≡ files.old.items) }
     ensures ordered { AreInOrder files.old.items → AreInOrder files.new.items }
 {
@@ -167,7 +168,7 @@ pub fn place(
 
 fn extend(files: &mut [MemFile], side: Side, name: SegName, bytes: &[u8]) -> Result<(), NoMemory>
     requires { IsCreated (files_held files.old (segment side name)) }
-    ensures ok { OnOk result (ChangesAt (segment side name) (IsExtended bytes.now) (files_held files.old) (files_held files.new)) }
+    ensures ok { OnOk result (ExtendsAt side name bytes.now files.old files.new) }
     ensures err { OnErr result (files_held files.new ≡ files_held files.old) }
     ensures ordered { AreInOrder files.old → AreInOrder files.new }
 {
@@ -181,7 +182,7 @@ fn extend(files: &mut [MemFile], side: Side, name: SegName, bytes: &[u8]) -> Res
 
 /// What a read gives. `None` exactly where no file of that segment is created.
 pub fn content_of(files: &Vec<MemFile>, side: Side, name: SegName) -> Option<&[u8]>
-    ensures some { IfSome result (λ bytes. as_read (files_held files.now.items (segment side name)) ≡ Some bytes.now) }
+    ensures some { IfSome result (λ bytes. HeldReads files.now.items side name bytes.now) }
     ensures none { IfNone result (as_read (files_held files.now.items (segment side name)) ≡ None) }
 {
     let at = find(files, side, name)?;
@@ -206,7 +207,7 @@ pub fn sent_in(file: &MemFile) -> &[u8]
 
 /// What was sent. `None` exactly where no file of that segment is.
 pub fn sent_of(files: &Vec<MemFile>, side: Side, name: SegName) -> Option<&[u8]>
-    ensures some { IfSome result (λ bytes. as_sent (files_held files.now.items (segment side name)) ≡ Some bytes.now) }
+    ensures some { IfSome result (λ bytes. HeldSent files.now.items side name bytes.now) }
     ensures none { IfNone result (files_held files.now.items (segment side name) ≡ None) }
 {
     let at = find(files, side, name)?;
@@ -230,7 +231,7 @@ fn copy_out(content: &[u8], at: u64, buf: &mut [u8]) -> usize
 
 /// Reads from a place of a file into the front of the buffer.
 pub fn read_file(files: &Vec<MemFile>, side: Side, name: SegName, at: u64, buf: &mut [u8]) -> usize
-    ensures fills { (f : File) → files_held files.now.items (segment side name) ≡ Some f → FillsFrom f.reads at buf.new result }
+    ensures fills { HeldFills files.now.items side name at buf.new result }
     ensures no_file { files_held files.now.items (segment side name) ≡ None → result ≡ 0 }
     ensures within { result ≤ length buf.new }
     ensures behind { drop result buf.new ≡ drop result buf.old }

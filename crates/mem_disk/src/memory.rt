@@ -1,18 +1,15 @@
 //! The disk in memory.
 #![tactic(auto, unfolding(crate::specs::Mem::mem_view))]
 
-ghost use Rattle.std.specs.Prelude.{◌≡◌, ◌≢◌, ◌↔◌, ◌+◌, ◌≤◌, true, [], ◌∷◌, ◌++◌, length, drop, vec_capacity, IfOk, IfNone, IfSome, OnOk, OnErr, IsErrOf, IsSome, IsTrue, None, Some};
+ghost use Rattle.std.specs.Prelude.{◌≡◌, ◌↔◌, ◌+◌, ◌≤◌, true, [], length, drop, vec_capacity, IfOk, IfNone, IfSome, OnOk, OnErr, IsErrOf, IsSome, IsTrue, None, Some};
 ghost use Rattle.disk_face.specs.declared.Side.{Side};
-ghost use Rattle.disk_face.specs.View.{Place, File, segment, files, by_side, was_listed, was_read, was_started, was_polled, IsFree, NothingInFlight};
-ghost use Rattle.disk_face.specs.Image.{IsImage, IsChanceFree, IsRested, as_read, as_sent, dirs_as_read};
+ghost use Rattle.disk_face.specs.View.{Place, segment, files, by_side, was_polled, IsFree, NothingInFlight};
+ghost use Rattle.disk_face.specs.Image.{IsRested, as_read};
 ghost use Rattle.disk_face.specs.Listing.{IsAscending, AreSegmentNames, IsListing};
-ghost use Rattle.disk_face.specs.Asked.{answered};
-ghost use Rattle.disk_face.specs.Calls.{side_of, flight_of, place_of, bytes_sent_by, MayStart, after_start, GoesOn, SameDisk, Starts, ChangesFile, Polled, FillsFrom, Stalls};
-ghost use Rattle.disk_face.specs.Tables.{whole};
-ghost use Rattle.wal_base.specs.Faults.{Rose};
-ghost use Rattle.crc_chunk.specs.Chunk.{IsChunkOf};
-ghost use Rattle.mem_disk.specs.Picks.{picked_dirs, whole_files};
-ghost use Rattle.mem_disk.specs.Plan.{Plan, FailsNext, after_call, after_op, AnswersAsPlanned};
+ghost use Rattle.disk_face.specs.Answers.{CountsFailure, CountsNoOther, NotesListing, AsksFor, NotesStart, MayStartOn, IsStarted, SendsTo};
+ghost use Rattle.disk_face.specs.Calls.{place_of, GoesOn, SameDisk, StallsStay, FaultsStayBut, StallsStayBut, Notes, Polled, Stalls};
+ghost use Rattle.mem_disk.specs.Picks.{DecidesChance};
+ghost use Rattle.mem_disk.specs.Plan.{Plan, nothing_planned, failing_op, failing_call, FailsNext, after_call, after_op, AnswersByPlan, TakesOnePoll};
 ghost use Rattle.mem_disk.specs.Finite.{finite_mem, sound_mem};
 ghost use Rattle.mem_disk.specs.Mem.{files_held, live_in, mem_view, AreInOrder};
 
@@ -62,7 +59,7 @@ pub struct MemDisk {
 const FIRST_FILES: usize = 8;
 
 impl MemDisk {
-    ghost use Rattle.mem_disk.specs.Seen.{seen};
+    ghost use Rattle.mem_disk.specs.Seen.{seen, plan_of, SegmentReads, SegmentSent, PutsWhole, ReadsImageOf, ReadsPicked, StandsAsRead};
 
     /// Two empty directories, no fault, no poll to stall, and nothing in flight. `Err` means out of memory.
     pub fn new(alloc: Global) -> Result<MemDisk, NoMemory>
@@ -70,7 +67,7 @@ impl MemDisk {
         ensures empty { IfOk result (λ disk. (p : Place) → files (seen disk) p ≡ None) }
         ensures no_faults { IfOk result (λ disk. (s : Side) → (seen disk).faults s ≡ 0) }
         ensures no_polls { IfOk result (λ disk. (s : Side) → (seen disk).polls_left s ≡ 0) }
-        ensures no_plan { IfOk result (λ disk. ⟦<MemDisk as Planned>⟧.plan disk ≡ record { failing_ops = []; starts = 0; failing_calls = []; calls = 0 }) }
+        ensures no_plan { IfOk result (λ disk. plan_of disk ≡ nothing_planned) }
         ensures idle { IfOk result (λ disk. NothingInFlight (seen disk)) }
         ensures no_calls { IfOk result (λ disk. (seen disk).calls ≡ []) }
     {
@@ -85,12 +82,12 @@ impl MemDisk {
         requires free { IsFree (seen self.old) (segment side name) }
         ensures goes_on { GoesOn (seen self.old) (seen self.new) }
         ensures flights { (seen self.new).in_flight ≡ (seen self.old).in_flight }
-        ensures put { OnOk result (ChangesFile (segment side name) (λ f g. g ≡ Some (whole bytes.now)) (seen self.old) (seen self.new)) }
+        ensures put { OnOk result (PutsWhole side name bytes.now (seen self.old) (seen self.new)) }
         ensures err { OnErr result (seen self.new ≡ seen self.old) }
-        ensures stalls { (seen self.new).polls_left ≡ (seen self.old).polls_left }
+        ensures stalls { StallsStay (seen self.old) (seen self.new) }
         ensures steady { (seen self.new).faults ≡ (seen self.old).faults }
         ensures calls { (seen self.new).calls ≡ (seen self.old).calls }
-        ensures plan { ⟦<MemDisk as Planned>⟧.plan self.new ≡ ⟦<MemDisk as Planned>⟧.plan self.old }
+        ensures plan { plan_of self.new ≡ plan_of self.old }
         ensures rested { IsRested (files (seen self.old)) → IsRested (files (seen self.new)) }
     {
         let Some(room) = self.ops.len().checked_add(1) else {
@@ -107,8 +104,8 @@ impl MemDisk {
     /// from 0, over all starts that were answered `Ok`. `Err` means out of memory.
     pub fn fail_op(&mut self, number: u64) -> Result<(), NoMemory>
         ensures same { seen self.new ≡ seen self.old }
-        ensures planned { OnOk result (⟦<MemDisk as Planned>⟧.plan self.new ≡ record (⟦<MemDisk as Planned>⟧.plan self.old) { failing_ops = (⟦<MemDisk as Planned>⟧.plan self.old).failing_ops ++ number ∷ [] }) }
-        ensures err { OnErr result (⟦<MemDisk as Planned>⟧.plan self.new ≡ ⟦<MemDisk as Planned>⟧.plan self.old) }
+        ensures planned { OnOk result (plan_of self.new ≡ failing_op number (plan_of self.old)) }
+        ensures err { OnErr result (plan_of self.new ≡ plan_of self.old) }
     {
         self.fail_ops.push(number)?;
         Ok(())
@@ -118,8 +115,8 @@ impl MemDisk {
     /// out of memory.
     pub fn fail_call(&mut self, number: u64) -> Result<(), NoMemory>
         ensures same { seen self.new ≡ seen self.old }
-        ensures planned { OnOk result (⟦<MemDisk as Planned>⟧.plan self.new ≡ record (⟦<MemDisk as Planned>⟧.plan self.old) { failing_calls = (⟦<MemDisk as Planned>⟧.plan self.old).failing_calls ++ number ∷ [] }) }
-        ensures err { OnErr result (⟦<MemDisk as Planned>⟧.plan self.new ≡ ⟦<MemDisk as Planned>⟧.plan self.old) }
+        ensures planned { OnOk result (plan_of self.new ≡ failing_call number (plan_of self.old)) }
+        ensures err { OnErr result (plan_of self.new ≡ plan_of self.old) }
     {
         self.calls.numbers.push(number)?;
         Ok(())
@@ -127,7 +124,7 @@ impl MemDisk {
 
     /// What a read gives. `None` exactly where no file of that segment is created.
     pub fn content(&self, side: Side, name: SegName) -> Option<&[u8]>
-        ensures some { IfSome result (λ bytes. as_read (files (seen self.now) (segment side name)) ≡ Some bytes.now) }
+        ensures some { IfSome result (λ bytes. SegmentReads (seen self.now) side name bytes.now) }
         ensures none { IfNone result (as_read (files (seen self.now) (segment side name)) ≡ None) }
     {
         content_of(&self.files, side, name)
@@ -136,7 +133,7 @@ impl MemDisk {
     /// The bytes of all writes started on a file. `None` exactly where no creation of it was started and it was
     /// not put.
     pub fn sent(&self, side: Side, name: SegName) -> Option<&[u8]>
-        ensures some { IfSome result (λ bytes. as_sent (files (seen self.now) (segment side name)) ≡ Some bytes.now) }
+        ensures some { IfSome result (λ bytes. SegmentSent (seen self.now) side name bytes.now) }
         ensures none { IfNone result (files (seen self.now) (segment side name) ≡ None) }
     {
         sent_of(&self.files, side, name)
@@ -145,13 +142,13 @@ impl MemDisk {
     /// The image that the pick names, as a disk in which every byte is stable: no fault, no poll to stall, nothing
     /// in flight, and no failure asked for. `Err` means out of memory, and gives the disk up.
     pub fn crash(self, pick: &CrashPick) -> Result<MemDisk, NoMemory>
-        ensures image { IfOk result (λ disk. IsImage (files (seen self)) (dirs_as_read (files (seen disk)))) }
-        ensures picked { IfOk result (λ disk. (p : Place) → dirs_as_read (files (seen disk)) p ≡ picked_dirs (files (seen self)) pick.now.files p) }
-        ensures stable { IfOk result (λ disk. (p : Place) → files (seen disk) p ≡ whole_files (dirs_as_read (files (seen disk))) p) }
+        ensures image { IfOk result (λ disk. ReadsImageOf (seen self) (seen disk)) }
+        ensures picked { IfOk result (λ disk. ReadsPicked (seen self) pick.now.files (seen disk)) }
+        ensures stable { IfOk result (λ disk. StandsAsRead (seen disk)) }
         ensures rested { IfOk result (λ disk. IsRested (files (seen disk))) }
         ensures no_faults { IfOk result (λ disk. (s : Side) → (seen disk).faults s ≡ 0) }
         ensures no_polls { IfOk result (λ disk. (s : Side) → (seen disk).polls_left s ≡ 0) }
-        ensures no_plan { IfOk result (λ disk. ⟦<MemDisk as Planned>⟧.plan disk ≡ record { failing_ops = []; starts = 0; failing_calls = []; calls = 0 }) }
+        ensures no_plan { IfOk result (λ disk. plan_of disk ≡ nothing_planned) }
         ensures idle { IfOk result (λ disk. NothingInFlight (seen disk)) }
         ensures no_calls { IfOk result (λ disk. (seen disk).calls ≡ []) }
     {
@@ -163,7 +160,7 @@ impl MemDisk {
     /// The premise on checksums, of the image that the pick names: whether each whole chunk in it that has the log
     /// number of its file was sent to its place. `Err` means out of memory.
     pub fn chance_free(&self, pick: &CrashPick) -> Result<bool, NoMemory>
-        ensures { IfOk result (λ free. IsTrue free ↔ IsChanceFree IsChunkOf (files (seen self.now)) (picked_dirs (files (seen self.now)) pick.now.files)) }
+        ensures { IfOk result (DecidesChance (files (seen self.now)) pick.now.files) }
     {
         is_chance_free(self.alloc, &self.files, pick.files.as_slice())
     }
@@ -174,7 +171,7 @@ impl MemDisk {
         ensures kept { files (seen result) ≡ files_held kept.items }
         ensures no_faults { (s : Side) → (seen result).faults s ≡ 0 }
         ensures no_polls { (s : Side) → (seen result).polls_left s ≡ 0 }
-        ensures no_plan { ⟦<MemDisk as Planned>⟧.plan result ≡ record { failing_ops = []; starts = 0; failing_calls = []; calls = 0 } }
+        ensures no_plan { plan_of result ≡ nothing_planned }
         ensures idle { NothingInFlight (seen result) }
         ensures no_calls { (seen result).calls ≡ [] }
     {
@@ -202,7 +199,7 @@ impl MemDisk {
 }
 
 impl Disk for MemDisk {
-    ghost use Rattle.mem_disk.specs.Seen.{seen};
+    ghost use Rattle.mem_disk.specs.Seen.{seen, plan_of, SegmentFills, NoneIfAbsent};
 
     ghost tells = { true };
 
@@ -211,19 +208,19 @@ impl Disk for MemDisk {
     fn list(&mut self, side: Side) -> Result<Names, DiskErr>
         ensures goes_on { GoesOn (seen self.old) (seen self.new) }
         ensures same { SameDisk (seen self.old) (seen self.new) }
-        ensures failed { IsErrOf result DiskErr.Failed → Rose ((seen self.old).faults side) ((seen self.new).faults side) }
+        ensures failed { CountsFailure side result (seen self.old) (seen self.new) }
         ensures ascending { IfOk result IsAscending }
         ensures numbers { IfOk result AreSegmentNames }
         ensures names { IfOk result (IsListing (files (seen self.old)) side) }
-        ensures noted { (seen self.new).calls ≡ was_listed side (answered result) ∷ (seen self.old).calls }
+        ensures noted { NotesListing side result (seen self.old) (seen self.new) }
 
         // It fails exactly at the calls that were to fail.
-        ensures fails { IsErrOf result DiskErr.Failed ↔ FailsNext (⟦<MemDisk as Planned>⟧.plan self.old) }
-        ensures counts { ⟦<MemDisk as Planned>⟧.plan self.new ≡ after_call (⟦<MemDisk as Planned>⟧.plan self.old) }
+        ensures fails { IsErrOf result DiskErr.Failed ↔ FailsNext (plan_of self.old) }
+        ensures counts { plan_of self.new ≡ after_call (plan_of self.old) }
 
         // No poll to stall is taken, and nothing is counted but the failure that is answered.
-        ensures stalls { (seen self.new).polls_left ≡ (seen self.old).polls_left }
-        ensures steady { (s : Side) → (IsErrOf result DiskErr.Failed × (s ≡ side) → ⊥) → (seen self.new).faults s ≡ (seen self.old).faults s }
+        ensures stalls { StallsStay (seen self.old) (seen self.new) }
+        ensures steady { CountsNoOther side result (seen self.old) (seen self.new) }
     {
         if self.calls.next() {
             self.faults.raise(side);
@@ -239,20 +236,20 @@ impl Disk for MemDisk {
     fn read(&mut self, side: Side, name: SegName, at: u64, buf: &mut [u8]) -> Result<usize, DiskErr>
         ensures goes_on { GoesOn (seen self.old) (seen self.new) }
         ensures same { SameDisk (seen self.old) (seen self.new) }
-        ensures failed { IsErrOf result DiskErr.Failed → Rose ((seen self.old).faults side) ((seen self.new).faults side) }
+        ensures failed { CountsFailure side result (seen self.old) (seen self.new) }
         ensures within { IfOk result (λ n. n ≤ length buf.new) }
         ensures behind { IfOk result (λ n. drop n buf.new ≡ drop n buf.old) }
-        ensures bytes { IfOk result (λ n. (f : File) → files (seen self.old) (segment side name) ≡ Some f → FillsFrom f.reads at buf.new n) }
-        ensures no_file { IfOk result (λ n. files (seen self.old) (segment side name) ≡ None → n ≡ 0) }
-        ensures noted { (seen self.new).calls ≡ was_read side name (length buf.old) ∷ (seen self.old).calls }
+        ensures bytes { IfOk result (SegmentFills (seen self.old) side name at buf.new) }
+        ensures no_file { IfOk result (NoneIfAbsent (seen self.old) side name) }
+        ensures noted { AsksFor side name buf.old (seen self.old) (seen self.new) }
 
         // It fails exactly at the calls that were to fail.
-        ensures fails { IsErrOf result DiskErr.Failed ↔ FailsNext (⟦<MemDisk as Planned>⟧.plan self.old) }
-        ensures counts { ⟦<MemDisk as Planned>⟧.plan self.new ≡ after_call (⟦<MemDisk as Planned>⟧.plan self.old) }
+        ensures fails { IsErrOf result DiskErr.Failed ↔ FailsNext (plan_of self.old) }
+        ensures counts { plan_of self.new ≡ after_call (plan_of self.old) }
 
         // No poll to stall is taken, and nothing is counted but the failure that is answered.
-        ensures stalls { (seen self.new).polls_left ≡ (seen self.old).polls_left }
-        ensures steady { (s : Side) → (IsErrOf result DiskErr.Failed × (s ≡ side) → ⊥) → (seen self.new).faults s ≡ (seen self.old).faults s }
+        ensures stalls { StallsStay (seen self.old) (seen self.new) }
+        ensures steady { CountsNoOther side result (seen self.old) (seen self.new) }
     {
         self.log.note_read(side, name, buf.len());
         if self.calls.next() {
@@ -264,18 +261,18 @@ impl Disk for MemDisk {
 
     fn start(&mut self, op: DiskOp<'_>) -> Result<OpId, NoMemory>
         requires free { IsFree (seen self.old) (place_of op) }
-        requires may { MayStart (flight_of op).act (files (seen self.old) (place_of op)) }
+        requires may { MayStartOn op (seen self.old) }
         ensures goes_on { GoesOn (seen self.old) (seen self.new) }
-        ensures starts { IfOk result (λ id. Starts (flight_of op.entry) (side_of op.entry) id (seen self.old) (seen self.new)) }
-        ensures file { OnOk result (ChangesFile (place_of op.entry) (λ f g. g ≡ after_start (flight_of op.entry).act (bytes_sent_by op.entry) f) (seen self.old) (seen self.new)) }
-        ensures err { OnErr result ((seen self.new) ≡ (seen self.old)) }
-        ensures noted { IfOk result (λ id. (seen self.new).calls ≡ was_started id ∷ (seen self.old).calls) }
+        ensures starts { IsStarted op.entry result (seen self.old) (seen self.new) }
+        ensures file { OnOk result (SendsTo op.entry (seen self.old) (seen self.new)) }
+        ensures err { OnErr result (seen self.new ≡ seen self.old) }
+        ensures noted { NotesStart result (seen self.old) (seen self.new) }
 
         // The operations are numbered as they are started.
-        ensures number { IfOk result (λ id. id.number ≡ (⟦<MemDisk as Planned>⟧.plan self.old).starts) }
-        ensures counts { OnOk result (⟦<MemDisk as Planned>⟧.plan self.new ≡ after_op (⟦<MemDisk as Planned>⟧.plan self.old)) }
-        ensures stalls { (seen self.new).polls_left ≡ (seen self.old).polls_left }
-        ensures not_counted { OnErr result (⟦<MemDisk as Planned>⟧.plan self.new ≡ ⟦<MemDisk as Planned>⟧.plan self.old) }
+        ensures number { IfOk result (λ id. id.number ≡ (plan_of self.old).starts) }
+        ensures counts { OnOk result (plan_of self.new ≡ after_op (plan_of self.old)) }
+        ensures stalls { StallsStay (seen self.old) (seen self.new) }
+        ensures not_counted { OnErr result (plan_of self.new ≡ plan_of self.old) }
     {
         let made = op_of(op);
         let Some(room) = self.ops.len().checked_add(2) else {
@@ -299,16 +296,16 @@ impl Disk for MemDisk {
         requires in_flight { IsSome ((seen self.old).in_flight id) }
         ensures goes_on { GoesOn (seen self.old) (seen self.new) }
         ensures polled { Polled true id (seen self.old) (seen self.new) result }
-        ensures noted { (seen self.new).calls ≡ was_polled id ∷ (seen self.old).calls }
+        ensures noted { Notes (was_polled id) (seen self.old) (seen self.new) }
 
         // It fails exactly where the operation was to fail, once it is not stalled.
-        ensures answers { AnswersAsPlanned (⟦<MemDisk as Planned>⟧.plan self.old) id.number ((seen self.old).polls_left id.side) result }
-        ensures plan { ⟦<MemDisk as Planned>⟧.plan self.new ≡ ⟦<MemDisk as Planned>⟧.plan self.old }
+        ensures answers { AnswersByPlan (plan_of self.old) id (seen self.old) result }
+        ensures plan { plan_of self.new ≡ plan_of self.old }
 
         // A stalled poll takes one poll of its side, and no other one does. Nothing is counted but the failure that is answered.
-        ensures took { result ≡ Progress.Pending → (seen self.new).polls_left id.side + 1 ≡ (seen self.old).polls_left id.side }
-        ensures stalls { (s : Side) → ((result ≡ Progress.Pending) × (s ≡ id.side) → ⊥) → (seen self.new).polls_left s ≡ (seen self.old).polls_left s }
-        ensures steady { (s : Side) → ((result ≡ Progress.Failed) × (s ≡ id.side) → ⊥) → (seen self.new).faults s ≡ (seen self.old).faults s }
+        ensures took { TakesOnePoll id result (seen self.old) (seen self.new) }
+        ensures stalls { StallsStayBut id result (seen self.old) (seen self.new) }
+        ensures steady { FaultsStayBut id result (seen self.old) (seen self.new) }
 
         // A failed operation leaves each file as it stands.
         ensures kept { result ≡ Progress.Failed → files (seen self.new) ≡ files (seen self.old) }
@@ -334,11 +331,11 @@ impl Disk for MemDisk {
 }
 
 impl StallDisk for MemDisk {
-    ghost use Rattle.mem_disk.specs.Seen.{seen};
+    ghost use Rattle.mem_disk.specs.Seen.{seen, plan_of};
 
     fn stall(&mut self, side: Side, polls: u32)
         ensures stalls { Stalls side polls (seen self.old) (seen self.new) }
-        ensures plan { ⟦<MemDisk as Planned>⟧.plan self.new ≡ ⟦<MemDisk as Planned>⟧.plan self.old }
+        ensures plan { plan_of self.new ≡ plan_of self.old }
     {
         self.polls.add(side, polls);
     }

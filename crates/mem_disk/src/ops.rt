@@ -1,10 +1,10 @@
 //! The operations of a disk in memory. Each stands at its number, which is its place in the list of all.
 
-ghost use Rattle.std.specs.Prelude.{length, ◌≡◌, ◌≢◌, ◌+◌, ◌<◌, ◌≤◌, true, IsSome, Some, None, vec_len, vec_capacity};
+ghost use Rattle.std.specs.Prelude.{length, ◌≡◌, ◌+◌, ◌<◌, ◌≤◌, true, IsSome, Some, None, vec_len, vec_capacity};
 ghost use Rattle.disk_face.specs.declared.OpId.{OpId};
 ghost use Rattle.disk_face.specs.View.{segment};
 ghost use Rattle.disk_face.specs.Calls.{flight_of, place_of, side_of};
-ghost use Rattle.mem_disk.specs.Mem.{flight_in, live_in, act_in_memory};
+ghost use Rattle.mem_disk.specs.Mem.{flight_in, flight_kept, id_of, FlightsStayBut, live_in, act_in_memory};
 
 use crate::parts::{MemAct, MemOp};
 use disk_face::{DiskOp, OpId, Side};
@@ -41,9 +41,9 @@ pub fn op_of(op: DiskOp<'_>) -> MemOp
 /// Ends an operation that is in flight.
 pub fn end_op(ops: &mut Vec<MemOp>, id: OpId) -> MemOp
     requires { IsSome (flight_in ops.old.items id) }
-    ensures flight { flight_in ops.old.items id ≡ Some (record { place = segment result.side result.name; act = act_in_memory result.act }) }
+    ensures flight { flight_in ops.old.items id ≡ Some (flight_kept result) }
     ensures gone { flight_in ops.new.items id ≡ None }
-    ensures others { (q : OpId) → q ≢ id → flight_in ops.new.items q ≡ flight_in ops.old.items q }
+    ensures others { FlightsStayBut id ops.old.items ops.new.items }
     ensures count { live_in ops.new.items + 1 ≡ live_in ops.old.items }
     ensures length { length ops.new.items ≡ length ops.old.items }
 {
@@ -57,9 +57,9 @@ pub fn end_op(ops: &mut Vec<MemOp>, id: OpId) -> MemOp
 pub fn begin_op(ops: &mut Vec<MemOp>, op: MemOp) -> u64
     requires room { vec_len ops.old < vec_capacity ops.old }
     requires live { op.live ≡ true }
-    ensures absent { flight_in ops.old.items (record { side = op.side; number = result }) ≡ None }
-    ensures here { flight_in ops.new.items (record { side = op.side; number = result }) ≡ Some (record { place = segment op.side op.name; act = act_in_memory op.act }) }
-    ensures others { (q : OpId) → q ≢ record { side = op.side; number = result } → flight_in ops.new.items q ≡ flight_in ops.old.items q }
+    ensures absent { flight_in ops.old.items (id_of op result) ≡ None }
+    ensures here { flight_in ops.new.items (id_of op result) ≡ Some (flight_kept op) }
+    ensures others { FlightsStayBut (id_of op result) ops.old.items ops.new.items }
     ensures count { live_in ops.new.items ≡ live_in ops.old.items + 1 }
     ensures number { result ≡ length ops.old.items }
     ensures length { length ops.new.items ≡ length ops.old.items + 1 }

@@ -1,9 +1,10 @@
 //! The order of the files: those of one side ascend by their names.
 
-ghost use Rattle.std.specs.Prelude.{◌≡◌, ◌≤◌, length, insert, OnOk, OnErr, Some, None};
+ghost use Rattle.std.specs.Prelude.{◌≡◌, ◌≤◌, length, insert, OnOk, OnErr, None};
 ghost use Rattle.disk_face.specs.View.{segment};
 ghost use Rattle.mem_disk.specs.declared.parts.MemFile.{MemFile};
-ghost use Rattle.mem_disk.specs.Mem.{files_held, file_of, is_before, side_eq, put, goes_before, AreInOrder, ChangesAt};
+ghost use Rattle.mem_disk.specs.Changes.{PutsFile};
+ghost use Rattle.mem_disk.specs.Mem.{IsPutAt, files_held, is_before, side_eq, goes_before, AreInOrder};
 
 use crate::parts::MemFile;
 use disk_face::{SegName, Side};
@@ -36,7 +37,7 @@ fn goes_in_front(file: &MemFile, side: Side, name: SegName) -> bool
 // Where a file of that segment goes.
 fn place_for(files: &Vec<MemFile>, side: Side, name: SegName) -> usize
     ensures within { result ≤ length files.now.items }
-    ensures place { (m : MemFile) → m.side ≡ side → m.name ≡ name → put m files.now.items ≡ insert files.now.items result m }
+    ensures place { IsPutAt side name files.now.items result }
 {
     let mut at = 0;
     while at < files.len() && !goes_in_front(&files[at], side, name) {
@@ -48,7 +49,7 @@ fn place_for(files: &Vec<MemFile>, side: Side, name: SegName) -> usize
 /// Puts in a file, where there is none of its segment.
 pub fn insert_file(files: &mut Vec<MemFile>, file: MemFile) -> Result<(), NoMemory>
     requires absent { files_held files.old.items (segment file.side file.name) ≡ None }
-    ensures ok { OnOk result (ChangesAt (segment file.side file.name) (λ f g. g ≡ Some (file_of file)) (files_held files.old.items) (files_held files.new.items)) }
+    ensures ok { OnOk result (PutsFile file files.old.items files.new.items) }
     ensures err { OnErr result (files.new.items ≡ files.old.items) }
     ensures ordered { AreInOrder files.old.items → AreInOrder files.new.items }
 {

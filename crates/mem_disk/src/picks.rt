@@ -1,10 +1,10 @@
 //! Which image a crash leaves: a tail for each file that is to have one.
 
-ghost use Rattle.std.specs.Prelude.{◌≡◌, ◌≤◌, [], ◌++◌, length, take, OnOk, IfNone, IfSome, Some, None, unwrap_or};
+ghost use Rattle.std.specs.Prelude.{◌≡◌, ◌≤◌, length, OnOk, IfNone, IfSome};
 ghost use Rattle.std.specs.Option.{option_copied};
 ghost use Rattle.disk_face.specs.View.{segment};
-ghost use Rattle.mem_disk.specs.Mem.{is_at, file_of};
-ghost use Rattle.mem_disk.specs.Picks.{tail_of, picked};
+ghost use Rattle.mem_disk.specs.Mem.{is_at};
+ghost use Rattle.mem_disk.specs.Picks.{tail_of, LeavesNone, LeavesFront, IsWithTail};
 
 use crate::order::is_side;
 use crate::parts::MemFile;
@@ -63,8 +63,8 @@ pub fn tail_for(picks: &[FilePick], side: Side, name: SegName) -> Option<&[u8]>
 
 /// How many of its bytes a crash leaves of a file, in front of the tail. `None` where it leaves no file.
 pub fn kept_len(file: &MemFile, tail: Option<&[u8]>) -> Option<usize>
-    ensures none { IfNone result (picked (Some (file_of file.now)) (option_copied tail.entry) ≡ None) }
-    ensures some { IfSome result (λ kept. picked (Some (file_of file.now)) (option_copied tail.entry) ≡ Some (take kept file.now.sent.items ++ unwrap_or (option_copied tail.entry) [])) }
+    ensures none { IfNone result (LeavesNone file.now (option_copied tail.entry)) }
+    ensures some { IfSome result (LeavesFront file.now (option_copied tail.entry)) }
     ensures within { IfSome result (λ kept. kept ≤ length file.now.sent.items) }
 {
     if file.created {
@@ -78,7 +78,7 @@ pub fn kept_len(file: &MemFile, tail: Option<&[u8]>) -> Option<usize>
 
 /// Adds the tail, if there is one.
 pub fn add_tail(bytes: &mut Vec<u8>, tail: Option<&[u8]>) -> Result<(), NoMemory>
-    ensures { OnOk result (bytes.new.items ≡ bytes.old.items ++ unwrap_or (option_copied tail.entry) []) }
+    ensures { OnOk result (IsWithTail bytes.old.items (option_copied tail.entry) bytes.new.items) }
 {
     let Some(tail) = tail else {
         return Ok(());

@@ -1,8 +1,9 @@
-ghost use Rattle.std.specs.Prelude.{◌≡◌, IsTrue, OnOk, IfOk, None};
-ghost use Rattle.disk_face.specs.declared.OpId.{OpId};
+ghost use Rattle.std.specs.Prelude.{◌≡◌, IsTrue, OnOk, None};
 ghost use Rattle.disk_face.specs.declared.Side.TheVariants.{Primary};
-ghost use Rattle.disk_face.specs.View.{segment, files, IsFree, NothingInFlight};
-ghost use Rattle.disk_face.specs.Calls.{MayStart, AfterDone, after_start, flight_of, place_of, bytes_sent_by};
+ghost use Rattle.disk_face.specs.View.{segment, files, IsFree};
+ghost use Rattle.disk_face.specs.Calls.{place_of};
+ghost use Rattle.disk_face.specs.Answers.{MayStartOn};
+ghost use Rattle.mem_disk.specs.Changes.{FlightsStay, IsPerformed};
 
 use crate::{CrashPick, FilePick, FilePicks, MemDisk};
 use crc_chunk::{BLOCK, ChunkKind, HEADER, chunk_at, put_chunk};
@@ -33,9 +34,9 @@ impl From<NoMemory> for Stopped {
 /// Starts one operation and polls it once.
 fn perform<D: Disk>(disk: &mut D, op: DiskOp<'_>) -> Result<(), Stopped>
     requires free { IsFree (D.view disk.old) (place_of op) }
-    requires may { IsTrue D.tells → MayStart (flight_of op).act (files (D.view disk.old) (place_of op)) }
-    ensures flights { OnOk result ((q : OpId) → (D.view disk.new).in_flight q ≡ (D.view disk.old).in_flight q) }
-    ensures done { OnOk result (IsTrue D.tells → AfterDone (flight_of op.entry).act (after_start (flight_of op.entry).act (bytes_sent_by op.entry) (files (D.view disk.old) (place_of op.entry))) (files (D.view disk.new) (place_of op.entry))) }
+    requires may { IsTrue D.tells → MayStartOn op (D.view disk.old) }
+    ensures flights { OnOk result (FlightsStay (D.view disk.old) (D.view disk.new)) }
+    ensures done { OnOk result (IsPerformed D.tells op.entry (D.view disk.old) (D.view disk.new)) }
 {
     let id = disk.start(op)?;
     match disk.poll(id) {
