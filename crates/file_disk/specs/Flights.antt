@@ -1,9 +1,11 @@
 -- What the two directories of a disk over files mean (docs/FORMATS.md, "The disk").
-use Rattle.std.specs.Prelude.{ℕ, List, Option, Some, None}
+use Rattle.std.specs.Prelude.{◌≡◌, ◌≢◌, ℕ, List, Option, Some, None}
 use Rattle.std.specs.Ordering.{nat_cmp}
 use Rattle.std.specs.BTreeMap.{get}
 use Rattle.disk_face.specs.declared.Side.{Side}
 use Rattle.disk_face.specs.declared.Side.TheVariants.{Primary, Secondary}
+use Rattle.disk_face.specs.declared.DiskOp.{DiskOp}
+use Rattle.disk_face.specs.Calls.{flight_of, side_of}
 use Rattle.disk_face.specs.View.{segment, Act, creating, writing, syncing, Flight, Call, DiskView, by_side}
 use Rattle.file_disk.specs.declared.directory.Task.{Task}
 use Rattle.file_disk.specs.declared.directory.Task.TheVariants.{Create, Append, Sync}
@@ -24,6 +26,26 @@ flight_at side (Some op) = Some (record { place = segment side op.name; act = ac
 -- the operation of that number in flight in a directory
 abbrev pub flight_on_side : {F : Type 0} → Side → Directory F → ℕ → Option Flight
 flight_on_side side directory number = flight_at side (get nat_cmp directory.flights number)
+
+-- the task is that of the operation
+abbrev pub IsTaskOf : {F : Type 0} → DiskOp → Started F → Type 0
+IsTaskOf op started = flight_at (side_of op) (Some started) ≡ Some (flight_of op)
+
+-- the operation is in flight in the directory, by that number
+abbrev pub HasInFlight : {F : Type 0} → DiskOp → Directory F → ℕ → Type 0
+HasInFlight op directory number = flight_on_side (side_of op) directory number ≡ Some (flight_of op)
+
+-- nothing is in flight in the directory by that number
+abbrev pub HasNoFlight : {F : Type 0} → Directory F → ℕ → Type 0
+HasNoFlight directory number = (side : Side) → flight_on_side side directory number ≡ None
+
+-- what is in flight in the directory stays
+abbrev pub SameFlights : {F : Type 0} → Directory F → Directory F → Type 0
+SameFlights old new = (side : Side) (q : ℕ) → flight_on_side side new q ≡ flight_on_side side old q
+
+-- what is in flight in the directory by another number stays
+abbrev pub OtherFlightsStay : {F : Type 0} → ℕ → Directory F → Directory F → Type 0
+OtherFlightsStay number old new = (side : Side) (q : ℕ) → q ≢ number → flight_on_side side new q ≡ flight_on_side side old q
 
 -- the directory of that side
 abbrev pub directory_of : {F : Type 0} → Directory F → Directory F → Side → Directory F

@@ -1,3 +1,5 @@
 pub mod Flights
+pub mod Seen
+pub mod Refusals
 pub mod Paths
 pub mod Held

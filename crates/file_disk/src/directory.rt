@@ -1,10 +1,10 @@
 //! One of the two directories: its faults, its operations in flight, and the file that it holds open.
 
-ghost use Rattle.std.specs.Prelude.{◌≡◌, ◌≢◌, ◌↔◌, ◌≤◌, ◌^◌, ℕ, None, Some, IfOk, IfSome, IfNone, IsSome, OnOk, OnErr};
+ghost use Rattle.std.specs.Prelude.{◌≡◌, ◌↔◌, ◌≤◌, ◌^◌, ℕ, None, Some, IfOk, IfSome, IfNone, IsSome, OnOk, OnErr};
 ghost use Rattle.wal_base.specs.Faults.{Rose, counted};
 ghost use Rattle.disk_face.specs.declared.Side.{Side};
-ghost use Rattle.disk_face.specs.Calls.{flight_of, side_of};
-ghost use Rattle.file_disk.specs.Flights.{flight_on_side, flight_at};
+ghost use Rattle.disk_face.specs.Calls.{side_of};
+ghost use Rattle.file_disk.specs.Flights.{flight_on_side, flight_at, IsTaskOf, HasInFlight, HasNoFlight, SameFlights, OtherFlightsStay};
 ghost use Rattle.file_disk.specs.Held.{IsHeld, HoldsOpen, HoldsTheSame, HoldsAfter, IsOpen, LeadsTo, FindsItsFile};
 
 use crate::paths::{PARENT, directory_of, path_of};
@@ -119,7 +119,7 @@ impl<F: Write + OpenFile + Drop> Directory<F> {
         ensures once { self.new.faults ≡ counted self.old.faults }
         ensures rose { Rose self.old.faults self.new.faults }
         ensures later { self.old.faults ≤ self.new.faults }
-        ensures flights { (side : Side) (q : ℕ) → flight_on_side side self.new q ≡ flight_on_side side self.old q }
+        ensures flights { SameFlights self.old self.new }
     {
         self.faults = self.faults.saturating_add(1);
     }
@@ -129,7 +129,7 @@ impl<F: Write + OpenFile + Drop> Directory<F> {
         ensures its { IfSome result (λ file. IsHeld self.old name file) }
         ensures none { IfNone result (HoldsOpen self.old name → ⊥) }
         ensures faults { self.new.faults ≡ self.old.faults }
-        ensures flights { (side : Side) (q : ℕ) → flight_on_side side self.new q ≡ flight_on_side side self.old q }
+        ensures flights { SameFlights self.old self.new }
     {
         match self.held.take() {
             Some(held) if held.name == name => Some(held.file),
@@ -144,7 +144,7 @@ impl<F: Write + OpenFile + Drop> Directory<F> {
     fn target(&mut self, alloc: Global, side: Side, name: SegName) -> Result<Target<F>, NoMemory>
         ensures leads { IfOk result (λ target. LeadsTo self.old side name target) }
         ensures faults { self.new.faults ≡ self.old.faults }
-        ensures flights { (side : Side) (q : ℕ) → flight_on_side side self.new q ≡ flight_on_side side self.old q }
+        ensures flights { SameFlights self.old self.new }
     {
         match self.take(name) {
             Some(file) => Ok(Target::Open(file)),
@@ -154,10 +154,10 @@ impl<F: Write + OpenFile + Drop> Directory<F> {
 
     /// What an operation is to do, with a copy of the bytes of a write.
     fn task(&mut self, alloc: Global, op: DiskOp<'_>) -> Result<Started<F>, NoMemory>
-        ensures flight { IfOk result (λ started. flight_at (side_of op.entry) (Some started) ≡ Some (flight_of op.entry)) }
+        ensures flight { IfOk result (IsTaskOf op.entry) }
         ensures leads { IfOk result (λ started. FindsItsFile self.old (side_of op.entry) started) }
         ensures faults { self.new.faults ≡ self.old.faults }
-        ensures flights { (side : Side) (q : ℕ) → flight_on_side side self.new q ≡ flight_on_side side self.old q }
+        ensures flights { SameFlights self.old self.new }
     {
         let (name, task) = match op {
             DiskOp::Create { side, name } => (name, Task::Create(path_of(alloc, side, name)?)),
@@ -173,11 +173,11 @@ impl<F: Write + OpenFile + Drop> Directory<F> {
     /// Puts an operation in flight, and answers its number. After 2^64 operations numbers come again, and one
     /// that is still in flight is refused. After an error nothing was started, and maybe no file is held open.
     pub fn begin(&mut self, alloc: Global, op: DiskOp<'_>) -> Result<u64, NoMemory>
-        ensures fresh { IfOk result (λ number. (side : Side) → flight_on_side side self.old number ≡ None) }
-        ensures here { IfOk result (λ number. flight_on_side (side_of op.entry) self.new number ≡ Some (flight_of op.entry)) }
-        ensures others { IfOk result (λ number. (side : Side) (q : ℕ) → q ≢ number → flight_on_side side self.new q ≡ flight_on_side side self.old q) }
+        ensures fresh { IfOk result (HasNoFlight self.old) }
+        ensures here { IfOk result (HasInFlight op.entry self.new) }
+        ensures others { IfOk result (λ number. OtherFlightsStay number self.old self.new) }
         ensures faults { self.new.faults ≡ self.old.faults }
-        ensures err { OnErr result ((side : Side) (q : ℕ) → flight_on_side side self.new q ≡ flight_on_side side self.old q) }
+        ensures err { OnErr result (SameFlights self.old self.new) }
     {
         let number = self.next;
         if self.flights.contains_key(&number) {
@@ -192,8 +192,8 @@ impl<F: Write + OpenFile + Drop> Directory<F> {
     /// Takes an operation out of flight. `None` exactly where none of that number was in flight.
     pub fn end(&mut self, number: u64) -> Option<Started<F>>
         ensures was { (side : Side) → flight_at side result ≡ flight_on_side side self.old number }
-        ensures gone { (side : Side) → flight_on_side side self.new number ≡ None }
-        ensures others { (side : Side) (q : ℕ) → q ≢ number → flight_on_side side self.new q ≡ flight_on_side side self.old q }
+        ensures gone { HasNoFlight self.new number }
+        ensures others { OtherFlightsStay number self.old self.new }
         ensures faults { self.new.faults ≡ self.old.faults }
     {
         self.flights.remove(&number)
@@ -204,7 +204,7 @@ impl<F: Write + OpenFile + Drop> Directory<F> {
         ensures holds { OnOk result (HoldsAfter self.old self.new op.name op.task) }
         ensures err { OnErr result (HoldsTheSame self.old self.new) }
         ensures faults { self.new.faults ≡ self.old.faults }
-        ensures flights { (side : Side) (q : ℕ) → flight_on_side side self.new q ≡ flight_on_side side self.old q }
+        ensures flights { SameFlights self.old self.new }
     {
         let Started { name, task } = op;
         let file = match task {
@@ -222,7 +222,7 @@ impl<F: Write + OpenFile + Drop> Directory<F> {
     fn create<R: Files<File = F>>(&mut self, rt: &R, side: Side, path: &Buf) -> io::Result<F>
         ensures held { HoldsTheSame self.old self.new }
         ensures faults { self.new.faults ≡ self.old.faults }
-        ensures flights { (side : Side) (q : ℕ) → flight_on_side side self.new q ≡ flight_on_side side self.old q }
+        ensures flights { SameFlights self.old self.new }
     {
         let directory = directory_of(side);
         self.make(rt, directory)?;
@@ -236,7 +236,7 @@ impl<F: Write + OpenFile + Drop> Directory<F> {
     fn make<R: Files<File = F>>(&mut self, rt: &R, directory: &str) -> io::Result<()>
         ensures held { HoldsTheSame self.old self.new }
         ensures faults { self.new.faults ≡ self.old.faults }
-        ensures flights { (side : Side) (q : ℕ) → flight_on_side side self.new q ≡ flight_on_side side self.old q }
+        ensures flights { SameFlights self.old self.new }
     {
         if system::make_directory(rt, directory)? {
             self.is_named = false;

@@ -1,12 +1,13 @@
 //! The disk over files.
 
-ghost use Rattle.std.specs.Prelude.{◌≡◌, ◌≢◌, ◌∷◌, false, IfOk, IsOk, IsErr};
+ghost use Rattle.std.specs.Prelude.{◌≡◌, ◌∷◌, false, IfOk, IsOk};
 ghost use Rattle.disk_face.specs.declared.Side.{Side};
 ghost use Rattle.disk_face.specs.View.{NothingInFlight, was_polled};
 ghost use Rattle.disk_face.specs.Calls as spec;
 ghost use Rattle.disk_face.specs.Calls.{GoesOn, SameDisk, Ends};
 ghost use Rattle.wal_base.specs.Faults.{Rose, counted};
-ghost use Rattle.file_disk.specs.Flights.{file_view};
+ghost use Rattle.file_disk.specs.Seen.{on_files};
+ghost use Rattle.file_disk.specs.Refusals.{OtherFaultsStay, CountsNoneButRefusal, CountsRefusal, FailsIfRefused};
 
 use crate::directory::{Directory, Started};
 use crate::system;
@@ -31,9 +32,9 @@ impl<R: Files + AllocGlobal + Clone + Drop> FileDisk<R> {
     /// Works on the files of this runtime. No file and no directory is touched yet. `Err` means out of memory.
     pub fn new(runtime: &R) -> Result<Self, NoMemory>
         ensures silent { ⟦<FileDisk<R> as Disk>⟧.tells ≡ false }
-        ensures no_faults { IfOk result (λ disk. (s : Side) → (⟦<FileDisk<R> as Disk>⟧.view disk).faults s ≡ 0) }
-        ensures no_polls { IfOk result (λ disk. (s : Side) → (⟦<FileDisk<R> as Disk>⟧.view disk).polls_left s ≡ 0) }
-        ensures idle { IfOk result (λ disk. NothingInFlight (⟦<FileDisk<R> as Disk>⟧.view disk)) }
+        ensures no_faults { IfOk result (λ disk. (s : Side) → (on_files disk).faults s ≡ 0) }
+        ensures no_polls { IfOk result (λ disk. (s : Side) → (on_files disk).polls_left s ≡ 0) }
+        ensures idle { IfOk result (λ disk. NothingInFlight (on_files disk)) }
     {
         Ok(FileDisk {
             runtime: runtime.clone()?,
@@ -46,11 +47,11 @@ impl<R: Files + AllocGlobal + Clone + Drop> FileDisk<R> {
     /// Counts a fault of that side.
     fn raise(&mut self, side: Side)
         ensures calls { self.new.log.calls ≡ self.old.log.calls }
-        ensures goes_on { GoesOn (file_view self.old.primary self.old.secondary self.old.log.calls) (file_view self.new.primary self.new.secondary self.new.log.calls) }
-        ensures same { SameDisk (file_view self.old.primary self.old.secondary self.old.log.calls) (file_view self.new.primary self.new.secondary self.new.log.calls) }
-        ensures once { (file_view self.new.primary self.new.secondary self.new.log.calls).faults side ≡ counted ((file_view self.old.primary self.old.secondary self.old.log.calls).faults side) }
-        ensures rose { Rose ((file_view self.old.primary self.old.secondary self.old.log.calls).faults side) ((file_view self.new.primary self.new.secondary self.new.log.calls).faults side) }
-        ensures others { (s : Side) → s ≢ side → (file_view self.new.primary self.new.secondary self.new.log.calls).faults s ≡ (file_view self.old.primary self.old.secondary self.old.log.calls).faults s }
+        ensures goes_on { GoesOn (on_files self.old) (on_files self.new) }
+        ensures same { SameDisk (on_files self.old) (on_files self.new) }
+        ensures once { (on_files self.new).faults side ≡ counted ((on_files self.old).faults side) }
+        ensures rose { Rose ((on_files self.old).faults side) ((on_files self.new).faults side) }
+        ensures others { OtherFaultsStay side (on_files self.old) (on_files self.new) }
     {
         match side {
             Side::Primary => self.primary.raise(),
@@ -61,12 +62,12 @@ impl<R: Files + AllocGlobal + Clone + Drop> FileDisk<R> {
     /// How an operation ended, by what the system answered. A refusal is counted.
     fn settle(&mut self, side: Side, answer: io::Result<()>) -> Progress
         ensures calls { self.new.log.calls ≡ self.old.log.calls }
-        ensures goes_on { GoesOn (file_view self.old.primary self.old.secondary self.old.log.calls) (file_view self.new.primary self.new.secondary self.new.log.calls) }
-        ensures same { SameDisk (file_view self.old.primary self.old.secondary self.old.log.calls) (file_view self.new.primary self.new.secondary self.new.log.calls) }
+        ensures goes_on { GoesOn (on_files self.old) (on_files self.new) }
+        ensures same { SameDisk (on_files self.old) (on_files self.new) }
         ensures done { IsOk answer → result ≡ Progress.Done }
-        ensures steady { (s : Side) → (IsErr answer × (s ≡ side) → ⊥) → (file_view self.new.primary self.new.secondary self.new.log.calls).faults s ≡ (file_view self.old.primary self.old.secondary self.old.log.calls).faults s }
-        ensures once { IsErr answer → (file_view self.new.primary self.new.secondary self.new.log.calls).faults side ≡ counted ((file_view self.old.primary self.old.secondary self.old.log.calls).faults side) }
-        ensures failed { IsErr answer → (result ≡ Progress.Failed) × Rose ((file_view self.old.primary self.old.secondary self.old.log.calls).faults side) ((file_view self.new.primary self.new.secondary self.new.log.calls).faults side) }
+        ensures steady { CountsNoneButRefusal side answer (on_files self.old) (on_files self.new) }
+        ensures once { CountsRefusal side answer (on_files self.old) (on_files self.new) }
+        ensures failed { FailsIfRefused side answer result (on_files self.old) (on_files self.new) }
     {
         match answer {
             Ok(()) => Progress::Done,
@@ -80,9 +81,9 @@ impl<R: Files + AllocGlobal + Clone + Drop> FileDisk<R> {
     /// Takes an operation out of flight, for a poll.
     fn end(&mut self, id: OpId) -> Option<Started<R::File>>
         ensures noted { self.new.log.calls ≡ was_polled id ∷ self.old.log.calls }
-        ensures goes_on { GoesOn (file_view self.old.primary self.old.secondary self.old.log.calls) (file_view self.new.primary self.new.secondary self.new.log.calls) }
-        ensures ends { Ends id (file_view self.old.primary self.old.secondary self.old.log.calls) (file_view self.new.primary self.new.secondary self.new.log.calls) }
-        ensures steady { (s : Side) → (file_view self.new.primary self.new.secondary self.new.log.calls).faults s ≡ (file_view self.old.primary self.old.secondary self.old.log.calls).faults s }
+        ensures goes_on { GoesOn (on_files self.old) (on_files self.new) }
+        ensures ends { Ends id (on_files self.old) (on_files self.new) }
+        ensures steady { (s : Side) → (on_files self.new).faults s ≡ (on_files self.old).faults s }
     {
         self.log.note_poll(id);
         match id.side {
@@ -93,7 +94,7 @@ impl<R: Files + AllocGlobal + Clone + Drop> FileDisk<R> {
 
     /// Runs an operation that is no longer in flight.
     fn run(&mut self, side: Side, op: Started<R::File>) -> io::Result<()>
-        ensures { file_view self.new.primary self.new.secondary self.new.log.calls ≡ file_view self.old.primary self.old.secondary self.old.log.calls }
+        ensures { on_files self.new ≡ on_files self.old }
     {
         match side {
             Side::Primary => self.primary.run(&self.runtime, side, op),
@@ -104,9 +105,9 @@ impl<R: Files + AllocGlobal + Clone + Drop> FileDisk<R> {
     /// Takes an operation out of flight, runs it, and answers what the system did.
     fn finish(&mut self, id: OpId) -> io::Result<()>
         ensures noted { self.new.log.calls ≡ was_polled id ∷ self.old.log.calls }
-        ensures goes_on { GoesOn (file_view self.old.primary self.old.secondary self.old.log.calls) (file_view self.new.primary self.new.secondary self.new.log.calls) }
-        ensures ends { Ends id (file_view self.old.primary self.old.secondary self.old.log.calls) (file_view self.new.primary self.new.secondary self.new.log.calls) }
-        ensures steady { (s : Side) → (file_view self.new.primary self.new.secondary self.new.log.calls).faults s ≡ (file_view self.old.primary self.old.secondary self.old.log.calls).faults s }
+        ensures goes_on { GoesOn (on_files self.old) (on_files self.new) }
+        ensures ends { Ends id (on_files self.old) (on_files self.new) }
+        ensures steady { (s : Side) → (on_files self.new).faults s ≡ (on_files self.old).faults s }
     {
         match self.end(id) {
             Some(started) => self.run(id.side, started),
@@ -130,7 +131,7 @@ impl<R: Files + AllocGlobal + Clone + Drop> Disk for FileDisk<R> {
 
     ghost tells = { false };
 
-    ghost view = { λ d. file_view d.primary d.secondary d.log.calls };
+    ghost view = { λ d. on_files d };
 
     fn list(&mut self, side: Side) -> Result<Names, DiskErr> {
         let listed = system::list(&self.runtime, side);
