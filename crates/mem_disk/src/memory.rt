@@ -11,7 +11,7 @@ ghost use Rattle.disk_face.specs.Calls.{place_of, GoesOn, SameDisk, StallsStay, 
 ghost use Rattle.mem_disk.specs.Picks.{DecidesChance};
 ghost use Rattle.mem_disk.specs.Plan.{Plan, nothing_planned, failing_op, failing_call, FailsNext, after_call, after_op, AnswersByPlan, TakesOnePoll};
 ghost use Rattle.mem_disk.specs.Finite.{finite_mem, sound_mem};
-ghost use Rattle.mem_disk.specs.Mem.{files_held, live_in, mem_view, AreInOrder};
+ghost use Rattle.mem_disk.specs.Mem.{files_held, live_in, AreInOrder};
 
 use crate::chance::is_chance_free;
 use crate::counts::{BySide, CallFaults};
@@ -32,9 +32,9 @@ pub trait Planned {
 }
 
 impl Planned for MemDisk {
-    ghost use Rattle.std.specs.Prelude.{length};
+    ghost use Rattle.mem_disk.specs.Seen.{plan_of};
 
-    ghost plan = { λ d. record { failing_ops = d.fail_ops.items; starts = length d.ops.items; failing_calls = d.calls.numbers.items; calls = d.calls.calls } };
+    ghost plan = { plan_of };
 }
 
 /// A disk in memory. It tells its files. An operation ends at its first poll that is not stalled, and then takes
@@ -203,7 +203,7 @@ impl Disk for MemDisk {
 
     ghost tells = { true };
 
-    ghost view = { λ d. mem_view d.files.items d.ops.items d.undos.items (by_side d.faults.primary d.faults.secondary) (by_side d.polls.primary d.polls.secondary) d.log.calls };
+    ghost view = { seen };
 
     fn list(&mut self, side: Side) -> Result<Names, DiskErr>
         ensures goes_on { GoesOn (seen self.old) (seen self.new) }
