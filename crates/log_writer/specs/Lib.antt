@@ -4,3 +4,5 @@ pub mod Fits
 pub mod Kept
 pub mod Steps
 pub mod Sending
+pub mod Promises
+pub mod Theorems

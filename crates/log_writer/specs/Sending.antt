@@ -1,7 +1,7 @@
 -- What a start of an operation sends (docs/FORMATS.md, "The next operation of a segment").
 use Rattle.std.specs.Prelude.{ℕ, ◌+◌, ◌-◌, ◌%◌, List, length}
 use Rattle.batch_repr.specs.declared.batch.Batch.{Batch}
-use Rattle.block_record.specs.Framing.{laid}
+use Rattle.block_record.specs.Framing.{Standing, laid}
 use Rattle.record_queue.specs.Queue.{Queue}
 use Rattle.log_writer.specs.declared.phase.Operation.{Operation}
 use Rattle.log_writer.specs.declared.phase.Operation.TheVariants.{Create, Write, Sync}
@@ -16,6 +16,10 @@ queue_part queue from to = part (from - queue.start) (to - queue.start) queue.re
 -- the records of a queue from one number to below another, framed after that place of a block
 abbrev pub frames_from : Queue → ℕ → ℕ → ℕ → ℕ → List ℕ
 frames_from queue log place from to = laid log place (texts (queue_part queue from to))
+
+-- the same, framed where a framer stands
+abbrev pub frames_at : Queue → Standing → ℕ → ℕ → List ℕ
+frames_at queue standing from to = frames_from queue standing.log standing.place from to
 
 -- where the next record begins in its block, once these bytes were sent by a write
 abbrev pub place_with : Operation → List ℕ → ℕ → ℕ

@@ -1,16 +1,17 @@
 //! How a writer starts its next operation.
 
-ghost use Rattle.std.specs.Prelude.{◌≡◌, ◌≢◌, ◌<◌, ◌≤◌, ◌++◌, suc, List, [], ◌∷◌, IsTrue, IfOk, OnOk, OnErr};
-ghost use Rattle.disk_face.specs.View.{Place, Files, writing, files, was_started, Makes, IsFree, AtEachMoment};
-ghost use Rattle.disk_face.specs.Calls.{GoesOn, MayStart, Starts, ChangesFile, after_start};
-ghost use Rattle.batch_repr.specs.declared.batch.Batch.{Batch};
+ghost use Rattle.std.specs.Prelude.{◌≡◌, ◌≢◌, ◌<◌, ◌≤◌, ◌++◌, suc, [], ◌∷◌, IsTrue, IfOk, OnOk, OnErr};
+ghost use Rattle.disk_face.specs.View.{writing, was_started, Makes, IsFree};
+ghost use Rattle.disk_face.specs.Calls.{GoesOn};
 ghost use Rattle.block_record.specs.Framing.{standing_after};
 ghost use Rattle.log_writer.specs.declared.phase.Operation.TheVariants.{Write};
 ghost use Rattle.log_writer.specs.declared.phase.Phase.TheVariants.{Broken};
-ghost use Rattle.log_writer.specs.Fits.{Fits, IsBusy, SameFile, place_of_writer, act_of};
-ghost use Rattle.log_writer.specs.Kept.{SegmentKept};
-ghost use Rattle.log_writer.specs.Steps.{IsQueueOf, HoldsPart, next_operation, BeginsJust, AsksToStart};
-ghost use Rattle.log_writer.specs.Sending.{frames_from, frames_of, sending};
+ghost use Rattle.log_writer.specs.Fits.{IsBusy, place_of_writer, act_of};
+ghost use Rattle.log_writer.specs.Steps.{HoldsPart, next_operation, AsksToStart};
+ghost use Rattle.log_writer.specs.Sending.{frames_at, sending};
+ghost use Rattle.log_writer.specs.Promises.{MayStartOn, StartsOn, SendsUpTo, StartsForGoal};
+ghost use Rattle.log_writer.specs.Promises.{FitsQueue, StaysFittingQueue, QueueKept};
+ghost use Rattle.log_writer.specs.Promises.{SameElsewhere, RestUntouched};
 
 use crate::goal::Goal;
 use crate::phase::{Operation, Phase};
@@ -44,8 +45,8 @@ fn frame_records(
 ) -> Result<(), NoMemory>
     requires held { HoldsPart queue.now from to }
     requires in_block { framer.old.place < 32768 }
-    ensures framed { OnOk result (out.new ≡ out.old ++ frames_from queue.now framer.old.log framer.old.place from to) }
-    ensures moved { OnOk result (framer.new ≡ standing_after framer.old (frames_from queue.now framer.old.log framer.old.place from to)) }
+    ensures framed { OnOk result (out.new ≡ out.old ++ frames_at queue.now framer.old from to) }
+    ensures moved { OnOk result (framer.new ≡ standing_after framer.old (frames_at queue.now framer.old from to)) }
 {
     for number in from..to {
         let Some(record) = queue.get(number) else {
@@ -81,14 +82,14 @@ impl LogWriter {
         len: u64,
     ) -> Result<OpId, NoMemory>
         requires free { IsFree (D.view disk.old) (place_of_writer self.old) }
-        requires may { IsTrue D.tells → MayStart writing (files (D.view disk.old) (place_of_writer self.old)) }
+        requires may { MayStartOn D.tells writing self.old (D.view disk.old) }
         requires held { HoldsPart queue.now self.old.sent len }
         requires in_block { self.old.place < 32768 }
         ensures goes_on { GoesOn (D.view disk.old) (D.view disk.new) }
         ensures stalls { (D.view disk.new).polls_left ≡ (D.view disk.old).polls_left }
         ensures asks { IfOk result (λ id. Makes (was_started id ∷ []) (D.view disk.old) (D.view disk.new)) }
-        ensures starts { IfOk result (λ id. Starts (record { place = place_of_writer self.old; act = writing }) self.old.side id (D.view disk.old) (D.view disk.new)) }
-        ensures file { OnOk result (IsTrue D.tells → ChangesFile (place_of_writer self.old) (λ f g. g ≡ after_start writing (frames_of queue.now self.old len) f) (D.view disk.old) (D.view disk.new)) }
+        ensures starts { IfOk result (StartsOn writing self.old (D.view disk.old) (D.view disk.new)) }
+        ensures file { OnOk result (SendsUpTo D.tells writing queue.now len self.old (D.view disk.old) (D.view disk.new)) }
         ensures sent { OnOk result (self.new ≡ sending Write queue.now len self.old) }
         ensures err { OnErr result ((self.new ≡ self.old) × (D.view disk.new ≡ D.view disk.old)) }
     {
@@ -115,14 +116,14 @@ impl LogWriter {
         len: u64,
     ) -> Result<OpId, NoMemory>
         requires free { IsFree (D.view disk.old) (place_of_writer self.old) }
-        requires may { IsTrue D.tells → MayStart (act_of operation) (files (D.view disk.old) (place_of_writer self.old)) }
+        requires may { MayStartOn D.tells (act_of operation) self.old (D.view disk.old) }
         requires held { HoldsPart queue.now self.old.sent len }
         requires in_block { self.old.place < 32768 }
         ensures goes_on { GoesOn (D.view disk.old) (D.view disk.new) }
         ensures stalls { (D.view disk.new).polls_left ≡ (D.view disk.old).polls_left }
         ensures asks { IfOk result (λ id. Makes (was_started id ∷ []) (D.view disk.old) (D.view disk.new)) }
-        ensures starts { IfOk result (λ id. Starts (record { place = place_of_writer self.old; act = act_of operation }) self.old.side id (D.view disk.old) (D.view disk.new)) }
-        ensures file { OnOk result (IsTrue D.tells → ChangesFile (place_of_writer self.old) (λ f g. g ≡ after_start (act_of operation) (frames_of queue.now self.old len) f) (D.view disk.old) (D.view disk.new)) }
+        ensures starts { IfOk result (StartsOn (act_of operation) self.old (D.view disk.old) (D.view disk.new)) }
+        ensures file { OnOk result (SendsUpTo D.tells (act_of operation) queue.now len self.old (D.view disk.old) (D.view disk.new)) }
         ensures sent { OnOk result (self.new ≡ sending operation queue.now len self.old) }
         ensures err { OnErr result ((self.new ≡ self.old) × (D.view disk.new ≡ D.view disk.old)) }
     {
@@ -148,20 +149,20 @@ impl LogWriter {
         requires not_busy { ¬ IsBusy self.old.phase }
         requires not_broken { self.old.phase ≢ Broken }
         requires held { HoldsPart queue.now self.old.sent goal.now.len }
-        requires fits { (records : List Batch) × Fits D.tells records self.old (D.view disk.old) × IsQueueOf records queue.now }
+        requires fits { FitsQueue D.tells queue.now self.old (D.view disk.old) }
         ensures goes_on { GoesOn (D.view disk.old) (D.view disk.new) }
         ensures stalls { (D.view disk.new).polls_left ≡ (D.view disk.old).polls_left }
         ensures asks { IfOk result (λ started. AsksToStart started (D.view disk.old) (D.view disk.new)) }
-        ensures starts { IfOk result (λ started. BeginsJust (next_operation self.old.phase self.old.written goal.now) goal.now.len started self.old self.new (D.view disk.old) (D.view disk.new)) }
+        ensures starts { IfOk result (StartsForGoal goal.now self.old self.new (D.view disk.old) (D.view disk.new)) }
         ensures err { OnErr result ((self.new ≡ self.old) × (D.view disk.new ≡ D.view disk.old)) }
-        ensures fits { (records : List Batch) → Fits D.tells records self.old (D.view disk.old) → IsQueueOf records queue.now → Fits D.tells records self.new (D.view disk.new) }
+        ensures fits { StaysFittingQueue D.tells queue.now self.old self.new (D.view disk.old) (D.view disk.new) }
 
         // What a crash leaves, at each moment of the call.
-        ensures each_moment { (records : List Batch) → Fits D.tells records self.old (D.view disk.old) → IsQueueOf records queue.now → IsTrue D.tells → AtEachMoment ((D.view disk.old).clock) (D.view disk.new) (SegmentKept (place_of_writer self.old) self.old.log self.old.from self.old.synced records) }
+        ensures each_moment { QueueKept D.tells queue.now self.old (D.view disk.old) (D.view disk.new) }
 
         // Every other file stays as it was, at each moment too.
-        ensures others { (place : Place) → place ≢ place_of_writer self.old → SameFile D.tells place (D.view disk.old) (D.view disk.new) }
-        ensures other_moments { IsTrue D.tells → AtEachMoment ((D.view disk.old).clock) (D.view disk.new) (λ (now : Files). (place : Place) → place ≢ place_of_writer self.old → now place ≡ files (D.view disk.old) place) }
+        ensures others { SameElsewhere D.tells self.old (D.view disk.old) (D.view disk.new) }
+        ensures other_moments { RestUntouched D.tells self.old (D.view disk.old) (D.view disk.new) }
 
         // At most one moment passes.
         ensures one_moment { IsTrue D.tells → (D.view disk.new).clock ≤ suc ((D.view disk.old).clock) }

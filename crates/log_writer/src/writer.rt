@@ -1,11 +1,10 @@
 //! A writer of one segment: what it is, how it is made, and what it tells.
 
-ghost use Rattle.std.specs.Prelude.{◌≡◌, ◌≤◌, ◌%◌, ◌^◌, ◌↔◌, ℕ, Bool, List, length, IfOk, IsTrue, None};
-ghost use Rattle.disk_face.specs.View.{DiskView, segment, files, IsFree};
-ghost use Rattle.batch_repr.specs.declared.batch.Batch.{Batch};
-ghost use Rattle.log_writer.specs.declared.phase.Phase.TheVariants.{New, Broken};
+ghost use Rattle.std.specs.Prelude.{◌≡◌, ◌≤◌, ◌%◌, ◌^◌, ◌↔◌, IfOk, IsTrue};
+ghost use Rattle.log_writer.specs.declared.phase.Phase.TheVariants.{Broken};
 ghost use Rattle.log_writer.specs.declared.polling.TheConstants.{WAITING_MAX};
-ghost use Rattle.log_writer.specs.Fits.{Fits, IsBusy, IsUnsent};
+ghost use Rattle.log_writer.specs.Fits.{IsBusy};
+ghost use Rattle.log_writer.specs.Promises.{unstarted, FitsIfUnsent};
 
 use crate::phase::Phase;
 use block_record::Framer;
@@ -58,8 +57,8 @@ impl LogWriter {
         from: u64,
     ) -> Result<LogWriter, NoMemory>
         requires log { log ≡ name.wal % 2 ^ 32 }
-        ensures made { IfOk result (λ writer. writer ≡ record { side = side; name = name; log = log; from = from; sent = from; written = from; synced = from; place = 0; waiting = 0; phase = New }) }
-        ensures fits { IfOk result (λ writer. (tells : Bool) (records : List Batch) (v : DiskView) → from ≤ length records → IsFree v (segment side name) → (IsTrue tells → IsUnsent (files v (segment side name))) → Fits tells records writer v) }
+        ensures made { IfOk result (λ writer. writer ≡ unstarted side name log from) }
+        ensures fits { IfOk result (FitsIfUnsent side name from) }
     {
         Ok(LogWriter {
             side,
