@@ -9,3 +9,4 @@ pub mod Decoded
 pub mod Gathered
 pub mod OneWal
 pub mod Asking
+pub mod Promises

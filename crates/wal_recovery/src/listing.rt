@@ -1,14 +1,14 @@
 //! The segments of both sides in one row, by their names.
 
 ghost use Rattle.std.specs.Prelude.{◌≡◌, [], ◌∷◌, All, MatchBool, IfOk, IfErr, IsTrue};
-ghost use Rattle.disk_face.specs.View.{files, was_listed, Makes};
-ghost use Rattle.disk_face.specs.Image.{directories};
-ghost use Rattle.disk_face.specs.Listing.{IsBefore, IsAscending, AreSegmentNames, IsListing, IsSegmentName};
+ghost use Rattle.disk_face.specs.View.{files};
+ghost use Rattle.disk_face.specs.Listing.{IsBefore, IsAscending, AreSegmentNames, IsSegmentName};
 ghost use Rattle.disk_face.specs.Calls.{GoesOn, SameDisk};
 ghost use Rattle.wal_recovery.specs.declared.listing.Found.{Found};
-ghost use Rattle.wal_recovery.specs.Answers.{FaultRose, DiskMemoryOr};
-ghost use Rattle.wal_recovery.specs.Rows.{Ascends, IsRowOf, IsNext, Weaves, RefusesTwice, MeetsOrMemory, IsDiskOrMemory};
-ghost use Rattle.wal_recovery.specs.Asking.{AsksOnce, ListsRow, names_given};
+ghost use Rattle.wal_recovery.specs.Answers.{FaultRose};
+ghost use Rattle.wal_recovery.specs.Rows.{Ascends, IsRowOf, IsNext, Weaves, MeetsOrMemory, IsDiskOrMemory};
+ghost use Rattle.wal_recovery.specs.Asking.{AsksOnce, ListsRow};
+ghost use Rattle.wal_recovery.specs.Promises.{ListsSideOnce, IsSideListing, IsTwinRefusal};
 
 use crate::fault::RecoverFault;
 use disk_face::{Disk, DiskErr, Listed, Names, SegName, Side};
@@ -108,12 +108,12 @@ fn in_order(alloc: Global, primary: &[Listed], secondary: &[Listed]) -> Result<R
 fn names_on<D: Disk>(disk: &mut D, side: Side) -> Result<Names, RecoverFault>
     ensures goes_on { GoesOn (D.view disk.old) (D.view disk.new) }
     ensures same { SameDisk (D.view disk.old) (D.view disk.new) }
-    ensures asks { Makes (was_listed side (names_given result) ∷ []) (D.view disk.old) (D.view disk.new) }
+    ensures asks { ListsSideOnce side result (D.view disk.old) (D.view disk.new) }
     ensures fault { IfErr result IsDiskOrMemory }
     ensures rose { IfErr result (FaultRose (D.view disk.old) (D.view disk.new)) }
     ensures ascending { IfOk result IsAscending }
     ensures numbers { IfOk result AreSegmentNames }
-    ensures names { IfOk result (λ names. IsTrue D.tells → IsListing (files (D.view disk.old)) side names) }
+    ensures names { IfOk result (IsSideListing D.tells (D.view disk.old) side) }
 {
     match disk.list(side) {
         Ok(names) => Ok(names),
@@ -132,7 +132,7 @@ pub(crate) fn list_all<D: Disk>(alloc: Global, disk: &mut D) -> Result<Row, Reco
     ensures ascends { IfOk result Ascends }
     ensures numbers { IfOk result (All (λ (f : Found). IsSegmentName f.name)) }
     ensures listed { IfOk result (λ row. IsTrue D.tells → IsRowOf (files (D.view disk.old)) row) }
-    ensures refused { IfErr result (λ fault. IsTrue D.tells → DiskMemoryOr (RefusesTwice (directories (D.view disk.old))) fault) }
+    ensures refused { IfErr result (IsTwinRefusal D.tells (D.view disk.old)) }
 {
     let primary = names_on(disk, Side::Primary)?;
     let secondary = names_on(disk, Side::Secondary)?;

@@ -1,24 +1,22 @@
 //! The segments of WALs as rows of batches, and the rows as one list.
 
-ghost use Rattle.std.specs.Prelude.{◌≡◌, ◌≤◌, ◌∷◌, ◌++◌, [], List, All, IfOk, IfErr, OnOk, IsTrue, map};
-ghost use Rattle.batch_repr.specs.declared.batch.Batch.{Batch};
+ghost use Rattle.std.specs.Prelude.{◌≡◌, ◌≤◌, ◌∷◌, ◌++◌, [], All, IfOk, IfErr, OnOk};
 ghost use Rattle.batch_repr.specs.declared.limits.TheConstants.{NUMBER_FIRST, NUMBER_MAX};
 ghost use Rattle.batch_repr.specs.Batches.{end_after, IsContiguous};
 ghost use Rattle.segment_merge.specs.Rows.{IsNumbered, IsRow};
-ghost use Rattle.segment_merge.specs.declared.segment.SegmentRead.{SegmentRead};
-ghost use Rattle.segment_merge.specs.Lenient.{AreMergedOf};
 ghost use Rattle.disk_face.specs.View.{files};
-ghost use Rattle.disk_face.specs.Image.{directories};
 ghost use Rattle.disk_face.specs.Calls.{GoesOn, SameDisk};
-ghost use Rattle.wal_recovery.specs.Listing.{AreByIndex, AreByNumber};
-ghost use Rattle.wal_recovery.specs.Recovering.{WalMerges, WalsMerge, RecoversLenient};
-ghost use Rattle.wal_recovery.specs.Refused.{IsRefused, IsLenientlyRefused};
-ghost use Rattle.wal_recovery.specs.Reports.{ReportOnAll};
+ghost use Rattle.wal_recovery.specs.declared.reports.Mode.TheVariants.{Strict, Lenient};
+ghost use Rattle.wal_recovery.specs.Listing.{AreByNumber};
 ghost use Rattle.wal_recovery.specs.Answers.{FaultRose, DiskMemoryOr};
-ghost use Rattle.wal_recovery.specs.Rows.{place_listed, bytes_at, stored_in, wal_in, wals_in};
-ghost use Rattle.wal_recovery.specs.Gathered.{IsAsListed, AreAsListed, IsReportOf, IsBadIn, AddsSegment, GathersWal, AreReportsMerged, IsFirstBadOf, IsOwnWal, AreListedWals, named_in_wal, IsNoDisk};
-ghost use Rattle.wal_recovery.specs.OneWal.{AddsReports, IsRefusedWal, IsLenientlyRefusedWal};
+ghost use Rattle.wal_recovery.specs.Rows.{wals_in};
+ghost use Rattle.wal_recovery.specs.Gathered.{IsReportOf, IsBadIn, AddsSegment};
+ghost use Rattle.wal_recovery.specs.Gathered.{AreReportsMerged, IsOwnWal, named_in_wal, IsNoDisk};
 ghost use Rattle.wal_recovery.specs.Asking.{ReadsOnly, found_in};
+ghost use Rattle.wal_recovery.specs.Promises.{IsBadSegment, IsWalByIndex, IsRowOfWal, IsBadWal};
+ghost use Rattle.wal_recovery.specs.Promises.{MergesWal, ReportsOnWal, IsWalRefused, RefusesWalLeniently};
+ghost use Rattle.wal_recovery.specs.Promises.{MergesWals, MergesWalsLeniently};
+ghost use Rattle.wal_recovery.specs.Promises.{ReportsOnWals, AreWalsRefused};
 
 use crate::decoding::{DecodeFault, batches_of, counted_of};
 use crate::fault::RecoverFault;
@@ -74,7 +72,7 @@ fn read_segment<D: Disk>(
     ensures same { SameDisk (D.view disk.old) (D.view disk.new) }
     ensures rose { IfErr result (FaultRose (D.view disk.old) (D.view disk.new)) }
     ensures added { OnOk result (AddsSegment D.tells (files (D.view disk.old)) segment index reports.old reports.new row.old row.new) }
-    ensures bad { IfErr result (λ fault. IsTrue D.tells → IsAsListed (files (D.view disk.old)) segment → DiskMemoryOr (IsBadIn segment (bytes_at (files (D.view disk.old)) (place_listed segment))) fault) }
+    ensures bad { IfErr result (IsBadSegment D.tells (D.view disk.old) segment) }
 {
     let bytes = read_bytes(alloc, disk, segment)?;
     let report = report_of(alloc, segment, bytes)?;
@@ -95,14 +93,14 @@ fn read_wal<D: Disk>(
     wal: &FoundWal,
     reports: &mut SegReports,
 ) -> Result<Segments, RecoverFault>
-    requires { AreByIndex 0 (map (stored_in (files (D.view disk.old))) wal.now.segments.items) }
+    requires { IsWalByIndex (D.view disk.old) wal.now }
     ensures goes_on { GoesOn (D.view disk.old) (D.view disk.new) }
     ensures asks { ReadsOnly wal.now.segments.items (D.view disk.old) (D.view disk.new) }
     ensures same { SameDisk (D.view disk.old) (D.view disk.new) }
     ensures rose { IfErr result (FaultRose (D.view disk.old) (D.view disk.new)) }
     ensures row { IfOk result IsRow }
-    ensures gathered { IfOk result (GathersWal D.tells (files (D.view disk.old)) wal.now.segments.items reports.old reports.new) }
-    ensures bad { IfErr result (λ fault. IsTrue D.tells → AreAsListed (files (D.view disk.old)) wal.now.segments.items → DiskMemoryOr (IsFirstBadOf (files (D.view disk.old)) wal.now.segments.items) fault) }
+    ensures gathered { IfOk result (IsRowOfWal D.tells (D.view disk.old) wal.now reports.old reports.new) }
+    ensures bad { IfErr result (IsBadWal D.tells (D.view disk.old) wal.now) }
 {
     let mut row = Segments::new(alloc);
     for segment in &wal.segments {
@@ -139,7 +137,7 @@ fn merge_wal<D: Disk>(
     wal: &FoundWal,
     reports: &mut SegReports,
 ) -> Result<Batches, RecoverFault>
-    requires order { AreByIndex 0 (map (stored_in (files (D.view disk.old))) wal.now.segments.items) }
+    requires order { IsWalByIndex (D.view disk.old) wal.now }
     requires own { IsOwnWal wal.now }
     ensures goes_on { GoesOn (D.view disk.old) (D.view disk.new) }
     ensures asks { ReadsOnly wal.now.segments.items (D.view disk.old) (D.view disk.new) }
@@ -147,9 +145,9 @@ fn merge_wal<D: Disk>(
     ensures rose { IfErr result (FaultRose (D.view disk.old) (D.view disk.new)) }
     ensures numbered { IfOk result (All IsNumbered) }
     ensures contiguous { IfOk result (IsContiguous next) }
-    ensures merged { IfOk result (λ own. IsTrue D.tells → AreAsListed (files (D.view disk.old)) wal.now.segments.items → WalMerges next (wal_in (files (D.view disk.old)) wal.now) own) }
-    ensures reports { OnOk result (IsTrue D.tells → AreAsListed (files (D.view disk.old)) wal.now.segments.items → AddsReports (wal_in (files (D.view disk.old)) wal.now) reports.old reports.new) }
-    ensures refused { IfErr result (λ fault. IsTrue D.tells → AreAsListed (files (D.view disk.old)) wal.now.segments.items → DiskMemoryOr (IsRefusedWal next (wal_in (files (D.view disk.old)) wal.now)) fault) }
+    ensures merged { IfOk result (MergesWal D.tells (D.view disk.old) wal.now next) }
+    ensures reports { OnOk result (ReportsOnWal D.tells (D.view disk.old) wal.now reports.old reports.new) }
+    ensures refused { IfErr result (IsWalRefused D.tells (D.view disk.old) wal.now next) }
 {
     let row = read_wal(alloc, disk, wal, reports)?;
     match merge(alloc, next, row) {
@@ -210,9 +208,9 @@ pub(crate) fn merge_strict<D: Disk>(
     ensures contiguous { IfOk result (λ merged. IsContiguous NUMBER_FIRST merged.batches) }
     ensures next { IfOk result (λ merged. merged.next ≡ end_after NUMBER_FIRST merged.batches) }
     ensures within { IfOk result (λ merged. merged.next ≤ NUMBER_MAX) }
-    ensures merged { IfOk result (λ merged. IsTrue D.tells → AreListedWals (files (D.view disk.old)) wals.now → WalsMerge NUMBER_FIRST (wals_in (files (D.view disk.old)) wals.now) merged.batches) }
-    ensures reports { OnOk result (IsTrue D.tells → AreListedWals (files (D.view disk.old)) wals.now → ReportOnAll (wals_in (files (D.view disk.old)) wals.now) reports.new) }
-    ensures refused { IfErr result (λ fault. IsTrue D.tells → AreListedWals (files (D.view disk.old)) wals.now → DiskMemoryOr (IsRefused (directories (D.view disk.old))) fault) }
+    ensures merged { IfOk result (MergesWals D.tells (D.view disk.old) wals.now) }
+    ensures reports { OnOk result (ReportsOnWals D.tells (D.view disk.old) wals.now reports.new) }
+    ensures refused { IfErr result (AreWalsRefused D.tells Strict (D.view disk.old) wals.now) }
 {
     let mut batches = Batches::new(alloc);
     let mut next = NUMBER_FIRST;
@@ -232,7 +230,7 @@ fn add_wal<D: Disk>(
     wal: &FoundWal,
     reports: &mut SegReports,
 ) -> Result<LenientMerge, RecoverFault>
-    requires order { AreByIndex 0 (map (stored_in (files (D.view disk.old))) wal.now.segments.items) }
+    requires order { IsWalByIndex (D.view disk.old) wal.now }
     requires own { IsOwnWal wal.now }
     requires so_far { AreReportsMerged reports.old so_far }
     ensures goes_on { GoesOn (D.view disk.old) (D.view disk.new) }
@@ -240,8 +238,8 @@ fn add_wal<D: Disk>(
     ensures same { SameDisk (D.view disk.old) (D.view disk.new) }
     ensures rose { IfErr result (FaultRose (D.view disk.old) (D.view disk.new)) }
     ensures merged { IfOk result (AreReportsMerged reports.new) }
-    ensures reports { OnOk result (IsTrue D.tells → AreAsListed (files (D.view disk.old)) wal.now.segments.items → AddsReports (wal_in (files (D.view disk.old)) wal.now) reports.old reports.new) }
-    ensures refused { (before : List SegmentRead) → AreMergedOf before so_far → IfErr result (λ fault. IsTrue D.tells → AreAsListed (files (D.view disk.old)) wal.now.segments.items → DiskMemoryOr (IsLenientlyRefusedWal before (wal_in (files (D.view disk.old)) wal.now)) fault) }
+    ensures reports { OnOk result (ReportsOnWal D.tells (D.view disk.old) wal.now reports.old reports.new) }
+    ensures refused { RefusesWalLeniently D.tells (D.view disk.old) wal.now so_far result }
 {
     let row = read_wal(alloc, disk, wal, reports)?;
     match so_far.add(row) {
@@ -266,9 +264,9 @@ pub(crate) fn merge_all<D: Disk>(
     ensures rose { IfErr result (FaultRose (D.view disk.old) (D.view disk.new)) }
     ensures next { IfOk result (λ merged. merged.next ≡ end_after NUMBER_FIRST merged.batches) }
     ensures within { IfOk result (λ merged. merged.next ≤ NUMBER_MAX) }
-    ensures merged { IfOk result (λ merged. IsTrue D.tells → AreListedWals (files (D.view disk.old)) wals.now → RecoversLenient (directories (D.view disk.old)) merged.batches) }
-    ensures reports { OnOk result (IsTrue D.tells → AreListedWals (files (D.view disk.old)) wals.now → ReportOnAll (wals_in (files (D.view disk.old)) wals.now) reports.new) }
-    ensures refused { IfErr result (λ fault. IsTrue D.tells → AreListedWals (files (D.view disk.old)) wals.now → DiskMemoryOr (IsLenientlyRefused (directories (D.view disk.old))) fault) }
+    ensures merged { IfOk result (MergesWalsLeniently D.tells (D.view disk.old) wals.now) }
+    ensures reports { OnOk result (ReportsOnWals D.tells (D.view disk.old) wals.now reports.new) }
+    ensures refused { IfErr result (AreWalsRefused D.tells Lenient (D.view disk.old) wals.now) }
 {
     let mut so_far = LenientMerge::new(alloc);
     for wal in wals.as_slice() {

@@ -1,13 +1,11 @@
 //! The bytes of one segment.
 
-ghost use Rattle.std.specs.Prelude.{◌≡◌, ◌≤◌, [], ◌∷◌, length, take, IfOk, IfErr, IsErrOf, IsTrue};
-ghost use Rattle.wal_base.specs.Faults.{Rose};
-ghost use Rattle.disk_face.specs.View.{files};
-ghost use Rattle.disk_face.specs.Listing.{HasLength};
+ghost use Rattle.std.specs.Prelude.{◌≡◌, [], ◌∷◌, length, IfOk, IfErr, IsErrOf};
 ghost use Rattle.disk_face.specs.Calls.{GoesOn, SameDisk};
 ghost use Rattle.wal_recovery.specs.Answers.{FaultRose};
-ghost use Rattle.wal_recovery.specs.Rows.{place_listed, bytes_at, IsDiskOrMemory};
+ghost use Rattle.wal_recovery.specs.Rows.{IsDiskOrMemory};
 ghost use Rattle.wal_recovery.specs.Asking.{ReadsOnly};
+ghost use Rattle.wal_recovery.specs.Promises.{ReadsIfWithin, SideRose, AreBytesOf, FillsBuffer};
 
 use crate::fault::RecoverFault;
 use crate::listing::Found;
@@ -24,10 +22,10 @@ fn buffer_of(alloc: Global, len: usize) -> Result<Vec<u8>, AllocError>
 /// Reads a segment into the buffer by one call, and answers how many bytes it read. An empty one is not read.
 fn fill<D: Disk>(disk: &mut D, segment: Found, buffer: &mut [u8]) -> Result<usize, DiskErr>
     ensures goes_on { GoesOn (D.view disk.old) (D.view disk.new) }
-    ensures asks { length buffer.old ≤ segment.len → ReadsOnly (segment ∷ []) (D.view disk.old) (D.view disk.new) }
+    ensures asks { ReadsIfWithin (length buffer.old) segment (D.view disk.old) (D.view disk.new) }
     ensures same { SameDisk (D.view disk.old) (D.view disk.new) }
-    ensures failed { IsErrOf result DiskErr.Failed → Rose ((D.view disk.old).faults segment.side) ((D.view disk.new).faults segment.side) }
-    ensures bytes { IfOk result (λ n. IsTrue D.tells → HasLength (files (D.view disk.old)) (place_listed segment) (length buffer.old) → take n buffer.new ≡ bytes_at (files (D.view disk.old)) (place_listed segment)) }
+    ensures failed { IsErrOf result DiskErr.Failed → SideRose segment.side (D.view disk.old) (D.view disk.new) }
+    ensures bytes { IfOk result (FillsBuffer D.tells (D.view disk.old) segment buffer.old buffer.new) }
 {
     if buffer.is_empty() {
         return Ok(0);
@@ -46,7 +44,7 @@ pub(crate) fn read_bytes<D: Disk>(
     ensures same { SameDisk (D.view disk.old) (D.view disk.new) }
     ensures fault { IfErr result IsDiskOrMemory }
     ensures rose { IfErr result (FaultRose (D.view disk.old) (D.view disk.new)) }
-    ensures bytes { IfOk result (λ bytes. IsTrue D.tells → HasLength (files (D.view disk.old)) (place_listed segment) segment.len → bytes.items ≡ bytes_at (files (D.view disk.old)) (place_listed segment)) }
+    ensures bytes { IfOk result (λ bytes. AreBytesOf D.tells (D.view disk.old) segment segment.len bytes.items) }
 {
     let Ok(len) = usize::try_from(segment.len) else {
         return Err(RecoverFault::NoMemory);

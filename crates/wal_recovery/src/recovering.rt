@@ -1,22 +1,21 @@
 //! Recovery as a whole.
 
-ghost use Rattle.std.specs.Prelude.{◌≡◌, ◌≤◌, ℕ, List, All, IfOk, IfErr, OnOk, IsTrue};
-ghost use Rattle.batch_repr.specs.declared.batch.Batch.{Batch};
+ghost use Rattle.std.specs.Prelude.{◌≡◌, ◌≤◌, ℕ, All, IfOk, IfErr, OnOk, IsTrue};
 ghost use Rattle.batch_repr.specs.declared.limits.TheConstants.{NUMBER_FIRST, NUMBER_MAX};
-ghost use Rattle.batch_repr.specs.Batches.{end_after, IsContiguous};
-ghost use Rattle.disk_face.specs.View.{files, NothingInFlight, AtEachMoment};
-ghost use Rattle.disk_face.specs.Image.{IsRested, directories};
+ghost use Rattle.batch_repr.specs.Batches.{end_after};
+ghost use Rattle.disk_face.specs.View.{files, NothingInFlight};
 ghost use Rattle.disk_face.specs.Listing.{IsSegmentName};
 ghost use Rattle.disk_face.specs.Calls.{GoesOn, SameDisk};
-ghost use Rattle.wal_recovery.specs.declared.fault.RecoverFault.{RecoverFault};
 ghost use Rattle.wal_recovery.specs.declared.listing.Found.{Found};
 ghost use Rattle.wal_recovery.specs.declared.reports.Mode.TheVariants.{Strict, Lenient};
-ghost use Rattle.wal_recovery.specs.Listing.{IsNextWal};
-ghost use Rattle.wal_recovery.specs.Reports.{AreReports};
-ghost use Rattle.wal_recovery.specs.Resting.{AreSegmentsStable, OnlySynced, AddsNoImage};
-ghost use Rattle.wal_recovery.specs.Answers.{RecoversBy, IsRefusedBy, IsRefusal, FaultRose, DiskMemoryOr, OkOrFailed, ErrOrFailed};
+ghost use Rattle.wal_recovery.specs.Answers.{FaultRose};
 ghost use Rattle.wal_recovery.specs.Rows.{Ascends, IsRowOf, IsNextAfter};
 ghost use Rattle.wal_recovery.specs.Asking.{AsksOnce, ListsBoth, ReadsOnly};
+ghost use Rattle.wal_recovery.specs.Promises.{IsWhatRecovers, FindsWhatRecovers};
+ghost use Rattle.wal_recovery.specs.Promises.{IsReasonToRefuse, AnswersRefusal};
+ghost use Rattle.wal_recovery.specs.Promises.{ReportsOnSegments, HasNextWal, HasNoGap};
+ghost use Rattle.wal_recovery.specs.Promises.{OnlySyncs, OnlySyncsThroughout, AddsNoImageThroughout};
+ghost use Rattle.wal_recovery.specs.Promises.{StabilizesRested, StabilizesIfStrict, UntouchedIfRefused};
 
 use crate::fault::RecoverFault;
 use crate::listing::{Found, list_all};
@@ -52,16 +51,16 @@ fn recover_strict<D: Disk>(
     ensures idle { NothingInFlight (D.view disk.new) }
     ensures asks { ReadsOnly segments.now (D.view disk.old) (D.view disk.new) }
     ensures disk { IfErr result (FaultRose (D.view disk.old) (D.view disk.new)) }
-    ensures recovered { IfOk result (λ found. IsTrue D.tells → RecoversBy Strict (directories (D.view disk.old)) found.batches) }
-    ensures refused { IfErr result (λ fault. IsTrue D.tells → DiskMemoryOr (IsRefusedBy Strict (directories (D.view disk.old))) fault) }
-    ensures reports { IfOk result (λ found. IsTrue D.tells → AreReports (directories (D.view disk.old)) found.segments) }
-    ensures contiguous { IfOk result (λ found. IsContiguous NUMBER_FIRST found.batches) }
+    ensures recovered { IfOk result (IsWhatRecovers D.tells Strict (D.view disk.old)) }
+    ensures refused { IfErr result (IsReasonToRefuse D.tells Strict (D.view disk.old)) }
+    ensures reports { IfOk result (ReportsOnSegments D.tells (D.view disk.old)) }
+    ensures contiguous { IfOk result HasNoGap }
     ensures within { IfOk result (λ found. found.next ≤ NUMBER_MAX) }
     ensures next { IfOk result (λ found. found.next ≡ end_after NUMBER_FIRST found.batches) }
     ensures next_wal { IfOk result (λ found. IsNextAfter segments.now found.next_wal) }
-    ensures each_moment { IsTrue D.tells → AtEachMoment ((D.view disk.old).clock) (D.view disk.new) (OnlySynced (files (D.view disk.old))) }
-    ensures untouched { IfErr result (λ fault. IsRefusal fault → SameDisk (D.view disk.old) (D.view disk.new)) }
-    ensures stable { OnOk result (IsTrue D.tells → IsRested (files (D.view disk.old)) → AreSegmentsStable (files (D.view disk.new))) }
+    ensures each_moment { OnlySyncsThroughout D.tells (D.view disk.old) (D.view disk.new) }
+    ensures untouched { IfErr result (UntouchedIfRefused (D.view disk.old) (D.view disk.new)) }
+    ensures stable { OnOk result (StabilizesRested D.tells (D.view disk.old) (D.view disk.new)) }
 {
     let wals = by_wal(alloc, segments)?;
     let mut reports = SegReports::new(alloc);
@@ -89,9 +88,9 @@ fn recover_lenient<D: Disk>(
     ensures idle { NothingInFlight (D.view disk.new) }
     ensures asks { ReadsOnly segments.now (D.view disk.old) (D.view disk.new) }
     ensures disk { IfErr result (FaultRose (D.view disk.old) (D.view disk.new)) }
-    ensures recovered { IfOk result (λ found. IsTrue D.tells → RecoversBy Lenient (directories (D.view disk.old)) found.batches) }
-    ensures refused { IfErr result (λ fault. IsTrue D.tells → DiskMemoryOr (IsRefusedBy Lenient (directories (D.view disk.old))) fault) }
-    ensures reports { IfOk result (λ found. IsTrue D.tells → AreReports (directories (D.view disk.old)) found.segments) }
+    ensures recovered { IfOk result (IsWhatRecovers D.tells Lenient (D.view disk.old)) }
+    ensures refused { IfErr result (IsReasonToRefuse D.tells Lenient (D.view disk.old)) }
+    ensures reports { IfOk result (ReportsOnSegments D.tells (D.view disk.old)) }
     ensures within { IfOk result (λ found. found.next ≤ NUMBER_MAX) }
     ensures next { IfOk result (λ found. found.next ≡ end_after NUMBER_FIRST found.batches) }
     ensures next_wal { IfOk result (λ found. IsNextAfter segments.now found.next_wal) }
@@ -123,16 +122,16 @@ pub fn recover<D: Disk>(alloc: Global, disk: &mut D, mode: Mode) -> Result<Recov
     ensures disk { IfErr result (FaultRose (D.view disk.old) (D.view disk.new)) }
 
     // The directories, as they read.
-    ensures recovered { IfOk result (λ found. IsTrue D.tells → RecoversBy mode (directories (D.view disk.old)) found.batches) }
-    ensures complete { IsTrue D.tells → (merged : List Batch) → RecoversBy mode (directories (D.view disk.old)) merged → OkOrFailed result merged }
-    ensures refused { IfErr result (λ fault. IsTrue D.tells → DiskMemoryOr (IsRefusedBy mode (directories (D.view disk.old))) fault) }
-    ensures refusal { IsTrue D.tells → (fault : RecoverFault) → IsRefusedBy mode (directories (D.view disk.old)) fault → ErrOrFailed result fault }
-    ensures reports { IfOk result (λ found. IsTrue D.tells → AreReports (directories (D.view disk.old)) found.segments) }
+    ensures recovered { IfOk result (IsWhatRecovers D.tells mode (D.view disk.old)) }
+    ensures complete { FindsWhatRecovers D.tells mode (D.view disk.old) result }
+    ensures refused { IfErr result (IsReasonToRefuse D.tells mode (D.view disk.old)) }
+    ensures refusal { AnswersRefusal D.tells mode (D.view disk.old) result }
+    ensures reports { IfOk result (ReportsOnSegments D.tells (D.view disk.old)) }
     ensures next { IfOk result (λ found. found.next ≡ end_after NUMBER_FIRST found.batches) }
-    ensures next_wal { IfOk result (λ found. IsTrue D.tells → IsNextWal (directories (D.view disk.old)) found.next_wal) }
+    ensures next_wal { IfOk result (HasNextWal D.tells (D.view disk.old)) }
 
     // The numbers, also where the disk does not tell its files.
-    ensures contiguous { mode ≡ Strict → IfOk result (λ found. IsContiguous NUMBER_FIRST found.batches) }
+    ensures contiguous { mode ≡ Strict → IfOk result HasNoGap }
     ensures within { IfOk result (λ found. found.next ≤ NUMBER_MAX) }
 
     // The calls, of any disk: of each segment no more bytes are asked for than it was listed with.
@@ -140,10 +139,10 @@ pub fn recover<D: Disk>(alloc: Global, disk: &mut D, mode: Mode) -> Result<Recov
     ensures lists { OnOk result (ListsBoth (D.view disk.old) (D.view disk.new)) }
 
     // The files: nothing happens to any but a sync, so a crash may leave nothing new; refused directories are not touched, and what was read is stable where no gap is accepted.
-    ensures each_moment { IsTrue D.tells → AtEachMoment ((D.view disk.old).clock) (D.view disk.new) (AddsNoImage (files (D.view disk.old))) }
-    ensures files { IsTrue D.tells → OnlySynced (files (D.view disk.old)) (files (D.view disk.new)) }
-    ensures stable { OnOk result (IsTrue D.tells → mode ≡ Strict → IsRested (files (D.view disk.old)) → AreSegmentsStable (files (D.view disk.new))) }
-    ensures untouched { IfErr result (λ fault. IsRefusal fault → SameDisk (D.view disk.old) (D.view disk.new)) }
+    ensures each_moment { AddsNoImageThroughout D.tells (D.view disk.old) (D.view disk.new) }
+    ensures files { OnlySyncs D.tells (D.view disk.old) (D.view disk.new) }
+    ensures stable { OnOk result (StabilizesIfStrict D.tells mode (D.view disk.old) (D.view disk.new)) }
+    ensures untouched { IfErr result (UntouchedIfRefused (D.view disk.old) (D.view disk.new)) }
     ensures starts_nothing { mode ≡ Lenient → SameDisk (D.view disk.old) (D.view disk.new) }
 {
     let segments = list_all(alloc, disk)?;

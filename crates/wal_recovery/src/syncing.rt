@@ -1,13 +1,14 @@
 //! Syncs of what was read.
 
-ghost use Rattle.std.specs.Prelude.{[], All, IfErr, IsSome, IsTrue, OnOk};
-ghost use Rattle.disk_face.specs.View.{files, syncing, NothingInFlight, AtEachMoment};
-ghost use Rattle.disk_face.specs.Calls.{GoesOn, MayStart};
-ghost use Rattle.wal_recovery.specs.declared.listing.Found.{Found};
+ghost use Rattle.std.specs.Prelude.{[], IfErr, IsSome, OnOk};
+ghost use Rattle.disk_face.specs.View.{NothingInFlight};
+ghost use Rattle.disk_face.specs.Calls.{GoesOn};
 ghost use Rattle.wal_recovery.specs.Answers.{FaultRose};
-ghost use Rattle.wal_recovery.specs.Rows.{place_listed, IsDiskOrMemory};
-ghost use Rattle.wal_recovery.specs.Resting.{IsSynced, OnlySynced, EndsBy};
+ghost use Rattle.wal_recovery.specs.Rows.{IsDiskOrMemory};
+ghost use Rattle.wal_recovery.specs.Resting.{EndsBy};
 ghost use Rattle.wal_recovery.specs.Asking.{ReadsOnly};
+ghost use Rattle.wal_recovery.specs.Promises.{MaySync, MaySyncEach, HasSyncedOne, HasSyncedEach};
+ghost use Rattle.wal_recovery.specs.Promises.{OnlySyncsThroughout};
 
 use crate::fault::RecoverFault;
 use crate::listing::Found;
@@ -33,14 +34,14 @@ fn wait<D: Disk>(disk: &mut D, id: OpId) -> bool
 /// Syncs one segment.
 fn sync<D: Disk>(disk: &mut D, segment: Found) -> Result<(), RecoverFault>
     requires idle { NothingInFlight (D.view disk.old) }
-    requires there { IsTrue D.tells → MayStart syncing (files (D.view disk.old) (place_listed segment)) }
+    requires there { MaySync D.tells (D.view disk.old) segment }
     ensures asks { ReadsOnly [] (D.view disk.old) (D.view disk.new) }
     ensures goes_on { GoesOn (D.view disk.old) (D.view disk.new) }
     ensures idle { NothingInFlight (D.view disk.new) }
     ensures fault { IfErr result IsDiskOrMemory }
     ensures rose { IfErr result (FaultRose (D.view disk.old) (D.view disk.new)) }
-    ensures each_moment { IsTrue D.tells → AtEachMoment ((D.view disk.old).clock) (D.view disk.new) (OnlySynced (files (D.view disk.old))) }
-    ensures synced { OnOk result (IsTrue D.tells → IsSynced (files (D.view disk.new) (place_listed segment))) }
+    ensures each_moment { OnlySyncsThroughout D.tells (D.view disk.old) (D.view disk.new) }
+    ensures synced { OnOk result (HasSyncedOne D.tells (D.view disk.new) segment) }
 {
     let Found { side, name, .. } = segment;
     let id = match disk.start(DiskOp::Sync { side, name }) {
@@ -57,14 +58,14 @@ fn sync<D: Disk>(disk: &mut D, segment: Found) -> Result<(), RecoverFault>
 /// Syncs each segment, one after another.
 pub(crate) fn sync_all<D: Disk>(disk: &mut D, segments: &[Found]) -> Result<(), RecoverFault>
     requires idle { NothingInFlight (D.view disk.old) }
-    requires there { IsTrue D.tells → All (λ (f : Found). MayStart syncing (files (D.view disk.old) (place_listed f))) segments.now }
+    requires there { MaySyncEach D.tells (D.view disk.old) segments.now }
     ensures asks { ReadsOnly [] (D.view disk.old) (D.view disk.new) }
     ensures goes_on { GoesOn (D.view disk.old) (D.view disk.new) }
     ensures idle { NothingInFlight (D.view disk.new) }
     ensures fault { IfErr result IsDiskOrMemory }
     ensures rose { IfErr result (FaultRose (D.view disk.old) (D.view disk.new)) }
-    ensures each_moment { IsTrue D.tells → AtEachMoment ((D.view disk.old).clock) (D.view disk.new) (OnlySynced (files (D.view disk.old))) }
-    ensures synced { OnOk result (IsTrue D.tells → All (λ (f : Found). IsSynced (files (D.view disk.new) (place_listed f))) segments.now) }
+    ensures each_moment { OnlySyncsThroughout D.tells (D.view disk.old) (D.view disk.new) }
+    ensures synced { OnOk result (HasSyncedEach D.tells (D.view disk.new) segments.now) }
 {
     for segment in segments {
         sync(disk, *segment)?;
