@@ -6,3 +6,5 @@ pub mod Ranges
 pub mod Returned
 pub mod Keeping
 pub mod Steps
+pub mod Promises
+pub mod Theorems

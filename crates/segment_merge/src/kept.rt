@@ -1,8 +1,9 @@
 //! The batches that a merge has kept so far.
 
-ghost use Rattle.std.specs.Prelude.{◌≡◌, ◌≤◌, ◌∷◌, ◌++◌, [], Contains, MatchBool, OnErr, OnOk};
+ghost use Rattle.std.specs.Prelude.{◌≡◌, ◌≤◌, ◌∷◌, ◌++◌, [], MatchBool, OnErr, OnOk};
 ghost use Rattle.batch_repr.specs.Batches.{end_of};
 ghost use Rattle.segment_merge.specs.Rows.{IsNumbered};
+ghost use Rattle.segment_merge.specs.Promises.{HasKept};
 
 use batch_repr::{Batch, Batches};
 use std::alloc::Global;
@@ -47,7 +48,7 @@ impl Kept {
 
     /// Whether the batch is kept. It is compared with one other at most, which is found by its first number.
     pub(crate) fn has(&self, batch: &Batch) -> bool
-        ensures { MatchBool result (Contains self.now.batches batch.now) (Contains self.now.batches batch.now → ⊥) }
+        ensures { MatchBool result (HasKept self.now batch.now) (HasKept self.now batch.now → ⊥) }
     {
         let batches = self.batches.as_slice();
         let first = batch.first;

@@ -1,14 +1,14 @@
 //! Merging that accepts gaps, in one pass over the batches of a row.
 
-ghost use Rattle.std.specs.Prelude.{◌≡◌, ◌++◌, [], ℕ, List, All, IfErr, IfOk};
-ghost use Rattle.batch_repr.specs.declared.batch.Batch.{Batch};
-ghost use Rattle.segment_merge.specs.declared.segment.SegmentRead.{SegmentRead};
-ghost use Rattle.segment_merge.specs.declared.fault.MergeFault.TheVariants as faults;
+ghost use Rattle.std.specs.Prelude.{◌≡◌, [], All, IfErr, IfOk};
 ghost use Rattle.segment_merge.specs.Rows.{IsNumbered, IsNumberedSegment, IsRow, batches_in};
-ghost use Rattle.segment_merge.specs.Merging.{all_of};
-ghost use Rattle.segment_merge.specs.Lenient.{MergedLenient, AreMergedOf, IsLenientConflict, IsRowLenientlyRefused};
-ghost use Rattle.segment_merge.specs.Returned.{MergedOrMemory, RefusedOrMemory, MemoryOrRefusal, IsNoGap};
-ghost use Rattle.segment_merge.specs.Steps.{KeepsLenient, LenientSteps, LenientAnswers, RowAnswers};
+ghost use Rattle.segment_merge.specs.Lenient.{MergedLenient, IsRowLenientlyRefused};
+ghost use Rattle.segment_merge.specs.Returned.{MemoryOrRefusal, IsNoGap};
+ghost use Rattle.segment_merge.specs.Steps.{LenientSteps};
+ghost use Rattle.segment_merge.specs.Promises.{MergesSegmentLeniently, MergesRowLeniently};
+ghost use Rattle.segment_merge.specs.Promises.{AddsRow, FindsMergedWithRow};
+ghost use Rattle.segment_merge.specs.Promises.{RefusesWithRow, RefusesConflictWithRow};
+ghost use Rattle.segment_merge.specs.Promises.{FindsLenientlyMerged, RefusesLenientConflict};
 
 use crate::fault::MergeFault;
 use crate::kept::Kept;
@@ -37,7 +37,7 @@ fn step(kept: &mut Kept, index: u32, batch: Batch) -> Result<(), MergeFault>
 /// Merges one more segment into what was kept of those before it.
 fn merge_segment(kept: &mut Kept, segment: SegmentRead) -> Result<(), MergeFault>
     requires { IsNumberedSegment segment }
-    ensures { (before : List SegmentRead) → KeepsLenient (all_of (batches_in before)) kept.old → LenientAnswers before segment kept.new result }
+    ensures { MergesSegmentLeniently segment kept.old kept.new result }
 {
     let index = segment.index;
     for batch in segment.batches.into_vec() {
@@ -49,7 +49,7 @@ fn merge_segment(kept: &mut Kept, segment: SegmentRead) -> Result<(), MergeFault
 /// Merges more segments into what was kept of those before them.
 fn merge_row(kept: &mut Kept, row: Segments) -> Result<(), MergeFault>
     requires { All IsNumberedSegment row }
-    ensures { (before : List SegmentRead) → KeepsLenient (all_of (batches_in before)) kept.old → RowAnswers before row kept.new result }
+    ensures { MergesRowLeniently row kept.old kept.new result }
 {
     for segment in row.into_vec() {
         merge_segment(kept, segment)?;
@@ -89,10 +89,10 @@ impl LenientMerge {
     /// the answer is that of `merge_lenient` for these and the new ones as one row.
     pub fn add(self, row: Segments) -> Result<LenientMerge, MergeFault>
         requires { All IsNumberedSegment row }
-        ensures found { (before : List SegmentRead) → AreMergedOf before self → IfOk result (AreMergedOf (before ++ row)) }
-        ensures merged { (before : List SegmentRead) (merged : List Batch) → AreMergedOf before self → AreMergedOf (before ++ row) merged → MergedOrMemory result merged }
-        ensures refused { (before : List SegmentRead) → AreMergedOf before self → IfErr result (MemoryOrRefusal (IsRowLenientlyRefused (before ++ row))) }
-        ensures conflict { (before : List SegmentRead) (index number : ℕ) → AreMergedOf before self → IsLenientConflict (before ++ row) index number → RefusedOrMemory result (faults.Conflict index number) }
+        ensures found { AddsRow self row result }
+        ensures merged { FindsMergedWithRow self row result }
+        ensures refused { RefusesWithRow self row result }
+        ensures conflict { RefusesConflictWithRow self row result }
     {
         let mut kept = self.kept;
         merge_row(&mut kept, row)?;
@@ -115,9 +115,9 @@ impl LenientMerge {
 pub fn merge_lenient(alloc: Global, segs: Segments) -> Result<Batches, MergeFault>
     requires { IsRow segs }
     ensures found { IfOk result (λ merged. MergedLenient (batches_in segs) merged) }
-    ensures merged { (merged : List Batch) → MergedLenient (batches_in segs) merged → MergedOrMemory result merged }
+    ensures merged { FindsLenientlyMerged segs result }
     ensures refused { IfErr result (MemoryOrRefusal (IsRowLenientlyRefused segs)) }
-    ensures conflict { (index number : ℕ) → IsLenientConflict segs index number → RefusedOrMemory result (faults.Conflict index number) }
+    ensures conflict { RefusesLenientConflict segs result }
     ensures no_gap { IfErr result IsNoGap }
 {
     let merge = LenientMerge::new(alloc).add(segs)?;

@@ -1,14 +1,12 @@
 //! Merging without gaps, in one pass over the batches of a row.
 
-ghost use Rattle.std.specs.Prelude.{ℕ, List, IfErr, IfOk};
-ghost use Rattle.batch_repr.specs.declared.batch.Batch.{Batch};
-ghost use Rattle.segment_merge.specs.declared.segment.SegmentRead.{SegmentRead};
-ghost use Rattle.segment_merge.specs.declared.fault.MergeFault.TheVariants as faults;
+ghost use Rattle.std.specs.Prelude.{IfErr, IfOk};
 ghost use Rattle.segment_merge.specs.Rows.{IsNumbered, IsNumberedSegment, IsRow, batches_in};
 ghost use Rattle.segment_merge.specs.Merging.{Merged};
-ghost use Rattle.segment_merge.specs.Refusals.{IsGap, IsConflict, IsRowRefused};
-ghost use Rattle.segment_merge.specs.Returned.{MergedOrMemory, RefusedOrMemory, MemoryOrRefusal};
-ghost use Rattle.segment_merge.specs.Steps.{KeepsMerged, Steps, SegmentAnswers};
+ghost use Rattle.segment_merge.specs.Refusals.{IsRowRefused};
+ghost use Rattle.segment_merge.specs.Returned.{MemoryOrRefusal};
+ghost use Rattle.segment_merge.specs.Steps.{Steps};
+ghost use Rattle.segment_merge.specs.Promises.{MergesSegment, FindsMerged, RefusesGap, RefusesConflict};
 
 use crate::fault::MergeFault;
 use crate::kept::Kept;
@@ -52,7 +50,7 @@ fn step(
 /// Merges one more segment. What was kept so far is the merged list of those before it.
 fn merge_segment(kept: &mut Kept, segment: SegmentRead) -> Result<(), MergeFault>
     requires { IsNumberedSegment segment }
-    ensures { (first : ℕ) (before : List SegmentRead) → KeepsMerged first (batches_in before) kept.old → SegmentAnswers first before segment kept.new result }
+    ensures { MergesSegment segment kept.old kept.new result }
 {
     let index = segment.index;
     let mut expected = kept.next();
@@ -74,10 +72,10 @@ fn merge_segment(kept: &mut Kept, segment: SegmentRead) -> Result<(), MergeFault
 pub fn merge(alloc: Global, first: u64, segs: Segments) -> Result<Batches, MergeFault>
     requires { IsRow segs }
     ensures found { IfOk result (λ merged. Merged first (batches_in segs) merged) }
-    ensures merged { (merged : List Batch) → Merged first (batches_in segs) merged → MergedOrMemory result merged }
+    ensures merged { FindsMerged first segs result }
     ensures refused { IfErr result (MemoryOrRefusal (IsRowRefused first segs)) }
-    ensures gap { (index expected found : ℕ) → IsGap first segs index expected found → RefusedOrMemory result (faults.Gap index expected found) }
-    ensures conflict { (index number : ℕ) → IsConflict first segs index number → RefusedOrMemory result (faults.Conflict index number) }
+    ensures gap { RefusesGap first segs result }
+    ensures conflict { RefusesConflict first segs result }
 {
     let mut kept = Kept::new(alloc, first);
     for segment in segs.into_vec() {
