@@ -4,6 +4,7 @@ ghost use Rattle.crc_chunk.specs.declared.chunk.TheConstants.{BLOCK, HEADER};
 ghost use Rattle.std.specs.Prelude.{◌≡◌, ℕ, ◌+◌, ◌≤◌, ◌<◌, List, ◌++◌, length, take, replicate, OnOk, OnErr};
 ghost use Rattle.crc_chunk.specs.Chunk.{chunk};
 ghost use Rattle.block_record.specs.Framing.{fragments, later_fragments, chunks, later_chunks, padding, framed, standing_after};
+ghost use Rattle.block_record.specs.Promises.{framed_by, FramesTo};
 
 use crc_chunk::{BLOCK, ChunkKind, HEADER, header_of};
 use std::marker::Model;
@@ -114,7 +115,7 @@ impl Framer {
     /// The record has at most `RECORD_MAX` bytes.
     pub fn framed_len(&self, record_len: usize) -> usize
         requires { record_len ≤ RECORD_MAX }
-        ensures { (bytes : List ℕ) → length bytes ≡ record_len → result ≡ length (framed self.now.log self.now.place bytes) }
+        ensures { FramesTo self.now record_len result }
     {
         let later = record_len.saturating_sub(ROOM - self.place);
         let chunks = 1 + later.div_ceil(ROOM);
@@ -127,8 +128,8 @@ impl Framer {
     /// The record has at most `RECORD_MAX` bytes. Where memory runs out, both stay as they were.
     pub fn frame(&mut self, bytes: &[u8], out: &mut Buf) -> Result<(), NoMemory>
         requires { length bytes.now ≤ RECORD_MAX }
-        ensures framed { OnOk result (out.new ≡ out.old ++ framed self.old.log self.old.place bytes.now) }
-        ensures moved { OnOk result (self.new ≡ standing_after self.old (framed self.old.log self.old.place bytes.now)) }
+        ensures framed { OnOk result (out.new ≡ out.old ++ framed_by self.old bytes.now) }
+        ensures moved { OnOk result (self.new ≡ standing_after self.old (framed_by self.old bytes.now)) }
         ensures err { OnErr result ((self.new ≡ self.old) × (out.new ≡ out.old)) }
     {
         let kept = out.as_slice().len();

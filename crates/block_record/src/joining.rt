@@ -3,8 +3,9 @@
 ghost use Rattle.std.specs.Prelude.{◌≡◌, ◌+◌, ◌-◌, ◌≤◌, ◌++◌, length, map, IfOk, OnOk};
 ghost use Rattle.std.specs.List.{All};
 ghost use Rattle.crc_chunk.specs.declared.chunk.ChunkKind.TheVariants.{First, Middle};
-ghost use Rattle.block_record.specs.ReadOut.{nothing, ended, after_link};
-ghost use Rattle.block_record.specs.Joined.{rec_in, rec_after, AreApart, StandsBetween, SameAfter, link_in};
+ghost use Rattle.block_record.specs.ReadOut.{nothing};
+ghost use Rattle.block_record.specs.Promises.{spelled_with, spelled_to};
+ghost use Rattle.block_record.specs.Joined.{rec_in, rec_after, AreApart, StandsBetween, SameAfter};
 
 use crate::records::{ReadOut, Rec, Records};
 use crc_chunk::{ChunkKind, HEADER};
@@ -141,7 +142,7 @@ impl Joining {
         requires behind { self.old.reach ≤ at }
         ensures bytes { self.new.bytes ≡ self.old.bytes }
         ensures reach { self.new.reach ≡ end }
-        ensures spelled { self.new.spelled ≡ after_link at self.old.spelled (link_in self.old.bytes First at end) }
+        ensures spelled { self.new.spelled ≡ spelled_with First at end self.old }
     {
         let from = at + HEADER;
         self.rest = Place { at, from, to: end };
@@ -154,7 +155,7 @@ impl Joining {
         requires behind { self.old.reach ≤ at }
         ensures bytes { SameAfter end self.old.bytes self.new.bytes }
         ensures reach { self.new.reach ≤ end }
-        ensures spelled { self.new.spelled ≡ after_link at self.old.spelled (link_in self.old.bytes Middle at end) }
+        ensures spelled { self.new.spelled ≡ spelled_with Middle at end self.old }
     {
         let from = at + HEADER;
         self.bytes.copy_within(from..end, self.rest.to);
@@ -167,7 +168,7 @@ impl Joining {
         requires behind { self.old.reach ≤ end }
         ensures bytes { OnOk result (self.new.bytes ≡ self.old.bytes) }
         ensures reach { OnOk result (self.new.reach ≡ end) }
-        ensures spelled { OnOk result (self.new.spelled ≡ ended self.old.spelled end self.old.spelled.rest) }
+        ensures spelled { OnOk result (self.new.spelled ≡ spelled_to end self.old) }
     {
         self.whole.push(self.rest)?;
         self.ends_at = end;
@@ -186,7 +187,7 @@ impl Joining {
         requires behind { self.old.reach ≤ at }
         ensures bytes { OnOk result (SameAfter end self.old.bytes self.new.bytes) }
         ensures reach { OnOk result (self.new.reach ≤ end) }
-        ensures spelled { OnOk result (self.new.spelled ≡ after_link at self.old.spelled (link_in self.old.bytes kind at end)) }
+        ensures spelled { OnOk result (self.new.spelled ≡ spelled_with kind at end self.old) }
     {
         match kind {
             ChunkKind::Full => {

@@ -3,10 +3,8 @@
 ghost use Rattle.crc_chunk.specs.declared.chunk.TheConstants.{HEADER};
 ghost use Rattle.std.specs.Prelude.{◌≡◌, ◌↔◌, ℕ, ◌+◌, ◌<◌, ◌≤◌, ◌^◌, List, length, IsTrue, IfOk, IfSome, IfNone, not, ◌||◌, ◌==◌};
 ghost use Rattle.std.specs.List.{list_any};
-ghost use Rattle.crc_chunk.specs.declared.chunk.ChunkKind.{ChunkKind};
-ghost use Rattle.crc_chunk.specs.Chunk.{ChunkAt};
-ghost use Rattle.block_record.specs.ReadOut.{MayFollow, leaves_open, next_place, ReadsOut};
-ghost use Rattle.block_record.specs.Joined.{fragment};
+ghost use Rattle.block_record.specs.ReadOut.{MayFollow, leaves_open, next_place, ReadsOut, NoChunkAt};
+ghost use Rattle.block_record.specs.Promises.{IsChunkFound, IsFoundAt, NoChunkFollows};
 
 use crate::joining::Joining;
 use crate::records::ReadOut;
@@ -24,9 +22,9 @@ struct Found {
 
 /// The chunk of this log number that stands at a place of a segment, if one does.
 fn chunk_in(bytes: &[u8], at: usize, log: u32) -> Option<Found>
-    ensures found { IfSome result (λ found. ChunkAt bytes.now at log found.kind (fragment bytes.now at found.end)) }
-    ensures place { IfSome result (λ found. (found.at ≡ at) × (at + HEADER ≤ found.end) × (found.end ≤ length bytes.now)) }
-    ensures none { IfNone result ((kind : ChunkKind) (payload : List ℕ) → ¬ ChunkAt bytes.now at log kind payload) }
+    ensures found { IfSome result (IsChunkFound bytes.now log at) }
+    ensures place { IfSome result (IsFoundAt bytes.now at) }
+    ensures none { IfNone result (NoChunkAt bytes.now at log) }
 {
     let place = at % BLOCK;
     let rest = &bytes[(at - place).min(bytes.len())..];
@@ -74,9 +72,9 @@ fn opens(kind: ChunkKind) -> bool
 fn following(bytes: &[u8], at: usize, log: u32, is_open: bool) -> Option<Found>
     requires { at < 2 ^ 63 }
     ensures follows { IfSome result (λ found. MayFollow is_open found.kind) }
-    ensures found { IfSome result (λ found. ChunkAt bytes.now (next_place at) log found.kind (fragment bytes.now (next_place at) found.end)) }
-    ensures place { IfSome result (λ found. (found.at ≡ next_place at) × (found.at + HEADER ≤ found.end) × (found.end ≤ length bytes.now)) }
-    ensures none { IfNone result ((kind : ChunkKind) (payload : List ℕ) → MayFollow is_open kind → ¬ ChunkAt bytes.now (next_place at) log kind payload) }
+    ensures found { IfSome result (IsChunkFound bytes.now log (next_place at)) }
+    ensures place { IfSome result (IsFoundAt bytes.now (next_place at)) }
+    ensures none { IfNone result (NoChunkFollows bytes.now log at is_open) }
 {
     let found = chunk_in(bytes, place_of_next(at), log)?;
     if may_follow(is_open, found.kind) {
