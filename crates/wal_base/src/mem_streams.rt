@@ -1,8 +1,10 @@
 //! Streams in memory, whose calls can be made to fail. They tell everything.
 
 ghost use Rattle.std.specs.Prelude.{◌≡◌, ◌<◌, ◌≤◌, ◌↔◌, ℕ, [], ◌++◌, length, take, drop, min, Some, None, IfSome, IfOk, OnOk, OnErr, IsErr, IsErrOf};
-ghost use Rattle.wal_base.specs.Faults.{HasCause, StaysUnless, counted};
-ghost use Rattle.wal_base.specs.Told.{told_front, told_back};
+ghost use Rattle.wal_base.specs.Faults.{HasCause, StaysUnless};
+ghost use Rattle.wal_base.specs.Told.{HandsOut, EndsAtNone, Took};
+ghost use Rattle.wal_base.specs.Memory.{failed_take, handed_out};
+ghost use Rattle.wal_base.specs.Memory.{empty_sink, failed_put, taken_in, short_once};
 
 use crate::NoMemory;
 use crate::bytes::{Blob, Buf};
@@ -72,19 +74,19 @@ impl Source for MemSource {
 
     fn take(&mut self, buf: &mut [u8]) -> Result<usize, ReadFault>
         ensures within { IfOk result (λ n. n ≤ length buf.old) }
-        ensures taken { IfOk result (λ n. Some self.old.left ≡ told_front (take n buf.new) (Some self.new.left)) }
-        ensures end { IfOk result (λ n. n ≡ 0 → 0 < length buf.old → IfSome (Some self.old.left) (λ bytes. bytes ≡ [])) }
+        ensures taken { IfOk result (HandsOut (Some self.old.left) (Some self.new.left) buf.new) }
+        ensures end { IfOk result (EndsAtNone (Some self.old.left) buf.old) }
         ensures err { OnErr result (Some self.new.left ≡ Some self.old.left) }
         ensures cause { HasCause (IsErr result) self.old.faults self.new.faults }
         ensures steady { StaysUnless (IsErr result) self.old.faults self.new.faults }
 
         // It fails exactly at the call that was to fail, and once.
         ensures fails { IsErr result ↔ (self.old.failing ≡ Some self.old.calls) }
-        ensures failed { OnErr result (self.new ≡ record self.old { faults = counted self.old.faults; calls = counted self.old.calls; failing = None }) }
+        ensures failed { OnErr result (self.new ≡ failed_take self.old) }
 
         // Else it hands out as much as there is and the buffer has room for.
         ensures count { IfOk result (λ n. n ≡ min (length self.old.left) (length buf.old)) }
-        ensures handed_out { IfOk result (λ n. self.new ≡ record self.old { left = drop n self.old.left; calls = counted self.old.calls }) }
+        ensures handed_out { IfOk result (λ n. self.new ≡ handed_out self.old n) }
     {
         let call = self.calls;
         self.calls = call.saturating_add(1);
@@ -120,7 +122,7 @@ impl Model for MemSink {
 impl MemSink {
     /// Holds nothing. No call is to fail yet.
     pub fn new(alloc: Global) -> Result<MemSink, NoMemory>
-        ensures { IfOk result (λ sink. sink ≡ record { written = []; faults = 0; shortages = 0; calls = 0; failing = None }) }
+        ensures { IfOk result (λ sink. sink ≡ empty_sink) }
     {
         let written = Buf::new(alloc)?;
         Ok(MemSink {
@@ -159,7 +161,7 @@ impl Sink for MemSink {
     fn put(&mut self, bytes: &[u8]) -> Result<usize, PutErr>
         ensures within { IfOk result (λ n. n ≤ length bytes.now) }
         ensures some { IfOk result (λ n. 0 < length bytes.now → 0 < n) }
-        ensures taken { IfOk result (λ n. Some self.new.written ≡ told_back (Some self.old.written) (take n bytes.now)) }
+        ensures taken { IfOk result (Took (Some self.old.written) (Some self.new.written) bytes.now) }
         ensures err { OnErr result (Some self.new.written ≡ Some self.old.written) }
         ensures cause { HasCause (IsErrOf result PutErr.Failed) self.old.faults self.new.faults }
         ensures steady { StaysUnless (IsErrOf result PutErr.Failed) self.old.faults self.new.faults }
@@ -168,12 +170,12 @@ impl Sink for MemSink {
 
         // It fails exactly at the call that was to fail, and once.
         ensures fails { IsErrOf result PutErr.Failed ↔ (self.old.failing ≡ Some self.old.calls) }
-        ensures failed { IsErrOf result PutErr.Failed → self.new ≡ record self.old { faults = counted self.old.faults; calls = counted self.old.calls; failing = None } }
+        ensures failed { IsErrOf result PutErr.Failed → self.new ≡ failed_put self.old }
 
         // Else it takes the whole piece, unless memory ran out.
         ensures whole { IfOk result (λ n. n ≡ length bytes.now) }
-        ensures took { OnOk result (self.new ≡ record self.old { written = self.old.written ++ bytes.now; calls = counted self.old.calls }) }
-        ensures no_memory { IsErrOf result PutErr.NoMemory → self.new ≡ record self.old { shortages = counted self.old.shortages; calls = counted self.old.calls } }
+        ensures took { OnOk result (self.new ≡ taken_in self.old bytes.now) }
+        ensures no_memory { IsErrOf result PutErr.NoMemory → self.new ≡ short_once self.old }
     {
         let call = self.calls;
         self.calls = call.saturating_add(1);

@@ -2,7 +2,7 @@
 
 ghost use Rattle.std.specs.Prelude.{◌≡◌, ◌<◌, ◌≤◌, ℕ, List, [], length, take, IfSome, Option, IfOk, OnErr, IsErr, IsErrOf};
 ghost use Rattle.wal_base.specs.Faults.{HasCause, StaysUnless};
-ghost use Rattle.wal_base.specs.Told.{told_front, told_back};
+ghost use Rattle.wal_base.specs.Told.{HandsOut, EndsAtNone, Took};
 
 use thiserror::Error;
 
@@ -33,8 +33,8 @@ pub trait Source {
     /// Puts bytes at the front of the buffer, and answers how many. None into a buffer with room is the end.
     fn take(&mut self, buf: &mut [u8]) -> Result<usize, ReadFault>
         ensures within { IfOk result (λ n. n ≤ length buf.old) }
-        ensures taken { IfOk result (λ n. left self.old ≡ told_front (take n buf.new) (left self.new)) }
-        ensures end { IfOk result (λ n. n ≡ 0 → 0 < length buf.old → IfSome (left self.old) (λ bytes. bytes ≡ [])) }
+        ensures taken { IfOk result (HandsOut (left self.old) (left self.new) buf.new) }
+        ensures end { IfOk result (EndsAtNone (left self.old) buf.old) }
         ensures err { OnErr result (left self.new ≡ left self.old) }
         ensures cause { HasCause (IsErr result) (faults self.old) (faults self.new) }
         ensures steady { StaysUnless (IsErr result) (faults self.old) (faults self.new) };
@@ -55,7 +55,7 @@ pub trait Sink {
     fn put(&mut self, bytes: &[u8]) -> Result<usize, PutErr>
         ensures within { IfOk result (λ n. n ≤ length bytes.now) }
         ensures some { IfOk result (λ n. 0 < length bytes.now → 0 < n) }
-        ensures taken { IfOk result (λ n. written self.new ≡ told_back (written self.old) (take n bytes.now)) }
+        ensures taken { IfOk result (Took (written self.old) (written self.new) bytes.now) }
         ensures err { OnErr result (written self.new ≡ written self.old) }
         ensures cause { HasCause (IsErrOf result PutErr.Failed) (faults self.old) (faults self.new) }
         ensures steady { StaysUnless (IsErrOf result PutErr.Failed) (faults self.old) (faults self.new) }
