@@ -10,3 +10,4 @@ pub mod Lasting
 pub mod Moves
 pub mod Inside
 pub mod Closing
+pub mod Theorems

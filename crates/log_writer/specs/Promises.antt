@@ -76,8 +76,8 @@ RestUntouched tells w before after =
 -- ---- a start
 
 -- The operation with this act may be started on the writer's file.
-abbrev pub MayStartOn : Bool → Act → Writer → DiskView → Type 0
-MayStartOn tells act w v = IsTrue tells → MayStart act (files v (place_of_writer w))
+abbrev pub MayStartOwn : Bool → Act → Writer → DiskView → Type 0
+MayStartOwn tells act w v = IsTrue tells → MayStart act (files v (place_of_writer w))
 
 -- One operation more is in flight, with this act on the writer's file.
 abbrev pub StartsOn : Act → Writer → DiskView → DiskView → OpId → Type 0

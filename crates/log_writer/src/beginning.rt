@@ -9,7 +9,7 @@ ghost use Rattle.log_writer.specs.declared.phase.Phase.TheVariants.{Broken};
 ghost use Rattle.log_writer.specs.Fits.{IsBusy, place_of_writer, act_of};
 ghost use Rattle.log_writer.specs.Steps.{HoldsPart, next_operation, AsksToStart};
 ghost use Rattle.log_writer.specs.Sending.{frames_at, sending};
-ghost use Rattle.log_writer.specs.Promises.{MayStartOn, StartsOn, SendsUpTo, StartsForGoal};
+ghost use Rattle.log_writer.specs.Promises.{MayStartOwn, StartsOn, SendsUpTo, StartsForGoal};
 ghost use Rattle.log_writer.specs.Promises.{FitsQueue, StaysFittingQueue, QueueKept};
 ghost use Rattle.log_writer.specs.Promises.{SameElsewhere, RestUntouched};
 
@@ -82,7 +82,7 @@ impl LogWriter {
         len: u64,
     ) -> Result<OpId, NoMemory>
         requires free { IsFree (D.view disk.old) (place_of_writer self.old) }
-        requires may { MayStartOn D.tells writing self.old (D.view disk.old) }
+        requires may { MayStartOwn D.tells writing self.old (D.view disk.old) }
         requires held { HoldsPart queue.now self.old.sent len }
         requires in_block { self.old.place < 32768 }
         ensures goes_on { GoesOn (D.view disk.old) (D.view disk.new) }
@@ -116,7 +116,7 @@ impl LogWriter {
         len: u64,
     ) -> Result<OpId, NoMemory>
         requires free { IsFree (D.view disk.old) (place_of_writer self.old) }
-        requires may { MayStartOn D.tells (act_of operation) self.old (D.view disk.old) }
+        requires may { MayStartOwn D.tells (act_of operation) self.old (D.view disk.old) }
         requires held { HoldsPart queue.now self.old.sent len }
         requires in_block { self.old.place < 32768 }
         ensures goes_on { GoesOn (D.view disk.old) (D.view disk.new) }

@@ -19,7 +19,7 @@ use Rattle.wal_top.specs.declared.status.Status.{Status}
 use Rattle.wal_top.specs.declared.status.Status.TheVariants.{Done, Disk, Limit}
 use Rattle.wal_top.specs.Printing.{commit_line, limit_line, dead_line, get_line, end_line}
 use Rattle.wal_top.specs.Replay.{IsReplayText, AllCommitted, LacksBatch}
-use Rattle.wal_top.specs.Journaling.{Runs, HasEnded}
+use Rattle.wal_top.specs.Journaling.{Runs, HasEnded, RunsOn, RunsStill}
 
 -- the batch of these entries, numbered after the others
 abbrev pub numbered_behind : List Batch → List Entry → Batch
@@ -143,3 +143,26 @@ pub record ReplaysOver (base : List Batch) (acts : List Act) (wal : ℕ) (tells 
   pub answers : IsReplayText base acts batches end text
   pub short : end.died ≡ false → IsShort limited acts batches
   pub ended : HasEnded tells old wal (end_after NUMBER_FIRST base) batches end new
+
+-- ---- what a course promises
+
+-- The run goes on, and some batches may have come after the others.
+abbrev pub GoesOnRunning : Bool → Stage → Stage → Type 0
+GoesOnRunning tells old new = RunsOn tells old.journal old.view new.journal new.view
+
+-- The run goes on with the same batches.
+abbrev pub StaysRunning : Bool → Stage → Stage → Type 0
+StaysRunning tells old new = RunsStill tells old.journal old.view new.journal new.view
+
+-- The run ended, and this is its status.
+abbrev pub EndsAnswering : Bool → Stage → Stage → Status → Type 0
+EndsAnswering tells old new status = (end : JournalEnd) × EndsRun tells end old new × (status ≡ status_after end.died new.limited)
+
+-- All acts were done, the run ended, and this is its status.
+abbrev pub DoesAllWith : Bool → List Act → Stage → Stage → Status → Type 0
+DoesAllWith tells acts old new status = (end : JournalEnd) × DoesRun tells acts end old new × (status ≡ status_after end.died new.limited)
+
+-- From where the run began, it is a replay of these acts.
+abbrev pub ReplaysFromStart : Bool → List Act → Stage → Stage → Status → Type 0
+ReplaysFromStart tells acts old new status =
+    (base : List Batch) (start : DiskView) (wal : ℕ) → IsBegun tells base start wal old → ReplaysOver base acts wal tells start new.view status new.text

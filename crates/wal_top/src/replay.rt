@@ -10,9 +10,10 @@ ghost use Rattle.failover_writer.specs.declared.fault.JournalFault.TheVariants a
 ghost use Rattle.failover_writer.specs.Ranges.{AreUnsent};
 ghost use Rattle.disk_face.specs.declared.names.TheConstants.{WAL_MAX};
 ghost use Rattle.wal_top.specs.declared.replies.JournalEnd.{JournalEnd};
-ghost use Rattle.wal_top.specs.Journaling.{RunsOn, RunsStill, OthersSame};
+ghost use Rattle.wal_top.specs.Journaling.{OthersSame};
 ghost use Rattle.wal_top.specs.Doing as doing;
-ghost use Rattle.wal_top.specs.Doing.{IsBegun, stage_of, Commits, DoesCommit, DoesGet, DoesAct, Closes, EndsRun, DoesRun, ReplaysOver};
+ghost use Rattle.wal_top.specs.Doing.{IsBegun, stage_of, Commits, DoesCommit, DoesGet, DoesAct, Closes, ReplaysOver};
+ghost use Rattle.wal_top.specs.Doing.{GoesOnRunning, StaysRunning, EndsAnswering, DoesAllWith, ReplaysFromStart};
 
 use crate::history::History;
 use crate::replies::{JournalEnd, put_commit, put_dead, put_end, put_get, put_limit};
@@ -98,7 +99,7 @@ impl<D: Disk> Course<D> {
 
     /// Numbers a batch and hands it to the journal, or says why not.
     fn commit(&mut self, batch: Unnumbered) -> Result<(), NoMemory>
-        ensures runs { RunsOn D.tells self.old.journal.state (D.view self.old.journal.disk) self.new.journal.state (D.view self.new.journal.disk) }
+        ensures runs { GoesOnRunning D.tells (stage_of D.view self.old) (stage_of D.view self.new) }
         ensures did { OnOk result (DoesCommit D.tells batch (stage_of D.view self.old) (stage_of D.view self.new)) }
     {
         if self.journal.dead().is_some() {
@@ -115,7 +116,7 @@ impl<D: Disk> Course<D> {
     fn number(&mut self, batch: Unnumbered) -> Result<(), NoMemory>
         requires lives { self.old.journal.state.dead ≡ None }
         requires room { end_after NUMBER_FIRST self.old.batches + count_of batch ≤ NUMBER_MAX }
-        ensures runs { RunsOn D.tells self.old.journal.state (D.view self.old.journal.disk) self.new.journal.state (D.view self.new.journal.disk) }
+        ensures runs { GoesOnRunning D.tells (stage_of D.view self.old) (stage_of D.view self.new) }
         ensures did { OnOk result (Commits D.tells batch (stage_of D.view self.old) (stage_of D.view self.new)) }
     {
         // A batch is numbered only once the journal has room for it.
@@ -129,7 +130,7 @@ impl<D: Disk> Course<D> {
 
     /// Answers a read.
     fn get(&mut self, key: &[u8]) -> Result<(), NoMemory>
-        ensures runs { RunsOn D.tells self.old.journal.state (D.view self.old.journal.disk) self.new.journal.state (D.view self.new.journal.disk) }
+        ensures runs { GoesOnRunning D.tells (stage_of D.view self.old) (stage_of D.view self.new) }
         ensures did { OnOk result (DoesGet key.now (stage_of D.view self.old) (stage_of D.view self.new)) }
     {
         let value = self.history.value(key);
@@ -139,7 +140,7 @@ impl<D: Disk> Course<D> {
 
     /// Does an act after those before it. After an `Err` no other may follow.
     fn act(&mut self, act: Act) -> Result<(), NoMemory>
-        ensures runs { RunsOn D.tells self.old.journal.state (D.view self.old.journal.disk) self.new.journal.state (D.view self.new.journal.disk) }
+        ensures runs { GoesOnRunning D.tells (stage_of D.view self.old) (stage_of D.view self.new) }
         ensures did { OnOk result (DoesAct D.tells act (stage_of D.view self.old) (stage_of D.view self.new)) }
     {
         match act {
@@ -150,7 +151,7 @@ impl<D: Disk> Course<D> {
 
     /// Closes the journal, and answers whether it died.
     fn close(&mut self) -> Result<bool, NoMemory>
-        ensures runs { RunsStill D.tells self.old.journal.state (D.view self.old.journal.disk) self.new.journal.state (D.view self.new.journal.disk) }
+        ensures runs { StaysRunning D.tells (stage_of D.view self.old) (stage_of D.view self.new) }
         ensures closes { IfOk result (λ died. Closes D.tells died (stage_of D.view self.old) (stage_of D.view self.new)) }
     {
         match self.journal.close() {
@@ -162,8 +163,8 @@ impl<D: Disk> Course<D> {
 
     /// Closes the journal, adds the last line, and answers the status of the run.
     fn end(&mut self) -> Result<Status, NoMemory>
-        ensures runs { RunsStill D.tells self.old.journal.state (D.view self.old.journal.disk) self.new.journal.state (D.view self.new.journal.disk) }
-        ensures ends { IfOk result (λ status. (end : JournalEnd) × EndsRun D.tells end (stage_of D.view self.old) (stage_of D.view self.new) × (status ≡ doing.status_after end.died self.new.limited)) }
+        ensures runs { StaysRunning D.tells (stage_of D.view self.old) (stage_of D.view self.new) }
+        ensures ends { IfOk result (EndsAnswering D.tells (stage_of D.view self.old) (stage_of D.view self.new)) }
     {
         let died = self.close()?;
         let end = JournalEnd {
@@ -178,9 +179,9 @@ impl<D: Disk> Course<D> {
 
     /// Does all acts in their order, and ends the run.
     fn go(&mut self, mut acts: VecDeque<Act>) -> Result<Status, NoMemory>
-        ensures runs { RunsOn D.tells self.old.journal.state (D.view self.old.journal.disk) self.new.journal.state (D.view self.new.journal.disk) }
-        ensures does { IfOk result (λ status. (end : JournalEnd) × DoesRun D.tells acts.items end (stage_of D.view self.old) (stage_of D.view self.new) × (status ≡ doing.status_after end.died self.new.limited)) }
-        ensures replays { IfOk result (λ status. (base : List Batch) (start : DiskView) (wal : ℕ) → IsBegun D.tells base start wal (stage_of D.view self.old) → ReplaysOver base acts.items wal D.tells start (D.view self.new.journal.disk) status self.new.text) }
+        ensures runs { GoesOnRunning D.tells (stage_of D.view self.old) (stage_of D.view self.new) }
+        ensures does { IfOk result (DoesAllWith D.tells acts.items (stage_of D.view self.old) (stage_of D.view self.new)) }
+        ensures replays { IfOk result (ReplaysFromStart D.tells acts.items (stage_of D.view self.old) (stage_of D.view self.new)) }
     {
         while let Some(act) = acts.pop_front() {
             self.act(act)?;
