@@ -76,7 +76,7 @@ module _ (tells : Bool) (files : Files) where
   counted_length [] = refl
   counted_length (r ∷ own) = ap suc (counted_length own)
 
-  stored_length : (segments : List Found) → length (map (stored_in files) segments) ≡ length segments
+  pub stored_length : (segments : List Found) → length (map (stored_in files) segments) ≡ length segments
   stored_length [] = refl
   stored_length (f ∷ segments) = ap suc (stored_length segments)
 

@@ -10,6 +10,7 @@ use Rattle.wal_recovery.specs.declared.listing.Found.{Found}
 use Rattle.wal_recovery.specs.declared.wals.FoundWal.{FoundWal}
 use Rattle.wal_recovery.specs.Listing.{Stored, name_in, place_in, StandsIn}
 use Rattle.wal_recovery.specs.Rows.{place_listed, IsRowOf, BeginsElsewhere, IsGroup, Groups, bytes_at, bytes_or_none, stored_in}
+use Rattle.wal_recovery.proofs.Tools.{some_is}
 use Rattle.wal_recovery.proofs.Listed.{read_open, read_close}
 
 -- one WAL more
@@ -17,9 +18,6 @@ pub groups_more : (wals : List FoundWal) (row mid later : List Found) (wal : Fou
 unfolding Groups
 groups_more [] row mid later wal g is = (later, subst (λ (r : List Found). IsGroup wal r later) (sym g) is, refl)
 groups_more (w ∷ wals) row mid later wal g is = (g.0, g.1, groups_more wals g.0 mid later wal g.2 is)
-
-some_same : {X : Type 0} (x y : X) → Some x ≡ Some y → x ≡ y
-some_same x y e = cc
 
 some_front : {X : Type 0} (x : X) (xs : List X) → x ∷ xs ≡ [] → ⊥
 some_front x xs e = cc
@@ -32,7 +30,7 @@ pub group_is : (rest : List Found) (n : ℕ) (first : Found) (wal : FoundWal) (o
     → All (λ (f : Found). f.name.wal ≡ first.name.wal) (take n rest) → BeginsElsewhere first.name.wal (drop n rest) → own ≡ take n rest → later ≡ drop n rest → wal.segments.items ≡ own → IsGroup wal rest later
 group_is [] n first wal own later is number all other front back items = absurd (no_first first is)
 group_is (f ∷ rest) zero first wal own later is number all other front back items =
-    let same : f ≡ first = some_same f first is in absurd (other (ap (λ (x : Found). x.name.wal) same))
+    let same : f ≡ first = some_is f first is in absurd (other (ap (λ (x : Found). x.name.wal) same))
 group_is (f ∷ rest) (suc n) first wal own later is number all other front back items = record {
   cut = sym (ap (λ (l : List Found). l ++ later) (items ∙ front) ∙ ap (λ (l : List Found). take (suc n) (f ∷ rest) ++ l) back ∙ take-append-drop (suc n) (f ∷ rest));
   some = λ none. some_front f (take n rest) (sym (items ∙ front) ∙ none);

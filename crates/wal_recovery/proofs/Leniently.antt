@@ -1,5 +1,5 @@
 -- WALs that are merged one after another as one row, with gaps: their reports hold the row, and what refuses a WAL after it refuses the directories.
-use Rattle.std.proofs.Common.{◌≡◌, ℕ, suc, List, [], ◌∷◌, ◌++◌, All, IsTrue, Bool, length, map, take, subst, sym, ap, ◌∙◌, refl, arith}
+use Rattle.std.proofs.Common.{◌≡◌, ℕ, List, [], ◌∷◌, ◌++◌, All, IsTrue, Bool, length, map, take, subst, sym, ap, ◌∙◌, refl, arith}
 use Rattle.std.specs.List.{AllZip, AllByRecursion}
 use Rattle.std.proofs.lemmas.List.{map-append}
 use Rattle.std.proofs.lemmas.List.Elements.{All-append, All-nil, recursion_from_All}
@@ -27,8 +27,8 @@ use Rattle.wal_recovery.specs.Answers.{DiskMemoryOr}
 use Rattle.wal_recovery.specs.Rows.{stored_in, wal_in, wals_in}
 use Rattle.wal_recovery.specs.Gathered.{AreAsListed, IsNumberedReport, counted_in, read_as, GathersWal, AreReportsMerged, IsFirstBadOf, IsOwnWal, AreListedWals, named_in_wal}
 use Rattle.wal_recovery.specs.OneWal.{HoldsRow, IsLenientlyRefusedWal}
-use Rattle.wal_recovery.proofs.Gathering.{row_holds}
-use Rattle.wal_recovery.proofs.Adding.{counted_length}
+use Rattle.wal_recovery.proofs.Gathering.{row_holds, batches_by_index}
+use Rattle.wal_recovery.proofs.Adding.{counted_length, stored_length}
 use Rattle.wal_recovery.proofs.AtWal.{StandsAt, cut_at, listed_at}
 use Rattle.wal_recovery.proofs.OneWal.{own_of, bad_refused}
 use Rattle.wal_recovery.proofs.Strictly.{lenient_numbered}
@@ -68,12 +68,6 @@ batches_by_length (s ∷ segments) (b ∷ row) e = ap (λ (l : List (List Batch)
 batches_append : (before row : List SegmentRead) → batches_in (before ++ row) ≡ batches_in before ++ batches_in row
 batches_append before row = map-append (λ (s : SegmentRead). s.batches) before row
 
-row_batches : (log : ℕ) (segments : List Stored) (row : List (List Batch)) → HoldRow log segments row → batches_in (by_index segments row) ≡ row
-row_batches log [] [] h = refl
-row_batches log [] (b ∷ row) h = absurd h
-row_batches log (s ∷ segments) [] h = absurd h
-row_batches log (s ∷ segments) (b ∷ row) h = ap (λ (l : List (List Batch)). b ∷ l) (row_batches log segments row h.1)
-
 -- the row of all WALs has the batches that they hold
 pub all_batches : (wals : List Wal) (rows : List (List Batch)) → HoldAll wals rows → batches_in (by_index (segments_of wals) rows) ≡ rows
 unfolding HoldAll
@@ -82,7 +76,7 @@ all_batches (wal ∷ wals) rows (own, later, here, rest, is) =
     ap (λ (r : List (List Batch)). batches_in (by_index (wal.segments ++ segments_of wals) r)) is
     ∙ ap batches_in (by_index_append (log_number wal.number) wal.segments (segments_of wals) own later here)
     ∙ batches_append (by_index wal.segments own) (by_index (segments_of wals) later)
-    ∙ ap (λ (r : List (List Batch)). r ++ batches_in (by_index (segments_of wals) later)) (row_batches (log_number wal.number) wal.segments own here)
+    ∙ ap (λ (r : List (List Batch)). r ++ batches_in (by_index (segments_of wals) later)) (batches_by_index (log_number wal.number) wal.segments own here)
     ∙ ap (λ (r : List (List Batch)). own ++ r) (all_batches wals later rest)
     ∙ sym is
 
@@ -110,17 +104,13 @@ pub reports_numbered : (reports : List SegReport) (merged : List Batch) → AreR
 reports_numbered reports merged a = lenient_numbered (as_row reports) merged (row_numbered reports (recursion_from_All IsNumberedReport reports a.numbered)) (reports_merged_of reports merged a)
 
 module _ (tells : Bool) (files : Files) where
-  stored_length : (segments : List Found) → length (map (stored_in files) segments) ≡ length segments
-  stored_length [] = refl
-  stored_length (f ∷ segments) = ap suc (stored_length segments)
-
   -- with one WAL more
   pub reports_more : (wal : FoundWal) (old new : List SegReport) (row : List SegmentRead) (merged longer : List Batch) → GathersWal tells files wal.segments.items old new row → AreReportsMerged old merged
       → AreMergedOf (as_row old ++ row) longer → AreReportsMerged new longer
   reports_more wal old new row merged longer g a m = record {
     merges =
         let own = g.added.own in
-        let many : length (counted_in own) ≡ length (map (stored_in files) wal.segments.items) = counted_length tells files own ∙ g.added.as_many ∙ sym (stored_length wal.segments.items) in
+        let many : length (counted_in own) ≡ length (map (stored_in files) wal.segments.items) = counted_length tells files own ∙ g.added.as_many ∙ sym (stored_length tells files wal.segments.items) in
         let is : batches_in (as_row old ++ row) ≡ counted_in new =
         batches_append (as_row old) row
         ∙ ap (λ (r : List (List Batch)). r ++ batches_in row) (row_counted old)
