@@ -14,7 +14,7 @@ use Rattle.segment_merge.specs.Lenient.{IsPast, IsNewOrKept, IsAccepted, IsRowLe
 use Rattle.segment_merge.specs.Returned.{MemoryOrRefusal}
 use Rattle.segment_merge.specs.Keeping.{Kept}
 use Rattle.segment_merge.specs.Steps.{IsAppendedAfter, IsSkipped, LenientSteps, KeepsLenient}
-use Rattle.segment_merge.proofs.Members.{none_within, within_head, within_tail, within_cases}
+use Rattle.wal_base.proofs.Laws.{none_within, within_head, within_tail, within_cases}
 use Rattle.segment_merge.proofs.Contiguous.{end_append}
 use Rattle.segment_merge.proofs.Ascending.{ascending_push}
 use Rattle.segment_merge.proofs.Pass.{all_with}

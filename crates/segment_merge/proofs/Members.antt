@@ -1,27 +1,9 @@
--- What a list contains.
-use Rattle.std.proofs.Common.{◌≡◌, ◌⊎◌, inl, inr, ℕ, ◌+◌, ◌-◌, ◌≤◌, ◌<◌, List, [], ◌∷◌, ◌++◌, length, get_or, take, drop, sym, subst, ap, ◌∙◌, arith}
+-- What parts of a list contain.
+use Rattle.std.proofs.Common.{◌≡◌, ◌⊎◌, ℕ, ◌+◌, ◌-◌, ◌≤◌, ◌<◌, List, [], ◌∷◌, ◌++◌, length, get_or, take, drop, sym, subst, ap, ◌∙◌, arith}
 use Rattle.std.specs.Prelude.{Contains, All}
 use Rattle.segment_merge.specs.Ranges.{between}
 use Rattle.std.proofs.lemmas.List.{take_more, take-append-drop, take-take, drop-take}
-use Rattle.std.proofs.lemmas.List.Elements.{Contains-append_left, Contains-append_right, Contains-append_cases, Contains-push, Contains-push_cases, All-push}
-
-pub none_within : {X : Type 0} (x : X) → Contains [] x → ⊥
-none_within x (k, below, is) = omega (arith, below)
-
-pub within_head : {X : Type 0} (x : X) (xs : List X) → Contains (x ∷ xs) x
-within_head x xs = Contains-append_left (x ∷ []) xs x (Contains-push [] x)
-
-pub within_tail : {X : Type 0} (y : X) (xs : List X) (x : X) → Contains xs x → Contains (y ∷ xs) x
-within_tail y xs x h = Contains-append_right (y ∷ []) xs x h
-
-pub within_cases : {X : Type 0} (y : X) (xs : List X) (x : X) → Contains (y ∷ xs) x → (y ≡ x) ⊎ Contains xs x
-within_cases y xs x h = elim (Contains-append_cases (y ∷ []) xs x h) [
-  | inl front ↦ elim (Contains-push_cases [] y x front) [
-    | inl none ↦ absurd (none_within x none)
-    | inr e ↦ inl e
-  ]
-  | inr back ↦ inr back
-]
+use Rattle.std.proofs.lemmas.List.Elements.{Contains-append_left, Contains-append_right, Contains-append_cases, All-push}
 
 pub within_take : {X : Type 0} (n : ℕ) (xs : List X) (x : X) → Contains (take n xs) x → Contains xs x
 within_take n xs x h = subst (λ ys. Contains ys x) (take-append-drop n xs) (Contains-append_left (take n xs) (drop n xs) x h)

@@ -5,7 +5,7 @@ use Rattle.batch_repr.specs.declared.batch.Batch.{Batch}
 use Rattle.batch_repr.specs.Batches.{count_of, end_of}
 use Rattle.segment_merge.specs.Merging.{IsAscending}
 use Rattle.segment_merge.specs.Lenient.{MergedLenient}
-use Rattle.segment_merge.proofs.Members.{none_within, within_head, within_tail, within_cases}
+use Rattle.wal_base.proofs.Laws.{none_within, within_head, within_tail, within_cases}
 
 low_of : (from : ℕ) (batches : List Batch) (b : Batch) → IsAscending from batches → Contains batches b → from ≤ b.first
 unfolding IsAscending

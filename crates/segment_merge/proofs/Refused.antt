@@ -10,7 +10,7 @@ use Rattle.segment_merge.specs.Merging.{Merged, all_of, greatest_end, BeginsBy, 
 use Rattle.segment_merge.specs.declared.segment.SegmentRead.{SegmentRead}
 use Rattle.segment_merge.specs.Rows.{batches_in}
 use Rattle.segment_merge.specs.Refusals.{expected_after, IsFirstWrong}
-use Rattle.segment_merge.proofs.Members.{within_head}
+use Rattle.wal_base.proofs.Laws.{within_head}
 use Rattle.segment_merge.proofs.Unique.{is_front}
 use Rattle.segment_merge.proofs.Contiguous.{place_within, contiguous_front, contiguous_back}
 use Rattle.segment_merge.proofs.Pass.{all_with, joined_back, follows_only, MayFollow, appended, skipped, at_most_next}
