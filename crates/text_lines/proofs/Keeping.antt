@@ -1,6 +1,5 @@
 -- The entries of a map in order, each key once, are the store that the map's look-ups answer.
-use Rattle.std.proofs.Common.{◌≡◌, ◌↔◌, ℕ, zero, suc, Bool, true, false, List, [], ◌∷◌, map, Option, Some, Bor, inl, inr, ⊎_elim, refl, sym, ap, subst, ◌∙◌, arith}
-use mathlib.Core.Logic.{◌⊎◌}
+use Rattle.std.proofs.Common.{◌≡◌, ◌↔◌, ℕ, Bool, true, false, List, [], ◌∷◌, map, Option, Some, Bor, ⊎_elim, refl, sym, ap, subst, ◌∙◌, arith}
 use Rattle.std.specs.Prelude.{option_map, Contains}
 use Rattle.std.specs.List.{AllByRecursion}
 use Rattle.std.specs.List.Sorted.{IsStrictlySortedBy}
@@ -11,22 +10,12 @@ use Rattle.std.specs.Cmp.Lexicographic.{slice_cmp, nat_list_cmp_total, same_text
 use Rattle.std.proofs.lemmas.Cmp.{tied_itself}
 use Rattle.std.proofs.lemmas.Map.Text.{is_eq-slice_cmp}
 use Rattle.std.specs.Map.{keys_of, lookup}
+use Rattle.wal_base.proofs.Laws.{within_cases, within_head, within_tail}
 use Rattle.text_lines.specs.Holding.{shown}
 use Rattle.text_lines.specs.Store.{Held, IsKeyBefore, Ascends}
 
 abbrev Pairs : Type 0
 Pairs = List (Bor (List ℕ) × Bor (List ℕ))
-
--- an element of a list is the first, or one of the others
-contains_cases : {X : Type 0} (first x : X) (others : List X) → Contains (first ∷ others) x → (first ≡ x) ⊎ Contains others x
-contains_cases first x others (zero, below, is) = inl is
-contains_cases first x others (suc k, below, is) = inr (k, omega arith, is)
-
-contains_first : {X : Type 0} (x : X) (others : List X) → Contains (x ∷ others) x
-contains_first x others = (0, omega arith, refl)
-
-contains_later : {X : Type 0} (first x : X) (others : List X) → Contains others x → Contains (first ∷ others) x
-contains_later first x others (k, below, is) = (suc k, omega arith, is)
 
 -- ---- in order
 
@@ -36,7 +25,7 @@ cmp x y = slice_cmp nat_cmp x.now y.now
 before_each : (key : Bor (List ℕ)) (es : Pairs) → AllByRecursion (λ y. cmp key y ≡ Less) (keys_of es) → (other : Held) → Contains (map shown es) other → IsKeyBefore key.now other.key
 before_each key [] all other has = absurd (omega (arith, has.1))
 before_each key (e ∷ es) all other has =
-    ⊎_elim (λ (is : shown e ≡ other). subst (λ (h : Held). IsKeyBefore key.now h.key) is all.0) (λ (later : Contains (map shown es) other). before_each key es all.1 other later) (contains_cases (shown e) other (map shown es) has)
+    ⊎_elim (λ (is : shown e ≡ other). subst (λ (h : Held). IsKeyBefore key.now h.key) is all.0) (λ (later : Contains (map shown es) other). before_each key es all.1 other later) (within_cases (shown e) (map shown es) other has)
 
 pub ascends : (es : Pairs) → IsStrictlySortedBy cmp (keys_of es) → Ascends (map shown es)
 unfolding IsStrictlySortedBy Ascends
@@ -66,7 +55,7 @@ tells [] up key value has = absurd (omega (arith, has.1))
 tells (e ∷ es) up key value has =
     let held : Held = record { key = key; value = value } in
     ⊎_elim (λ (is : shown e ≡ held). found_here e es key (ap (λ (h : Held). h.key) is) ∙ ap (λ (h : Held). Some h.value) is)
-    (λ (later : Contains (map shown es) held). found_later e es key (up.0 held later) ∙ tells es up.1 key value later) (contains_cases (shown e) held (map shown es) has)
+    (λ (later : Contains (map shown es) held). found_later e es key (up.0 held later) ∙ tells es up.1 key value later) (within_cases (shown e) (map shown es) held has)
 
 told : (es : Pairs) (key value : List ℕ) → found key es ≡ Some value → Contains (map shown es) (record { key = key; value = value })
 told [] key value is = absurd cc
@@ -78,10 +67,10 @@ told (e ∷ es) key value is = go (is_eq (slice_cmp nat_cmp key e.0.now)) refl (
         let first : Some e.1.now ≡ Some value = sym (found_here e es key (sym same)) ∙ is in
         let value_is : e.1.now ≡ value = cc in
         let held : shown e ≡ record { key = key; value = value } = λ i. record { key = sym same i; value = value_is i } in
-        subst (Contains (map shown (e ∷ es))) held (contains_first (shown e) (map shown es))
+        subst (Contains (map shown (e ∷ es))) held (within_head (shown e) (map shown es))
     go false apart later =
         let past : found key es ≡ found key (e ∷ es) = rw apart refl in
-        contains_later (shown e) (record { key = key; value = value }) (map shown es) (later (past ∙ is))
+        within_tail (shown e) (map shown es) (record { key = key; value = value }) (later (past ∙ is))
 
 pub same : (es : Pairs) → IsStrictlySortedBy cmp (keys_of es) → (key value : List ℕ) → Contains (map shown es) (record { key = key; value = value }) ↔ (found key es ≡ Some value)
 same es sorted key value = (tells es (ascends es sorted) key value, told es key value)
