@@ -121,8 +121,8 @@ pub fn read_out_shared(alloc: Global, log: u32, bytes: Vec<u8>) -> Result<ReadOu
 /// Reads a segment of this log number: the whole records of its longest chain of chunks.
 ///
 /// The segment ends at the first place where no chunk stands that may follow, whatever the bytes from there on
-/// are. A record that has begun and has not ended there is not among the records. That is no error: only want of
-/// memory is.
+/// are. A record that has begun and has not ended there is not among the records. That is no error: only running
+/// out of memory is.
 pub fn read_out(alloc: Global, log: u32, bytes: &[u8]) -> Result<ReadOut, NoMemory>
     ensures { IfOk result (λ out. ReadsOut bytes.now log out.records out.ends_at out.torn) }
 {

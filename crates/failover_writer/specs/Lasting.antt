@@ -21,7 +21,7 @@ pub record Lasts {Disk : Type 0} (tells : Bool) (view : Disk → DiskView) (old 
   pub goes_on : GoesOn (view old.disk) (view new.disk)
 
 -- What a stop leaves of the journal, in each image that no torn chunk deceives. At each moment of the call its run is kept, and
--- over a base that it keeps the files recover to the base and the first of its records: all those that were acked before the
+-- over a base that it keeps the files recover to the base and a prefix of its records, with all those that were acked before the
 -- call, and after it all those that are acked now.
 pub record Survives {Disk : Type 0} (tells : Bool) (view : Disk → DiskView) (old new : JournalView Disk) : Type 0 where
   pub keeps_base : KeepsBases tells view old new

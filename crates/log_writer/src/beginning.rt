@@ -138,7 +138,7 @@ impl LogWriter {
 
     /// Starts the next operation of the segment, and says whether there was one: its creation where that is not
     /// completed; else a sync where `want` is above `acked` and all of `want` is written; else a write of all records
-    /// from `written` up to `len`; else none. The queue holds every record from `sent` up to `len`. `Err` is want of
+    /// from `written` up to `len`; else none. The queue holds every record from `sent` up to `len`. `Err` means out of
     /// memory, and nothing was started.
     pub fn begin<D: Disk>(
         &mut self,

@@ -138,7 +138,7 @@ pub record RefusesDirectories (c : Invocation) (text : List ℕ) : Type 0 where
   pub same : SameDisk c.disk.before c.disk.after
 
 -- What a run has to say, by its status: why, and the whole text that goes with it. A fault or a shortage of the sink comes only once
--- it is said, and want of memory before says nothing.
+-- it is said, and running out of memory before says nothing.
 abbrev pub HasToSay : Invocation → Status → List ℕ → Type 0
 HasToSay c Done text = IsDoneRun c text
 HasToSay c Usage text = (IsCommand c.words → ⊥) × (text ≡ usage_text) × Stays c.disk
