@@ -31,7 +31,8 @@ pub record TakesEntries (bytes : List ℕ) (entries : List Entry) (rest : List �
   pub within : AllByRecursion IsWithinLimits entries
   pub parts : bytes ≡ front ++ rest
 
-pub entries_take : (whole : ℕ) (bytes : List ℕ) (entries : List Entry) (rest : List ℕ) → IsBytes bytes → EntriesAt whole bytes entries rest → TakesEntries bytes entries rest
+pub entries_take : (whole : ℕ) (bytes : List ℕ) (entries : List Entry) (rest : List ℕ) → IsBytes bytes → EntriesAt whole bytes entries rest
+    → TakesEntries bytes entries rest
 entries_take whole bytes [] rest fits h = record { front = []; is = refl; within = tt; parts = h }
 entries_take whole bytes (entry ∷ entries) rest fits h =
     let first = entry_takes whole bytes entry h.0 fits h.1 in
@@ -43,11 +44,13 @@ entries_take whole bytes (entry ∷ entries) rest fits h =
       parts = first.parts ∙ ap (λ (x : List ℕ). first.front ++ x) others.parts ∙ sym (append_assoc first.front others.front rest);
     }
 
-pub entries_again : (whole : ℕ) (front : List ℕ) (entries : List Entry) (rest : List ℕ) → SpellsEntries front entries → AllByRecursion IsWithinLimits entries → EntriesAt whole (front ++ rest) entries rest
+pub entries_again : (whole : ℕ) (front : List ℕ) (entries : List Entry) (rest : List ℕ) → SpellsEntries front entries
+    → AllByRecursion IsWithinLimits entries → EntriesAt whole (front ++ rest) entries rest
 entries_again whole front [] rest s within = ap (λ (x : List ℕ). x ++ rest) s
 entries_again whole front (entry ∷ entries) rest s within = (
   s.1 ++ rest,
-  ap (λ (x : List ℕ). entry_at whole (x ++ rest)) s.4 ∙ ap (entry_at whole) (append_assoc s.0 s.1 rest) ∙ entry_again whole s.0 entry (s.1 ++ rest) s.2 within.0,
+  ap (λ (x : List ℕ). entry_at whole (x ++ rest)) s.4 ∙ ap (entry_at whole) (append_assoc s.0 s.1 rest)
+      ∙ entry_again whole s.0 entry (s.1 ++ rest) s.2 within.0,
   entries_again whole s.1 entries rest s.3 within.1,
 )
 
@@ -73,7 +76,8 @@ same_entries whole bytes (x ∷ xs) (y ∷ ys) p q =
 faulty : (whole : ℕ) (bytes : List ℕ) (x : Entry × List ℕ) (f : BatchFault) → entry_at whole bytes ≡ Ok x → entry_at whole bytes ≡ Err f → ⊥
 faulty whole bytes x f p q = cc
 
-pub no_fault : (whole : ℕ) (bytes : List ℕ) (xs ys : List Entry) (rest : List ℕ) (f : BatchFault) → EntriesAt whole bytes xs [] → EntriesAt whole bytes ys rest → rest ≢ [] → entry_at whole rest ≡ Err f → ⊥
+pub no_fault : (whole : ℕ) (bytes : List ℕ) (xs ys : List Entry) (rest : List ℕ) (f : BatchFault) → EntriesAt whole bytes xs []
+    → EntriesAt whole bytes ys rest → rest ≢ [] → entry_at whole rest ≡ Err f → ⊥
 no_fault whole bytes [] [] rest f p q some e = some (sym q ∙ p)
 no_fault whole bytes [] (y ∷ ys) rest f p q some e = none_left whole bytes (y, q.0) p q.1
 no_fault whole bytes (x ∷ xs) [] rest f p q some e = faulty whole bytes (x, p.0) f p.1 (ap (entry_at whole) q ∙ e)
@@ -81,7 +85,8 @@ no_fault whole bytes (x ∷ xs) (y ∷ ys) rest f p q some e =
     let after : p.0 ≡ q.0 = ap (λ (t : Entry × List ℕ). t.1) (same_step whole bytes (x, p.0) (y, q.0) p.1 q.1) in
     no_fault whole q.0 xs ys rest f (subst (λ (t : List ℕ). EntriesAt whole t xs []) after p.2) q.2 some e
 
-pub same_fault : (whole : ℕ) (bytes : List ℕ) (xs ys : List Entry) (r s : List ℕ) (f g : BatchFault) → EntriesAt whole bytes xs r → entry_at whole r ≡ Err f → EntriesAt whole bytes ys s → entry_at whole s ≡ Err g → f ≡ g
+pub same_fault : (whole : ℕ) (bytes : List ℕ) (xs ys : List Entry) (r s : List ℕ) (f g : BatchFault) → EntriesAt whole bytes xs r
+    → entry_at whole r ≡ Err f → EntriesAt whole bytes ys s → entry_at whole s ≡ Err g → f ≡ g
 same_fault whole bytes [] [] r s f g p e q d = let same = sym p ∙ q in let h = sym e ∙ ap (entry_at whole) same ∙ d in (cc h)
 same_fault whole bytes [] (y ∷ ys) r s f g p e q d = absurd (faulty whole bytes (y, q.0) f q.1 (ap (entry_at whole) p ∙ e))
 same_fault whole bytes (x ∷ xs) [] r s f g p e q d = absurd (faulty whole bytes (x, p.0) g p.1 (ap (entry_at whole) q ∙ d))
@@ -106,9 +111,12 @@ reads_spell bytes batch fits r =
     let head : to_le_bytes w64 batch.first ≡ take 8 bytes =
     le_bytes_8 (take 8 bytes) batch.first (omega (arith, length-take 8 bytes, r.splits.header)) (IsBytes-take 8 bytes fits) r.first in
     let said : to_le_bytes w32 n ≡ take 4 (drop 8 bytes) =
-    le_bytes_4 (take 4 (drop 8 bytes)) n (omega (arith, length-take 4 (drop 8 bytes), length-drop 8 bytes, r.splits.header)) (IsBytes-take 4 (drop 8 bytes) (IsBytes-drop 8 bytes fits)) (sym r.count) in
-    let after : drop 8 bytes ≡ take 4 (drop 8 bytes) ++ drop 12 bytes = sym (take-append-drop 4 (drop 8 bytes)) ∙ ap (λ (x : List ℕ). take 4 (drop 8 bytes) ++ x) (drop-drop 4 8 bytes) in
-    let whole : bytes ≡ take 8 bytes ++ (take 4 (drop 8 bytes) ++ drop 12 bytes) = sym (take-append-drop 8 bytes) ∙ ap (λ (x : List ℕ). take 8 bytes ++ x) after in
+    le_bytes_4 (take 4 (drop 8 bytes)) n (omega (arith, length-take 4 (drop 8 bytes), length-drop 8 bytes, r.splits.header))
+    (IsBytes-take 4 (drop 8 bytes) (IsBytes-drop 8 bytes fits)) (sym r.count) in
+    let after : drop 8 bytes ≡ take 4 (drop 8 bytes) ++ drop 12 bytes = sym (take-append-drop 4 (drop 8 bytes))
+    ∙ ap (λ (x : List ℕ). take 4 (drop 8 bytes) ++ x) (drop-drop 4 8 bytes) in
+    let whole : bytes ≡ take 8 bytes ++ (take 4 (drop 8 bytes) ++ drop 12 bytes) = sym (take-append-drop 8 bytes)
+    ∙ ap (λ (x : List ℕ). take 8 bytes ++ x) after in
     record {
       body = taken.front;
       is = whole ∙ sym (append_assoc (take 8 bytes) (take 4 (drop 8 bytes)) (drop 12 bytes))
@@ -208,11 +216,13 @@ one_fault bytes _ _ (past_numbers xs h _ _) (past_numbers ys k _ _) = refl
 
 -- ---- what the call answers
 
-pub is_found : (bytes : List ℕ) (r : Result Batch BatchFault) → IsBytes bytes → MatchResult r (ReadsAs bytes) (MemoryOr (IsFirstFault bytes)) → IfOk r (SpellsBatch bytes)
+pub is_found : (bytes : List ℕ) (r : Result Batch BatchFault) → IsBytes bytes
+    → MatchResult r (ReadsAs bytes) (MemoryOr (IsFirstFault bytes)) → IfOk r (SpellsBatch bytes)
 is_found bytes (Ok batch) fits h = reads_spell bytes batch fits h
 is_found bytes (Err fault) fits h = tt
 
-pub is_only : (bytes : List ℕ) (r : Result Batch BatchFault) (batch : Batch) → MatchResult r (ReadsAs bytes) (MemoryOr (IsFirstFault bytes)) → SpellsBatch bytes batch → OkOrMemory r batch
+pub is_only : (bytes : List ℕ) (r : Result Batch BatchFault) (batch : Batch) → MatchResult r (ReadsAs bytes) (MemoryOr (IsFirstFault bytes))
+    → SpellsBatch bytes batch → OkOrMemory r batch
 is_only bytes (Ok other) batch h s = same_batch bytes other batch h (spelled_reads bytes batch s)
 is_only bytes (Err faults.NoMemory) batch h s = tt
 is_only bytes (Err faults.ShortHeader) batch h s = reads_no_fault bytes batch _ (spelled_reads bytes batch s) h
@@ -223,7 +233,8 @@ is_only bytes (Err (faults.UnknownKind at kind)) batch h s = reads_no_fault byte
 is_only bytes (Err (faults.Count said found)) batch h s = reads_no_fault bytes batch _ (spelled_reads bytes batch s) h
 is_only bytes (Err (faults.SeqRange first)) batch h s = reads_no_fault bytes batch _ (spelled_reads bytes batch s) h
 
-pub is_first : (bytes : List ℕ) (r : Result Batch BatchFault) (fault : BatchFault) → MatchResult r (ReadsAs bytes) (MemoryOr (IsFirstFault bytes)) → IsFirstFault bytes fault → ErrOrMemory r fault
+pub is_first : (bytes : List ℕ) (r : Result Batch BatchFault) (fault : BatchFault)
+    → MatchResult r (ReadsAs bytes) (MemoryOr (IsFirstFault bytes)) → IsFirstFault bytes fault → ErrOrMemory r fault
 is_first bytes (Ok batch) fault h f = reads_no_fault bytes batch fault h f
 is_first bytes (Err faults.NoMemory) fault h f = tt
 is_first bytes (Err faults.ShortHeader) fault h f = one_fault bytes _ fault h f

@@ -16,21 +16,29 @@ use Rattle.batch_repr.specs.Draft.{IsDraft}
 
 written_entries-push : (entries : List Entry) (entry : Entry) → written_entries (entries ++ entry ∷ []) ≡ written_entries entries ++ written_entry entry
 unfolding written_entries
-written_entries-push entries entry = flat_map-append written_entry entries (entry ∷ []) ∙ ap (λ (t : List ℕ). flat_map written_entry entries ++ t) (append-nil (written_entry entry))
+written_entries-push entries entry = flat_map-append written_entry entries (entry ∷ [])
+    ∙ ap (λ (t : List ℕ). flat_map written_entry entries ++ t) (append-nil (written_entry entry))
 
-spelled_more : (bytes bytes' : List ℕ) (entries : List Entry) (entry : Entry) → IsDraft bytes entries → bytes' ≡ bytes ++ written_entry entry → bytes' ≡ replicate 12 0 ++ written_entries (entries ++ entry ∷ [])
+spelled_more : (bytes bytes' : List ℕ) (entries : List Entry) (entry : Entry) → IsDraft bytes entries
+    → bytes' ≡ bytes ++ written_entry entry → bytes' ≡ replicate 12 0 ++ written_entries (entries ++ entry ∷ [])
 spelled_more bytes bytes' entries entry d e =
     e ∙ ap (λ (t : List ℕ). t ++ written_entry entry) d.spelled
     ∙ append_assoc (replicate 12 0) (written_entries entries) (written_entry entry)
     ∙ ap (λ (t : List ℕ). replicate 12 0 ++ t) (sym (written_entries-push entries entry))
 
-pub len_is : (bytes bytes' : List ℕ) (entries : List Entry) (entry : Entry) → IsDraft bytes entries → bytes' ≡ bytes ++ written_entry entry → length bytes' ≡ written_len (entries ++ entry ∷ [])
+pub len_is : (bytes bytes' : List ℕ) (entries : List Entry) (entry : Entry) → IsDraft bytes entries → bytes' ≡ bytes ++ written_entry entry
+    → length bytes' ≡ written_len (entries ++ entry ∷ [])
 len_is bytes bytes' entries entry d e =
     ap length (spelled_more bytes bytes' entries entry d e) ∙ length-append (replicate 12 0) (written_entries (entries ++ entry ∷ []))
 
-pub draft_more : (bytes bytes' : List ℕ) (entries entries' : List Entry) (entry : Entry) → IsDraft bytes entries → IsWithinLimits entry → bytes' ≡ bytes ++ written_entry entry → length bytes' ≤ BATCH_MAX → entries' ≡ entries ++ entry ∷ [] → IsDraft bytes' entries'
+pub draft_more : (bytes bytes' : List ℕ) (entries entries' : List Entry) (entry : Entry) → IsDraft bytes entries → IsWithinLimits entry
+    → bytes' ≡ bytes ++ written_entry entry → length bytes' ≤ BATCH_MAX → entries' ≡ entries ++ entry ∷ [] → IsDraft bytes' entries'
 draft_more bytes bytes' entries entries' entry d within e small f =
-    subst (IsDraft bytes') (sym f) (record { spelled = spelled_more bytes bytes' entries entry d e; limits = All-push IsWithinLimits entries entry d.limits within; size = small })
+    subst (IsDraft bytes') (sym f) (record {
+      spelled = spelled_more bytes bytes' entries entry d e;
+      limits = All-push IsWithinLimits entries entry d.limits within;
+      size = small;
+    })
 
 pub no_room : (len n : ℕ) → len ≡ n → BATCH_MAX < n → room_fault len ≡ Some (faults.BatchTooLong n)
 no_room len n e h = rw (e, lt-ltb BATCH_MAX n h) refl

@@ -26,7 +26,8 @@ from_text : (entry at limit : ℕ) (bytes : List ℕ) (r : Result (ℕ × List �
 from_text entry at limit bytes (Err Ended) text rest fits e h = absurd cc
 from_text entry at limit bytes (Err Wrong) text rest fits e h = absurd cc
 from_text entry at limit bytes (Ok n) text rest fits e h =
-    let a = guard_ok (nat_lt limit n.0) (faults.TooLong at) (cond (nat_lt (length n.1) n.0) (Err (faults.ShortEntry entry)) (Ok (take n.0 n.1, drop n.0 n.1))) (text, rest) h in
+    let a = guard_ok (nat_lt limit n.0) (faults.TooLong at) (cond (nat_lt (length n.1) n.0) (Err (faults.ShortEntry entry))
+    (Ok (take n.0 n.1, drop n.0 n.1))) (text, rest) h in
     let b = guard_ok (nat_lt (length n.1) n.0) (faults.ShortEntry entry) (Ok (take n.0 n.1, drop n.0 n.1)) (text, rest) a.1 in
     let same = ok_is (take n.0 n.1, drop n.0 n.1) (text, rest) b.1 in
     let t = number_takes bytes n.0 n.1 fits e in
@@ -39,11 +40,13 @@ from_text entry at limit bytes (Ok n) text rest fits e h =
       parts = t.parts ∙ ap (λ (x : List ℕ). t.front ++ x) (sym (take-append-drop n.0 n.1)) ∙ sym (append_assoc t.front (take n.0 n.1) (drop n.0 n.1));
     })
 
-pub string_takes : (whole entry limit : ℕ) (bytes text rest : List ℕ) → IsBytes bytes → string_at whole entry limit bytes ≡ Ok (text, rest) → TakesString bytes limit text rest
+pub string_takes : (whole entry limit : ℕ) (bytes text rest : List ℕ) → IsBytes bytes → string_at whole entry limit bytes ≡ Ok (text, rest)
+    → TakesString bytes limit text rest
 unfolding string_at
 string_takes whole entry limit bytes text rest fits e = from_text entry (offset_of whole bytes) limit bytes (number_at bytes) text rest fits refl e
 
-pub string_again : (whole entry limit : ℕ) (front text rest : List ℕ) → SpellsString front text → length text ≤ limit → string_at whole entry limit (front ++ rest) ≡ Ok (text, rest)
+pub string_again : (whole entry limit : ℕ) (front text rest : List ℕ) → SpellsString front text → length text ≤ limit
+    → string_at whole entry limit (front ++ rest) ≡ Ok (text, rest)
 unfolding string_at
 string_again whole entry limit front text rest s within =
     let regrouped : front ++ rest ≡ s.len ++ (text ++ rest) = ap (λ (x : List ℕ). x ++ rest) s.is ∙ append_assoc s.len text rest in
@@ -59,7 +62,8 @@ pub record TakesEntry (bytes : List ℕ) (entry : Entry) (rest : List ℕ) : Typ
   pub within : IsWithinLimits entry
   pub parts : bytes ≡ front ++ rest
 
-delete_takes : (whole at : ℕ) (bytes : List ℕ) (entry : Entry) (rest : List ℕ) → IsBytes bytes → delete_at whole at bytes ≡ Ok (entry, rest) → TakesEntry (0 ∷ bytes) entry rest
+delete_takes : (whole at : ℕ) (bytes : List ℕ) (entry : Entry) (rest : List ℕ) → IsBytes bytes → delete_at whole at bytes ≡ Ok (entry, rest)
+    → TakesEntry (0 ∷ bytes) entry rest
 unfolding delete_at
 delete_takes whole at bytes entry rest fits e =
     let a = bind_ok (string_at whole at KEY_MAX bytes) (λ (key : List ℕ × List ℕ). Ok (Delete key.0, key.1)) (entry, rest) e in
@@ -67,7 +71,8 @@ delete_takes whole at bytes entry rest fits e =
     subst (λ (p : Entry × List ℕ). TakesEntry (0 ∷ bytes) p.0 p.1) (ok_is (Delete a.0.0, a.0.1) (entry, rest) a.2)
     (record { front = 0 ∷ key.front; is = (key.front, key.is, refl); within = key.within; parts = ap (λ (x : List ℕ). 0 ∷ x) key.parts })
 
-note_takes : (whole at : ℕ) (bytes : List ℕ) (entry : Entry) (rest : List ℕ) → IsBytes bytes → note_at whole at bytes ≡ Ok (entry, rest) → TakesEntry (3 ∷ bytes) entry rest
+note_takes : (whole at : ℕ) (bytes : List ℕ) (entry : Entry) (rest : List ℕ) → IsBytes bytes → note_at whole at bytes ≡ Ok (entry, rest)
+    → TakesEntry (3 ∷ bytes) entry rest
 unfolding note_at
 note_takes whole at bytes entry rest fits e =
     let a = bind_ok (string_at whole at VALUE_MAX bytes) (λ (note : List ℕ × List ℕ). Ok (Note note.0, note.1)) (entry, rest) e in
@@ -75,10 +80,12 @@ note_takes whole at bytes entry rest fits e =
     subst (λ (p : Entry × List ℕ). TakesEntry (3 ∷ bytes) p.0 p.1) (ok_is (Note a.0.0, a.0.1) (entry, rest) a.2)
     (record { front = 3 ∷ note.front; is = (note.front, note.is, refl); within = note.within; parts = ap (λ (x : List ℕ). 3 ∷ x) note.parts })
 
-set_takes : (whole at : ℕ) (bytes : List ℕ) (entry : Entry) (rest : List ℕ) → IsBytes bytes → set_at whole at bytes ≡ Ok (entry, rest) → TakesEntry (1 ∷ bytes) entry rest
+set_takes : (whole at : ℕ) (bytes : List ℕ) (entry : Entry) (rest : List ℕ) → IsBytes bytes → set_at whole at bytes ≡ Ok (entry, rest)
+    → TakesEntry (1 ∷ bytes) entry rest
 unfolding set_at
 set_takes whole at bytes entry rest fits e =
-    let a = bind_ok (string_at whole at KEY_MAX bytes) (λ (key : List ℕ × List ℕ). string_at whole at VALUE_MAX key.1 >>= λ (value : List ℕ × List ℕ). Ok (Set key.0 value.0, value.1)) (entry, rest) e in
+    let a = bind_ok (string_at whole at KEY_MAX bytes) (λ (key : List ℕ × List ℕ). string_at whole at VALUE_MAX key.1 >>=
+    λ (value : List ℕ × List ℕ). Ok (Set key.0 value.0, value.1)) (entry, rest) e in
     let b = bind_ok (string_at whole at VALUE_MAX a.0.1) (λ (value : List ℕ × List ℕ). Ok (Set a.0.0 value.0, value.1)) (entry, rest) a.2 in
     let key = string_takes whole at KEY_MAX bytes a.0.0 a.0.1 fits a.1 in
     let more : IsBytes a.0.1 = IsBytes-back key.front a.0.1 (subst IsBytes key.parts fits) in
@@ -91,7 +98,8 @@ set_takes whole at bytes entry rest fits e =
       parts = ap (λ (x : List ℕ). 1 ∷ x) (key.parts ∙ ap (λ (x : List ℕ). key.front ++ x) value.parts ∙ sym (append_assoc key.front value.front b.0.1));
     })
 
-pub entry_takes : (whole : ℕ) (bytes : List ℕ) (entry : Entry) (rest : List ℕ) → IsBytes bytes → entry_at whole bytes ≡ Ok (entry, rest) → TakesEntry bytes entry rest
+pub entry_takes : (whole : ℕ) (bytes : List ℕ) (entry : Entry) (rest : List ℕ) → IsBytes bytes → entry_at whole bytes ≡ Ok (entry, rest)
+    → TakesEntry bytes entry rest
 unfolding entry_at
 entry_takes whole [] entry rest fits e = absurd cc
 entry_takes whole (kind ∷ bytes) entry rest fits e =
@@ -110,13 +118,17 @@ entry_takes whole (kind ∷ bytes) entry rest fits e =
       ]
     ]
 
-pub entry_again : (whole : ℕ) (front : List ℕ) (entry : Entry) (rest : List ℕ) → SpellsEntry front entry → IsWithinLimits entry → entry_at whole (front ++ rest) ≡ Ok (entry, rest)
+pub entry_again : (whole : ℕ) (front : List ℕ) (entry : Entry) (rest : List ℕ) → SpellsEntry front entry → IsWithinLimits entry
+    → entry_at whole (front ++ rest) ≡ Ok (entry, rest)
 unfolding entry_at set_at delete_at note_at
 entry_again whole front (Set key value) rest s within =
     let tail : List ℕ = s.0 ++ (s.1 ++ rest) in
     let regrouped : front ++ rest ≡ 1 ∷ tail = ap (λ (x : List ℕ). x ++ rest) s.4 ∙ ap (λ (x : List ℕ). 1 ∷ x) (append_assoc s.0 s.1 rest) in
     let at = offset_of whole (1 ∷ tail) in
-    ap (entry_at whole) regrouped ∙ rw (string_again whole at KEY_MAX s.0 key (s.1 ++ rest) s.2 within.0, string_again whole at VALUE_MAX s.1 value rest s.3 within.1) refl
+    ap (entry_at whole) regrouped ∙ rw (
+      string_again whole at KEY_MAX s.0 key (s.1 ++ rest) s.2 within.0,
+      string_again whole at VALUE_MAX s.1 value rest s.3 within.1,
+    ) refl
 entry_again whole front (Delete key) rest s within =
     let regrouped : front ++ rest ≡ 0 ∷ (s.0 ++ rest) = ap (λ (x : List ℕ). x ++ rest) s.2 in
     ap (entry_at whole) regrouped ∙ rw (string_again whole (offset_of whole (0 ∷ (s.0 ++ rest))) KEY_MAX s.0 key rest s.1 within) refl

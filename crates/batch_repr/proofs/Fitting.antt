@@ -30,7 +30,8 @@ room_is : (len : ℕ) → room_fault len ≡ None → len ≤ BATCH_MAX
 room_is len e = ltb-false BATCH_MAX len (passed (nat_lt BATCH_MAX len) (faults.BatchTooLong len) None e).0
 
 short_value : (value : List ℕ) (other : Option BuildFault) → value_fault value other ≡ None → (length value ≤ VALUE_MAX) × (other ≡ None)
-short_value value other e = let p = passed (nat_lt VALUE_MAX (length value)) (faults.ValueTooLong (length value)) other e in (ltb-false VALUE_MAX (length value) p.0, p.1)
+short_value value other e = let p = passed (nat_lt VALUE_MAX (length value)) (faults.ValueTooLong (length value)) other e
+    in (ltb-false VALUE_MAX (length value) p.0, p.1)
 
 short_key : (key : List ℕ) (other : Option BuildFault) → key_fault key other ≡ None → (length key ≤ KEY_MAX) × (other ≡ None)
 short_key key other e = let p = passed (nat_lt KEY_MAX (length key)) (faults.KeyTooLong (length key)) other e in (ltb-false KEY_MAX (length key) p.0, p.1)

@@ -15,7 +15,8 @@ pub left_first : (out : List ℕ) (n : ℕ) → n < 2 ^ 32 → LeftOf out n (out
 unfolding varint
 left_first out n h = record { bytes = 4; small = omega arith; is = refl }
 
-pub left_next : (out out' : List ℕ) (rest b : ℕ) (whole : List ℕ) → 128 ≤ rest → LeftOf out rest whole → b ≡ rest % 128 + 128 → out' ≡ out ++ b ∷ [] → LeftOf out' (rest / 128) whole
+pub left_next : (out out' : List ℕ) (rest b : ℕ) (whole : List ℕ) → 128 ≤ rest → LeftOf out rest whole → b ≡ rest % 128 + 128
+    → out' ≡ out ++ b ∷ [] → LeftOf out' (rest / 128) whole
 left_next out out' rest b whole high h e f = from h.bytes h.small h.is
   where
     from : (k : ℕ) → rest < 128 * 128 ^ k → out ++ varint_within k rest ≡ whole → LeftOf out' (rest / 128) whole
@@ -25,7 +26,8 @@ left_next out out' rest b whole high h e f = from h.bytes h.small h.is
         record {
           bytes = k;
           small = omega (arith, rw pow-suc at small);
-          is = ap (λ (t : List ℕ). t ++ varint_within k (rest / 128)) f ∙ append_assoc out (b ∷ []) (varint_within k (rest / 128)) ∙ ap (λ (t : List ℕ). out ++ t) (sym step) ∙ is;
+          is = ap (λ (t : List ℕ). t ++ varint_within k (rest / 128)) f ∙ append_assoc out (b ∷ []) (varint_within k (rest / 128))
+              ∙ ap (λ (t : List ℕ). out ++ t) (sym step) ∙ is;
         }
 
 pub left_last : (out out' : List ℕ) (rest : ℕ) (whole : List ℕ) → rest < 128 → LeftOf out rest whole → out' ≡ out ++ rest ∷ [] → out' ≡ whole

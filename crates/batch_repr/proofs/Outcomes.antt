@@ -20,9 +20,12 @@ memory_or P Q (faults.UnknownKind at kind) h p = h (faults.UnknownKind at kind) 
 memory_or P Q (faults.Count said found) h p = h (faults.Count said found) p
 memory_or P Q (faults.SeqRange first) h p = h (faults.SeqRange first) p
 
-pub is_other_count : (bytes : List ℕ) (entries : List Entry) (said found : ℕ) → Splits bytes entries [] → said ≡ count_said bytes → found ≡ count_of entries → said ≢ found → IsFirstFault bytes (faults.Count said found)
+pub is_other_count : (bytes : List ℕ) (entries : List Entry) (said found : ℕ) → Splits bytes entries [] → said ≡ count_said bytes
+    → found ≡ count_of entries → said ≢ found → IsFirstFault bytes (faults.Count said found)
 is_other_count bytes entries said found splits p q ne = rw (p, q) (other_count entries splits (λ e. ne (p ∙ e ∙ sym q)))
 
-pub is_past : (bytes : List ℕ) (entries : List Entry) (first said found : ℕ) → Splits bytes entries [] → first ≡ first_said bytes → said ≡ count_said bytes → found ≡ count_of entries → said ≡ found → NUMBER_MAX < first + found → IsFirstFault bytes (faults.SeqRange first)
+pub is_past : (bytes : List ℕ) (entries : List Entry) (first said found : ℕ) → Splits bytes entries [] → first ≡ first_said bytes
+    → said ≡ count_said bytes → found ≡ count_of entries → said ≡ found → NUMBER_MAX < first + found
+    → IsFirstFault bytes (faults.SeqRange first)
 is_past bytes entries first said found splits f p q e past =
     rw f (past_numbers entries splits (sym p ∙ e ∙ q) (omega (arith, f, q, past)))

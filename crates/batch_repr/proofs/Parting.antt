@@ -14,7 +14,8 @@ long text string rest before = omega (arith, ap length before.1, length-append b
 pub has_room : (text string rest : List ℕ) → StandsBefore text string rest → length string ≤ length text - length rest
 has_room text string rest before = omega (arith, long text string rest before)
 
-pub part_is : (text string rest : List ℕ) → StandsBefore text string rest → slice_range text (length text - length rest - length string) (length text - length rest) ≡ string
+pub part_is : (text string rest : List ℕ) → StandsBefore text string rest
+    → slice_range text (length text - length rest - length string) (length text - length rest) ≡ string
 part_is text string rest before =
     let begins : length text - length rest - length string ≡ length before.0 = omega (arith, long text string rest before) in
     let takes : length text - length rest - length before.0 ≡ length string = omega (arith, long text string rest before) in
@@ -27,7 +28,8 @@ pub ends_after_one : (text : List ℕ) (byte : ℕ) (bytes rest : List ℕ) → 
 ends_after_one text byte bytes rest ends e = ends_after text (byte ∷ []) rest (ends.0, ends.1 ∙ ap (λ (b : List ℕ). ends.0 ++ b) e)
 
 -- The text ends with what a string was read from, so it ends with the string and what is left.
-pub string_before : (text : List ℕ) (whole entry limit : ℕ) (bytes string rest : List ℕ) → EndsWith text bytes → IsBytes bytes → string_at whole entry limit bytes ≡ Ok (string, rest) → StandsBefore text string rest
+pub string_before : (text : List ℕ) (whole entry limit : ℕ) (bytes string rest : List ℕ) → EndsWith text bytes → IsBytes bytes
+    → string_at whole entry limit bytes ≡ Ok (string, rest) → StandsBefore text string rest
 string_before text whole entry limit bytes string rest ends fits e =
     let t = string_takes whole entry limit bytes string rest fits e in
     let regrouped : bytes ≡ t.is.len ++ (string ++ rest) = t.parts ∙ ap (λ (b : List ℕ). b ++ rest) t.is.is ∙ append_assoc t.is.len string rest in

@@ -29,7 +29,11 @@ one n most low some = record { varint_is = low; short = omega arith; value = ome
 
 longer : (b high most : ℕ) (bytes : List ℕ) → 128 ≤ b → b < 256 → Shape bytes most high → Shape (b ∷ bytes) (suc most) (b % 128 + 128 * high)
 longer b high most [] h l s = absurd s.varint_is
-longer b high most (x ∷ bytes) h l s = record { varint_is = (h, l, s.varint_is); short = omega (arith, s.short); value = ap (λ (m : ℕ). b % 128 + 128 * m) s.value }
+longer b high most (x ∷ bytes) h l s = record {
+  varint_is = (h, l, s.varint_is);
+  short = omega (arith, s.short);
+  value = ap (λ (m : ℕ). b % 128 + 128 * m) s.value;
+}
 
 shape : (k n : ℕ) → n < 128 * 128 ^ k → Shape (varint_within k n) (suc k) n
 shape zero n h = one n 1 (omega arith) (omega arith)
@@ -54,7 +58,13 @@ byte_string_spells text h = record { len = varint (length text); number = varint
 
 entry_spells : (entry : Entry) → IsWithinLimits entry → SpellsEntry (written_entry entry) entry
 unfolding written_entry
-entry_spells (Set key value) h = (byte_string key, byte_string value, byte_string_spells key (omega (arith, h.0)), byte_string_spells value (omega (arith, h.1)), refl)
+entry_spells (Set key value) h = (
+  byte_string key,
+  byte_string value,
+  byte_string_spells key (omega (arith, h.0)),
+  byte_string_spells value (omega (arith, h.1)),
+  refl,
+)
 entry_spells (Delete key) h = (byte_string key, byte_string_spells key (omega arith), refl)
 entry_spells (Note bytes) h = (byte_string bytes, byte_string_spells bytes (omega arith), refl)
 
@@ -93,7 +103,8 @@ header_stands bytes batch count w = omega (arith, ap length w.written_is)
 
 pub first_stands : (bytes : List ℕ) (batch : Batch) (count : ℕ) → IsWritten bytes batch count → from_le_bytes w64 (take 8 bytes) ≡ batch.first
 unfolding written
-first_stands bytes batch count w = ap (λ (t : List ℕ). from_le_bytes w64 (take 8 t)) w.written_is ∙ from_le_bytes-to_le_bytes_8 batch.first (omega (arith, w.numbers))
+first_stands bytes batch count w = ap (λ (t : List ℕ). from_le_bytes w64 (take 8 t)) w.written_is
+    ∙ from_le_bytes-to_le_bytes_8 batch.first (omega (arith, w.numbers))
 
 -- ---- a draft
 
@@ -115,18 +126,27 @@ pub draft_none : (bytes : List ℕ) → bytes ≡ replicate 12 0 → IsDraft byt
 unfolding written_entries
 draft_none bytes e = record { spelled = e; limits = λ k d h. absurd (omega arith); size = omega (arith, ap length e) }
 
-pub draft_written : (bytes bytes' : List ℕ) (entries : List Entry) (first count : ℕ) → IsDraft bytes entries → count ≡ count_of entries → 0 < count → first + count_of entries ≤ NUMBER_MAX
+pub draft_written : (bytes bytes' : List ℕ) (entries : List Entry) (first count : ℕ) → IsDraft bytes entries → count ≡ count_of entries
+    → 0 < count → first + count_of entries ≤ NUMBER_MAX
     → bytes' ≡ to_le_bytes w64 first ++ to_le_bytes w32 count ++ drop 12 bytes → IsWritten bytes' (record { first = first; entries = entries }) count
 unfolding written
 draft_written bytes bytes' entries first count d e some within f =
     let body : drop 12 bytes ≡ written_entries entries = ap (drop 12) d.spelled ∙ drop_at (replicate 12 0) (written_entries entries) 12 refl in
     let is : bytes' ≡ to_le_bytes w64 first ++ to_le_bytes w32 (count_of entries) ++ written_entries entries =
-    f ∙ ap (λ (t : List ℕ). to_le_bytes w64 first ++ to_le_bytes w32 count ++ t) body ∙ ap (λ (n : ℕ). to_le_bytes w64 first ++ to_le_bytes w32 n ++ written_entries entries) e in
+    f ∙ ap (λ (t : List ℕ). to_le_bytes w64 first ++ to_le_bytes w32 count ++ t) body
+    ∙ ap (λ (n : ℕ). to_le_bytes w64 first ++ to_le_bytes w32 n ++ written_entries entries) e in
     record {
       written_is = is;
       count_is = e;
       some = some;
       numbers = omega arith;
       limits = d.limits;
-      size = omega (arith, d.size, ap length d.spelled, ap length is, length-append (replicate 12 0) (written_entries entries), length-append (to_le_bytes w64 first ++ to_le_bytes w32 (count_of entries)) (written_entries entries));
+      size = omega (
+        arith,
+        d.size,
+        ap length d.spelled,
+        ap length is,
+        length-append (replicate 12 0) (written_entries entries),
+        length-append (to_le_bytes w64 first ++ to_le_bytes w32 (count_of entries)) (written_entries entries),
+      );
     }

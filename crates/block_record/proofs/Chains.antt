@@ -12,14 +12,16 @@ use Rattle.block_record.specs.ReadOut.{Link, MayFollow, leaves_open, next_place,
 use Rattle.block_record.proofs.Fragments.{chunk_len}
 
 -- A block, cut out where the segment may end before it or in it.
-pub block_is : (bytes : List ℕ) (front m n : ℕ) → m ≡ min front (length bytes) → n ≡ min (length bytes - m) 32768 → take n (take (length bytes - m) (drop m bytes)) ≡ take 32768 (drop front bytes)
+pub block_is : (bytes : List ℕ) (front m n : ℕ) → m ≡ min front (length bytes) → n ≡ min (length bytes - m) 32768
+    → take n (take (length bytes - m) (drop m bytes)) ≡ take 32768 (drop front bytes)
 block_is bytes front m n e f =
     let back : drop m bytes ≡ drop front bytes = ap (λ (k : ℕ). drop k bytes) e ∙ drop_min front bytes in
     let len : n ≡ min 32768 (length (drop m bytes)) = omega (arith, length-drop m bytes) in
     ap (take n) (take_rest bytes m) ∙ ap (λ (k : ℕ). take k (drop m bytes)) len ∙ take_min 32768 (drop m bytes) ∙ ap (take 32768) back
 
 -- What stands in the block stands in the segment.
-cut_out : (bytes block : List ℕ) (front from n : ℕ) → block ≡ take 32768 (drop front bytes) → from + n ≤ 32768 → take n (drop from block) ≡ take n (drop (front + from) bytes)
+cut_out : (bytes block : List ℕ) (front from n : ℕ) → block ≡ take 32768 (drop front bytes) → from + n ≤ 32768
+    → take n (drop from block) ≡ take n (drop (front + from) bytes)
 cut_out bytes block front from n e fits =
     let back : List ℕ = drop front bytes in
     let room : 32768 ≡ from + (32768 - from) = omega arith in
@@ -28,13 +30,15 @@ cut_out bytes block front from n e fits =
     ∙ take-take n (32768 - from) (drop from back) (omega arith)
     ∙ ap (take n) (drop-drop from front bytes)
 
-same_bytes : (bytes block : List ℕ) (at n : ℕ) → block ≡ take 32768 (drop (at - at % 32768) bytes) → at % 32768 + n ≤ 32768 → take n (drop (at % 32768) block) ≡ take n (drop at bytes)
+same_bytes : (bytes block : List ℕ) (at n : ℕ) → block ≡ take 32768 (drop (at - at % 32768) bytes) → at % 32768 + n ≤ 32768
+    → take n (drop (at % 32768) block) ≡ take n (drop at bytes)
 same_bytes bytes block at n e fits =
     let place : at - at % 32768 + at % 32768 ≡ at = omega arith in
     cut_out bytes block (at - at % 32768) (at % 32768) n e fits ∙ ap (λ (m : ℕ). take n (drop m bytes)) place
 
 -- A payload, cut out of the block and of the segment.
-pub payload_in_segment : (bytes block : List ℕ) (at from to : ℕ) → block ≡ take 32768 (drop (at - at % 32768) bytes) → from ≡ at % 32768 + 11 → from ≤ to → to ≤ length block
+pub payload_in_segment : (bytes block : List ℕ) (at from to : ℕ) → block ≡ take 32768 (drop (at - at % 32768) bytes)
+    → from ≡ at % 32768 + 11 → from ≤ to → to ≤ length block
     → slice_range block from to ≡ slice_range bytes (at + 11) (at - at % 32768 + to)
 payload_in_segment bytes block at from to e place order within =
     let len : length block ≤ 32768 = omega (arith, ap length e, length-take 32768 (drop (at - at % 32768) bytes)) in
@@ -55,13 +59,21 @@ pub in_block : (bytes block : List ℕ) (at log : ℕ) (kind : ChunkKind) (paylo
     → ChunkAt bytes at log kind payload → ChunkAt block (at % 32768) log kind payload
 in_block bytes block at log kind payload e h =
     let all : List ℕ = chunk kind log payload in
-    record { stands = record { is = same_bytes bytes block at (length all) e (omega (arith, h.within, chunk_len kind log payload)) ∙ h.stands.is }; within = omega (arith, h.within) }
+    record {
+      stands = record {
+        is = same_bytes bytes block at (length all) e (omega (arith, h.within, chunk_len kind log payload))
+            ∙ h.stands.is;
+      };
+      within = omega (arith, h.within);
+    }
 
-pub within_segment : {bytes : List ℕ} {at log : ℕ} {kind : ChunkKind} {payload : List ℕ} → ChunkAt bytes at log kind payload → at + 11 + length payload ≤ length bytes
+pub within_segment : {bytes : List ℕ} {at log : ℕ} {kind : ChunkKind} {payload : List ℕ} → ChunkAt bytes at log kind payload
+    → at + 11 + length payload ≤ length bytes
 within_segment h = (fields_of h.stands).fits
 
 -- A longest chain after a chunk that may follow is one with that chunk in front.
-one_longer : {bytes : List ℕ} {log at : ℕ} {is_open : Bool} (link : Link) (links : List Link) → MayFollow is_open link.kind → ChunkAt bytes (next_place at) log link.kind link.payload
+one_longer : {bytes : List ℕ} {log at : ℕ} {is_open : Bool} (link : Link) (links : List Link) → MayFollow is_open link.kind
+    → ChunkAt bytes (next_place at) log link.kind link.payload
     → IsLongestChain bytes log (chunk_end (next_place at) link) (leaves_open link.kind) links → IsLongestChain bytes log at is_open (link ∷ links)
 one_longer {bytes} {log} {at} {is_open} link links follows stands h = record { chain = (follows, stands, h.chain); longest = most }
   where
@@ -93,15 +105,23 @@ pub all_read : (bytes : List ℕ) (log at : ℕ) (is_open : Bool) (so_far : Spel
     → ((kind : ChunkKind) (payload : List ℕ) → MayFollow is_open kind → ChunkAt bytes (next_place at) log kind payload → ⊥)
     → torn ≡ list_any (λ b. not (b == 0)) (drop so_far.ends_at bytes) → ReadsOut bytes log so_far.records so_far.ends_at torn
 all_read bytes log at is_open so_far torn l none e =
-    let found : (whole : List Link) × IsLongestChain bytes log 0 false whole × (spelled_from 0 nothing whole ≡ so_far) = l.done [] (record { chain = tt; longest = most }) in
-    record { links = found.0; longest = found.1; records_are = ap (λ (s : Spelled). s.records) (sym found.2); end_is = ap (λ (s : Spelled). s.ends_at) (sym found.2); torn_is = e }
+    let found : (whole : List Link) × IsLongestChain bytes log 0 false whole
+    × (spelled_from 0 nothing whole ≡ so_far) = l.done [] (record { chain = tt; longest = most }) in
+    record {
+      links = found.0;
+      longest = found.1;
+      records_are = ap (λ (s : Spelled). s.records) (sym found.2);
+      end_is = ap (λ (s : Spelled). s.ends_at) (sym found.2);
+      torn_is = e;
+    }
   where
     most : (others : List Link) → IsChain bytes log at is_open others → length others ≤ 0
     most [] c = omega arith
     most (other ∷ others) c = absurd (none other.kind other.payload c.0 c.1)
 
 -- Records end where chunks do.
-pub ends_within : (start : ℕ) (so_far : Spelled) (kind : ChunkKind) (payload : List ℕ) → so_far.ends_at ≤ start → (after_link start so_far (record { kind = kind; payload = payload })).ends_at ≤ start + 11 + length payload
+pub ends_within : (start : ℕ) (so_far : Spelled) (kind : ChunkKind) (payload : List ℕ) → so_far.ends_at ≤ start
+    → (after_link start so_far (record { kind = kind; payload = payload })).ends_at ≤ start + 11 + length payload
 ends_within start so_far Full payload h = omega arith
 ends_within start so_far First payload h = omega arith
 ends_within start so_far Middle payload h = omega arith
@@ -112,20 +132,24 @@ not_true false e h = absurd cc
 not_true true e h = absurd cc
 
 -- The one chunk that stands there may not follow.
-pub refused : {bytes : List ℕ} (at : ℕ) {next log : ℕ} (is_open : Bool) {follows : Bool} {found : ChunkKind} {part : List ℕ} → next ≡ next_place at → ChunkAt bytes next log found part
-    → IsTrue follows ↔ MayFollow is_open found → follows ≡ false → (kind : ChunkKind) (payload : List ℕ) → MayFollow is_open kind → ChunkAt bytes (next_place at) log kind payload → ⊥
+pub refused : {bytes : List ℕ} (at : ℕ) {next log : ℕ} (is_open : Bool) {follows : Bool} {found : ChunkKind} {part : List ℕ}
+    → next ≡ next_place at → ChunkAt bytes next log found part
+    → IsTrue follows ↔ MayFollow is_open found → follows ≡ false → (kind : ChunkKind) (payload : List ℕ) → MayFollow is_open kind
+    → ChunkAt bytes (next_place at) log kind payload → ⊥
 refused {bytes} at {next} {log} is_open {follows} {found} {part} place stands tells wrong kind payload may h =
     let here : ChunkAt bytes (next_place at) log found part = subst (λ (n : ℕ). ChunkAt bytes n log found part) place stands in
     not_true follows wrong (tells.1 (subst (MayFollow is_open) (one_chunk h here).0 may))
 
 -- A turn of the loop over chunks.
-pub read_more : {bytes : List ℕ} {log : ℕ} (at start : ℕ) {is_open opened : Bool} {so_far more : Spelled} (kind : ChunkKind) (payload : List ℕ) → LeftToRead bytes log at is_open so_far
+pub read_more : {bytes : List ℕ} {log : ℕ} (at start : ℕ) {is_open opened : Bool} {so_far more : Spelled} (kind : ChunkKind)
+    (payload : List ℕ) → LeftToRead bytes log at is_open so_far
     → MayFollow is_open kind → ChunkAt bytes (next_place at) log kind payload → start ≡ next_place at → opened ≡ leaves_open kind
     → more ≡ after_link start so_far (record { kind = kind; payload = payload }) → LeftToRead bytes log (start + 11 + length payload) opened more
 read_more {bytes} {log} at start {is_open} {opened} {so_far} {more} kind payload l follows stands place f g =
     let link : Link = record { kind = kind; payload = payload } in
     let next : LeftToRead bytes log (start + 11 + length payload) (leaves_open kind) (after_link start so_far link) =
-    subst (λ (n : ℕ). LeftToRead bytes log (n + 11 + length payload) (leaves_open kind) (after_link n so_far link)) (sym place) (left_next link l follows stands) in
+    subst (λ (n : ℕ). LeftToRead bytes log (n + 11 + length payload) (leaves_open kind) (after_link n so_far link)) (sym place)
+    (left_next link l follows stands) in
     let told : LeftToRead bytes log (start + 11 + length payload) opened (after_link start so_far link) =
     subst (λ (b : Bool). LeftToRead bytes log (start + 11 + length payload) b (after_link start so_far link)) (sym f) next in
     subst (LeftToRead bytes log (start + 11 + length payload) opened) (sym g) told

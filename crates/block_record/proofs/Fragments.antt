@@ -21,7 +21,8 @@ no_blocks len none = omega arith
 
 -- What one block has room for is the last fragment.
 pub last_part : (log : ℕ) (bytes : List ℕ) → 0 < length bytes → length bytes ≤ 32757 → later_chunks log (later_fragments bytes) ≡ chunk Last log bytes
-last_part log bytes some small = ap (λ (n : ℕ). later_chunks log (cut n bytes)) (one_block (length bytes) some small) ∙ ap (chunk Last log) (take_all 32757 bytes small)
+last_part log bytes some small = ap (λ (n : ℕ). later_chunks log (cut n bytes)) (one_block (length bytes) some small)
+    ∙ ap (chunk Last log) (take_all 32757 bytes small)
 
 middle_of : (log n : ℕ) (part rest : List ℕ) → 0 < n → later_chunks log (part ∷ cut n rest) ≡ chunk Middle log part ++ later_chunks log (cut n rest)
 middle_of log zero part rest some = absurd (omega arith)
@@ -94,7 +95,8 @@ room_behind at = from (nat_lt (left_in_block at) 11) refl
     from false e = rw e (omega (arith, ltb-false (left_in_block at) 11 e))
 
 -- the length of a framed record, from how many zeros are after it
-pub framed_len_is : (log at n : ℕ) (bytes : List ℕ) → padding (at + length (chunks log (fragments at bytes))) ≡ replicate n 0 → length (framed log at bytes) ≡ length (chunks log (fragments at bytes)) + n
+pub framed_len_is : (log at n : ℕ) (bytes : List ℕ) → padding (at + length (chunks log (fragments at bytes))) ≡ replicate n 0
+    → length (framed log at bytes) ≡ length (chunks log (fragments at bytes)) + n
 unfolding framed
 framed_len_is log at n bytes zeros =
     let all : List ℕ = chunks log (fragments at bytes) in
@@ -119,7 +121,8 @@ pub last_block : (log : ℕ) (out out' rest whole : List ℕ) → 0 < length res
     → out ++ later_chunks log (later_fragments rest) ≡ whole → out' ≡ out ++ chunk Last log rest → out' ≡ whole
 last_block log out out' rest whole some small h e = e ∙ ap (λ (t : List ℕ). out ++ t) (sym (last_part log rest some small)) ∙ h
 
-pub in_blocks : (log at room : ℕ) (out one two bytes first rest : List ℕ) → room ≡ room_at at → room < length bytes → first ≡ take room bytes → rest ≡ drop room bytes
+pub in_blocks : (log at room : ℕ) (out one two bytes first rest : List ℕ) → room ≡ room_at at → room < length bytes
+    → first ≡ take room bytes → rest ≡ drop room bytes
     → one ≡ out ++ chunk First log first → two ≡ one ++ later_chunks log (later_fragments rest) → two ≡ out ++ chunks log (fragments at bytes)
 in_blocks log at room out one two bytes first rest r long f g e h =
     h ∙ rw (e, f, g, r)

@@ -15,7 +15,8 @@ framed_in_block log at bytes =
     ap (λ (t : List ℕ). t ++ padding (at % 32768 + length t)) same
     ∙ ap (λ (n : ℕ). all ++ (if nat_lt n 11 then replicate n 0 else [])) left
 
-laid-push : (log at : ℕ) (records : List (List ℕ)) (bytes : List ℕ) → laid log at (records ++ bytes ∷ []) ≡ laid log at records ++ framed log (at + length (laid log at records)) bytes
+laid-push : (log at : ℕ) (records : List (List ℕ)) (bytes : List ℕ)
+    → laid log at (records ++ bytes ∷ []) ≡ laid log at records ++ framed log (at + length (laid log at records)) bytes
 laid-push log at [] bytes = append-nil (framed log at bytes) ∙ ap (λ (n : ℕ). framed log n bytes) (sym (add-zero at))
 laid-push log at (first ∷ records) bytes =
     let one : List ℕ = framed log at first in
@@ -25,13 +26,15 @@ laid-push log at (first ∷ records) bytes =
     ∙ sym (append_assoc one others (framed log (at + length one + length others) bytes))
     ∙ ap (λ (n : ℕ). (one ++ others) ++ framed log n bytes) place
 
-pub one_more : (log : ℕ) (records : List (List ℕ)) (bytes : List ℕ) → laid log 0 (records ++ bytes ∷ []) ≡ laid log 0 records ++ framed log (length (laid log 0 records) % 32768) bytes
+pub one_more : (log : ℕ) (records : List (List ℕ)) (bytes : List ℕ)
+    → laid log 0 (records ++ bytes ∷ []) ≡ laid log 0 records ++ framed log (length (laid log 0 records) % 32768) bytes
 one_more log records bytes =
     let place : 0 + length (laid log 0 records) ≡ length (laid log 0 records) = omega arith in
     laid-push log 0 records bytes ∙ ap (λ (n : ℕ). laid log 0 records ++ framed log n bytes) place
     ∙ ap (λ (t : List ℕ). laid log 0 records ++ t) (sym (framed_in_block log (length (laid log 0 records)) bytes))
 
-pub laid-append : (log at : ℕ) (first others : List (List ℕ)) → laid log at (first ++ others) ≡ laid log at first ++ laid log (at + length (laid log at first)) others
+pub laid-append : (log at : ℕ) (first others : List (List ℕ)) → laid log at (first ++ others) ≡ laid log at first ++ laid log
+    (at + length (laid log at first)) others
 laid-append log at [] others = ap (λ (n : ℕ). laid log n others) (sym (add-zero at))
 laid-append log at (bytes ∷ first) others =
     let one : List ℕ = framed log at bytes in

@@ -21,7 +21,8 @@ behind_later old new at later le e =
     ap (λ (k : ℕ). drop k new) (sym place) ∙ sym (drop-drop more at new) ∙ ap (drop more) e ∙ drop-drop more at old ∙ ap (λ (k : ℕ). drop k old) place
 
 -- A chunk that stands there stands in what was there before.
-pub chunk_behind : {kind : ChunkKind} {payload : List ℕ} {log : ℕ} (old new : List ℕ) (at later : ℕ) → at ≤ later → drop at new ≡ drop at old → ChunkAt new later log kind payload → ChunkAt old later log kind payload
+pub chunk_behind : {kind : ChunkKind} {payload : List ℕ} {log : ℕ} (old new : List ℕ) (at later : ℕ) → at ≤ later
+    → drop at new ≡ drop at old → ChunkAt new later log kind payload → ChunkAt old later log kind payload
 chunk_behind {kind} {payload} {log} old new at later le e h =
     record { stands = record { is = ap (take (length (chunk kind log payload))) (sym (behind_later old new at later le e)) ∙ h.stands.is }; within = h.within }
 
@@ -41,23 +42,28 @@ chunk_tears {bytes} {log} {kind} {payload} ends_at at le h =
     let f : FieldsAt bytes at log kind payload = fields_of h.stands in
     let i : ℕ = at + 6 - ends_at in
     let place : ends_at + i ≡ at + 6 = omega arith in
-    let byte : get_or (drop ends_at bytes) i 0 ≡ type_byte kind = get_or-drop ends_at bytes i 0 ∙ ap (λ (k : ℕ). get_or bytes k 0) place ∙ byte_read f.type_is in
-    list_any_at (λ (b : ℕ). not (b == 0)) (drop ends_at bytes) i 0 (omega (arith, f.fits, length-drop ends_at bytes)) (ap (λ (b : ℕ). not (b == 0)) byte ∙ some_type kind)
+    let byte : get_or (drop ends_at bytes) i 0 ≡ type_byte kind = get_or-drop ends_at bytes i 0 ∙ ap (λ (k : ℕ). get_or bytes k 0) place
+    ∙ byte_read f.type_is in
+    list_any_at (λ (b : ℕ). not (b == 0)) (drop ends_at bytes) i 0 (omega (arith, f.fits, length-drop ends_at bytes))
+    (ap (λ (b : ℕ). not (b == 0)) byte ∙ some_type kind)
 
 -- The last record ends here, or one is open and not all bytes after the last are zero.
 abbrev pub EndsOrTears : List ℕ → ℕ → ℕ → Bool → Type 0
 EndsOrTears bytes at ends_at false = ends_at ≡ at
 EndsOrTears bytes at ends_at true = list_any (λ (b : ℕ). not (b == 0)) (drop ends_at bytes) ≡ true
 
-tears_after : {bytes : List ℕ} {log : ℕ} (start end : ℕ) (so_far : Spelled) (kind : ChunkKind) (payload : List ℕ) → so_far.ends_at ≤ start → ChunkAt bytes start log kind payload
+tears_after : {bytes : List ℕ} {log : ℕ} (start end : ℕ) (so_far : Spelled) (kind : ChunkKind) (payload : List ℕ) → so_far.ends_at ≤ start
+    → ChunkAt bytes start log kind payload
     → start + 11 + length payload ≡ end → EndsOrTears bytes end (after_link start so_far (record { kind = kind; payload = payload })).ends_at (leaves_open kind)
 tears_after start end so_far Full payload le h e = e
 tears_after start end so_far First payload le h e = chunk_tears so_far.ends_at start le h
 tears_after start end so_far Middle payload le h e = chunk_tears so_far.ends_at start le h
 tears_after start end so_far Last payload le h e = e
 
-pub tears_more : {bytes : List ℕ} {log : ℕ} (start end : ℕ) (so_far more : Spelled) (kind : ChunkKind) (payload : List ℕ) (opened : Bool) → so_far.ends_at ≤ start → ChunkAt bytes start log kind payload
-    → start + 11 + length payload ≡ end → more ≡ after_link start so_far (record { kind = kind; payload = payload }) → opened ≡ leaves_open kind → EndsOrTears bytes end more.ends_at opened
+pub tears_more : {bytes : List ℕ} {log : ℕ} (start end : ℕ) (so_far more : Spelled) (kind : ChunkKind) (payload : List ℕ) (opened : Bool)
+    → so_far.ends_at ≤ start → ChunkAt bytes start log kind payload
+    → start + 11 + length payload ≡ end → more ≡ after_link start so_far (record { kind = kind; payload = payload })
+    → opened ≡ leaves_open kind → EndsOrTears bytes end more.ends_at opened
 tears_more start end so_far more kind payload opened le h e is opens = rw (is, opens) (tears_after start end so_far kind payload le h e)
 
 -- Whether a byte after the last record is not zero, as the walk can tell at its end.
@@ -75,9 +81,12 @@ pub record Walked (old : List ℕ) (log at : ℕ) (is_open : Bool) (now : Joined
   pub ended : now.spelled.ends_at ≤ at
   pub torn : EndsOrTears old at now.spelled.ends_at is_open
 
-pub walked_more : {old seen : List ℕ} {log at : ℕ} {is_open : Bool} {now : Joined} (more : Joined) (kind : ChunkKind) (start end : ℕ) (opened : Bool) → Walked old log at is_open now → seen ≡ now.bytes
-    → MayFollow is_open kind → ChunkAt seen (next_place at) log kind (fragment seen (next_place at) end) → (start ≡ next_place at) × (start + 11 ≤ end) × (end ≤ length seen)
-    → SameAfter end now.bytes more.bytes → more.reach ≤ end → more.spelled ≡ after_link start now.spelled (record { kind = kind; payload = fragment now.bytes start end })
+pub walked_more : {old seen : List ℕ} {log at : ℕ} {is_open : Bool} {now : Joined} (more : Joined) (kind : ChunkKind) (start end : ℕ)
+    (opened : Bool) → Walked old log at is_open now → seen ≡ now.bytes
+    → MayFollow is_open kind → ChunkAt seen (next_place at) log kind (fragment seen (next_place at) end) → (start ≡ next_place at)
+    × (start + 11 ≤ end) × (end ≤ length seen)
+    → SameAfter end now.bytes more.bytes → more.reach ≤ end → more.spelled ≡ after_link start now.spelled
+    (record { kind = kind; payload = fragment now.bytes start end })
     → opened ≡ leaves_open kind → Walked old log end opened more
 walked_more {old} {seen} {log} {at} {is_open} {now} more kind start end opened w e follows stands place same reach is opens =
     let payload : List ℕ = fragment now.bytes start end in
@@ -92,7 +101,11 @@ walked_more {old} {seen} {log} {at} {is_open} {now} more kind start end opened w
     let below : now.spelled.ends_at ≤ start = omega (arith, w.ended, place.0, not_before at) in
     record {
       left = subst (λ (n : ℕ). LeftToRead old log n opened more.spelled) len (read_more at start kind payload w.left follows found place.0 opens is);
-      same = record { len = same.len ∙ w.same.len; behind = same.behind ∙ behind_later old now.bytes at end (omega (arith, place.0, place.1, not_before at)) w.same.behind };
+      same = record {
+        len = same.len ∙ w.same.len;
+        behind = same.behind
+            ∙ behind_later old now.bytes at end (omega (arith, place.0, place.1, not_before at)) w.same.behind;
+      };
       within = omega (arith, within, same.len);
       reach = reach;
       ended = subst (λ (n : ℕ). more.spelled.ends_at ≤ n) len (ends_more at start now.spelled more.spelled kind payload w.ended place.0 is);

@@ -39,7 +39,8 @@ chunk_end start link = start + HEADER + length link.payload
 abbrev pub IsChain : List ℕ → ℕ → ℕ → Bool → List Link → Type 0
 IsChain bytes log at is_open [] = Unit {0}
 IsChain bytes log at is_open (link ∷ links) =
-    MayFollow is_open link.kind × ChunkAt bytes (next_place at) log link.kind link.payload × IsChain bytes log (chunk_end (next_place at) link) (leaves_open link.kind) links
+    MayFollow is_open link.kind × ChunkAt bytes (next_place at) log link.kind link.payload
+    × IsChain bytes log (chunk_end (next_place at) link) (leaves_open link.kind) links
 
 -- No chain from this place on is longer.
 pub record IsLongestChain (bytes : List ℕ) (log at : ℕ) (is_open : Bool) (links : List Link) : Type 0 where

@@ -8,7 +8,8 @@ use Rattle.block_record.specs.ReadOut.{bytes_of, NoChunkAt, ChunksStandIn, Reads
 -- Where records are laid from a segment's front on, the next one is framed at their length in its block.
 abbrev pub NextRecordIsLaidAfter : Type 0
 NextRecordIsLaidAfter =
-    (log : ℕ) (records : List (List ℕ)) (bytes : List ℕ) → laid log 0 (records ++ bytes ∷ []) ≡ laid log 0 records ++ framed log (length (laid log 0 records) % BLOCK) bytes
+    (log : ℕ) (records : List (List ℕ)) (bytes : List ℕ) → laid log 0 (records ++ bytes ∷ []) ≡ laid log 0 records ++ framed log
+    (length (laid log 0 records) % BLOCK) bytes
 
 -- Records that were laid are read back, whatever is after them, if no chunk of the log stands right there.
 abbrev pub LaidRecordsAreRead : Type 0

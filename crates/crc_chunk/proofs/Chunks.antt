@@ -28,7 +28,8 @@ pub record FieldsAt (bytes : List ℕ) (at log : ℕ) (kind : ChunkKind) (payloa
   pub log_is : StandsAt bytes (at + 7) (to_le_bytes w32 log)
   pub fits : at + 11 + length payload ≤ length bytes
 
-pub fields_of : {bytes : List ℕ} {at log : ℕ} {kind : ChunkKind} {payload : List ℕ} → StandsAt bytes at (chunk kind log payload) → FieldsAt bytes at log kind payload
+pub fields_of : {bytes : List ℕ} {at log : ℕ} {kind : ChunkKind} {payload : List ℕ} → StandsAt bytes at (chunk kind log payload)
+    → FieldsAt bytes at log kind payload
 unfolding chunk covered
 fields_of {bytes} {at} {log} {kind} {payload} h =
     let crc : List ℕ = to_le_bytes w32 (stored kind log payload) in
@@ -58,16 +59,19 @@ same_32 {bytes} {at} {m} {n} hm hn p q =
 
 -- one byte at one place
 pub byte_read : {bytes : List ℕ} {at b : ℕ} → StandsAt bytes at (b ∷ []) → get_or bytes at 0 ≡ b
-byte_read {bytes} {at} {b} h = ap (λ (i : ℕ). get_or bytes i 0) (sym (add-zero at)) ∙ sym (get_or-drop at bytes 0 0) ∙ sym (get_or-take 1 (drop at bytes) 0 0 (omega arith)) ∙ ap (λ (t : List ℕ). get_or t 0 0) h.is
+byte_read {bytes} {at} {b} h = ap (λ (i : ℕ). get_or bytes i 0) (sym (add-zero at)) ∙ sym (get_or-drop at bytes 0 0)
+    ∙ sym (get_or-take 1 (drop at bytes) 0 0 (omega arith)) ∙ ap (λ (t : List ℕ). get_or t 0 0) h.is
 
 pub byte_stands : (bytes : List ℕ) (at b : ℕ) → at < length bytes → get_or bytes at 0 ≡ b → StandsAt bytes at (b ∷ [])
 byte_stands bytes at b lt e = stands_from bytes at (b ∷ []) (drop (suc at) bytes) (drop-cons bytes at 0 lt ∙ ap (λ (t : ℕ). t ∷ drop (suc at) bytes) e)
 
 -- What the checksum covers, cut out.
-pub covered_is : (bytes : List ℕ) (at to log : ℕ) (kind : ChunkKind) (payload : List ℕ) → StandsAt bytes (at + 6) (covered kind log payload) → to ≡ at + 11 + length payload → to ≤ length bytes → slice_range bytes (at + 6) to ≡ covered kind log payload
+pub covered_is : (bytes : List ℕ) (at to log : ℕ) (kind : ChunkKind) (payload : List ℕ) → StandsAt bytes (at + 6) (covered kind log payload)
+    → to ≡ at + 11 + length payload → to ≤ length bytes → slice_range bytes (at + 6) to ≡ covered kind log payload
 unfolding covered
 covered_is bytes at to log kind payload h e within =
-    stands_one (stands_range bytes (at + 6) to (omega arith) within) h (omega (arith, length-take (to - (at + 6)) (drop (at + 6) bytes), length-drop (at + 6) bytes))
+    stands_one (stands_range bytes (at + 6) to (omega arith) within) h
+    (omega (arith, length-take (to - (at + 6)) (drop (at + 6) bytes), length-drop (at + 6) bytes))
 
 -- A chunk stands where its fields do.
 pub chunk_from : (bytes : List ℕ) (at to log : ℕ) (kind : ChunkKind) (crc n : ℕ)
@@ -82,9 +86,11 @@ chunk_from bytes at to log kind crc n small e within len lg byte stands sum =
     let ty : StandsAt bytes (at + 6) (type_byte kind ∷ []) = byte_stands bytes (at + 6) (type_byte kind) (omega arith) byte in
     let last : StandsAt bytes (at + 7 + 4) payload = moved (at + 7 + 4) (omega arith) (stands_range bytes (at + 11) to (omega arith) within) in
     let tail : StandsAt bytes (at + 7) (to_le_bytes w32 log ++ payload) = stands_both (to_le_bytes w32 log) payload lg last in
-    let body : StandsAt bytes (at + 6) (covered kind log payload) = stands_both (type_byte kind ∷ []) (to_le_bytes w32 log ++ payload) ty (moved (at + 6 + 1) (omega arith) tail) in
+    let body : StandsAt bytes (at + 6) (covered kind log payload) = stands_both (type_byte kind ∷ []) (to_le_bytes w32 log ++ payload) ty
+    (moved (at + 6 + 1) (omega arith) tail) in
     let same : slice_range bytes (at + 6) to ≡ covered kind log payload = covered_is bytes at to log kind payload body (omega arith) within in
-    let first : StandsAt bytes at (to_le_bytes w32 (stored kind log payload)) = subst (λ (v : ℕ). StandsAt bytes at (to_le_bytes w32 v)) (sym sum ∙ ap (λ (t : List ℕ). masked_of (checksum t)) same) stands in
+    let first : StandsAt bytes at (to_le_bytes w32 (stored kind log payload)) = subst (λ (v : ℕ). StandsAt bytes at (to_le_bytes w32 v))
+    (sym sum ∙ ap (λ (t : List ℕ). masked_of (checksum t)) same) stands in
     let second : StandsAt bytes (at + 4) (to_le_bytes w16 (length payload)) = subst (λ (v : ℕ). StandsAt bytes (at + 4) (to_le_bytes w16 v)) (sym long) len in
     record {
       stands = stands_both (to_le_bytes w32 (stored kind log payload) ++ to_le_bytes w16 (length payload)) (covered kind log payload)
@@ -97,7 +103,9 @@ pub in_two : (x : ℕ) (a b : List ℕ) → after_bits (after_bits x (flat_map b
 in_two x a b = sym (after_bits-append (flat_map bits_of a) x (flat_map bits_of b)) ∙ ap (after_bits x) (sym (flat_map-append bits_of a b))
 
 -- The checksum of what a chunk covers, its head first.
-pub covered_sum : (kind : ChunkKind) (log : ℕ) (payload : List ℕ) → bit_not w32 (after_bits (after_bits 0xFFFFFFFF (flat_map bits_of (type_byte kind ∷ to_le_bytes w32 log))) (flat_map bits_of payload)) ≡ checksum (covered kind log payload)
+pub covered_sum : (kind : ChunkKind) (log : ℕ) (payload : List ℕ)
+    → bit_not w32 (after_bits (after_bits 0xFFFFFFFF (flat_map bits_of (type_byte kind ∷ to_le_bytes w32 log))) (flat_map bits_of payload))
+    ≡ checksum (covered kind log payload)
 unfolding checksum covered
 covered_sum kind log payload = ap (bit_not w32) (in_two 0xFFFFFFFF (type_byte kind ∷ to_le_bytes w32 log) payload)
 
@@ -107,7 +115,8 @@ unfolding chunk covered
 header_is kind log payload crc byte e f = rw (e, f) refl
 
 -- A header and a payload, written one after the other.
-pub put_is : (header payload out : List ℕ) (k : ℕ) → length header ≡ 11 → k ≡ length payload → put_mid 11 k (header ++ drop 11 out) payload ≡ (header ++ payload) ++ drop (11 + length payload) out
+pub put_is : (header payload out : List ℕ) (k : ℕ) → length header ≡ 11 → k ≡ length payload
+    → put_mid 11 k (header ++ drop 11 out) payload ≡ (header ++ payload) ++ drop (11 + length payload) out
 put_is header payload out k h e =
     let front : take 11 (header ++ drop 11 out) ≡ header = take_at header (drop 11 out) 11 h in
     let back : drop k (drop 11 (header ++ drop 11 out)) ≡ drop (11 + length payload) out =

@@ -16,7 +16,8 @@ ROWS_are : ROWS ≡ rows_from 16 (map (over_zeros 8) (range_with_len 0 256))
 unfolding over_zeros rows_from
 ROWS_are = refl
 
-rows_at : (k n : ℕ) (row : List ℕ) (w i j : ℕ) → k < n → length row ≡ w → i < w → j ≡ w * k + i → get_or (rows_from n row) j 0 ≡ over_zeros (8 * k) (get_or row i 0)
+rows_at : (k n : ℕ) (row : List ℕ) (w i j : ℕ) → k < n → length row ≡ w → i < w → j ≡ w * k + i
+    → get_or (rows_from n row) j 0 ≡ over_zeros (8 * k) (get_or row i 0)
 unfolding rows_from over_zeros
 rows_at k zero row w i j hk hw hi is = absurd (omega arith)
 rows_at zero (suc n) row w i j hk hw hi is =

@@ -8,7 +8,8 @@ use Rattle.crc_chunk.specs.Crc.{bits_of, after_bits}
 use Rattle.crc_chunk.proofs.Steps.{after_bits-append}
 
 -- The front is taken in, and what is left gives what all gives.
-pub goes_on : (rest front back : List ℕ) (x y total : ℕ) → rest ≡ front ++ back → y ≡ after_bits x (flat_map bits_of front) → after_bits x (flat_map bits_of rest) ≡ total → after_bits y (flat_map bits_of back) ≡ total
+pub goes_on : (rest front back : List ℕ) (x y total : ℕ) → rest ≡ front ++ back → y ≡ after_bits x (flat_map bits_of front)
+    → after_bits x (flat_map bits_of rest) ≡ total → after_bits y (flat_map bits_of back) ≡ total
 goes_on rest front back x y total cut turned so_far =
     ap (λ (t : ℕ). after_bits t (flat_map bits_of back)) turned
     ∙ sym (after_bits-append (flat_map bits_of front) x (flat_map bits_of back))

@@ -23,7 +23,8 @@ added_high x b q h =
     ∙ ap (over_zeros 8) (xor_assoc x b (q * 2 ^ 8) ∙ ap (bit_xor x) (sym apart))
 
 -- Bytes one after another, or at once.
-after_number : (bytes : List ℕ) (x : ℕ) → ((i : ℕ) → get_or bytes i 0 < 256) → after_bits x (flat_map bits_of bytes) ≡ over_zeros (8 * length bytes) (bit_xor x (number bytes))
+after_number : (bytes : List ℕ) (x : ℕ) → ((i : ℕ) → get_or bytes i 0 < 256)
+    → after_bits x (flat_map bits_of bytes) ≡ over_zeros (8 * length bytes) (bit_xor x (number bytes))
 unfolding after_bits over_zeros number
 after_number [] x small = sym (xor_zero_r x)
 after_number (b ∷ bytes) x small =
@@ -37,7 +38,8 @@ after_number (b ∷ bytes) x small =
     ∙ sym (zeros_on 8 (8 * n) (bit_xor x (b + 256 * number bytes)))
     ∙ ap (λ (k : ℕ). over_zeros k (bit_xor x (b + 256 * number bytes))) (sym more)
 
-spelled : (a b c d e f g h : ℕ) → a + 256 * (b + 256 * (c + 256 * (d + 256 * (e + 256 * (f + 256 * (g + 256 * (h + 256 * 0))))))) ≡ from_le_bytes w64 (a ∷ b ∷ c ∷ d ∷ e ∷ f ∷ g ∷ h ∷ [])
+spelled : (a b c d e f g h : ℕ) → a + 256 * (b + 256 * (c + 256 * (d + 256 * (e + 256 * (f + 256 * (g + 256 * (h + 256 * 0))))))) ≡
+    from_le_bytes w64 (a ∷ b ∷ c ∷ d ∷ e ∷ f ∷ g ∷ h ∷ [])
 spelled a b c d e f g h = omega arith
 
 word_is : (bytes : List ℕ) → length bytes ≡ 8 → ((i : ℕ) → get_or bytes i 0 < 256) → number bytes ≡ from_le_bytes w64 bytes
@@ -58,7 +60,8 @@ after_word bytes x l small =
 -- Of sixteen bytes the register meets the first eight alone.
 pub after_words : (first second : List ℕ) (x : ℕ) → length first ≡ 8 → length second ≡ 8
     → ((i : ℕ) → get_or first i 0 < 256) → ((i : ℕ) → get_or second i 0 < 256)
-    → after_bits x (flat_map bits_of (first ++ second)) ≡ bit_xor (over_zeros 64 (from_le_bytes w64 second)) (over_zeros 128 (bit_xor (from_le_bytes w64 first) x))
+    → after_bits x (flat_map bits_of (first ++ second)) ≡ bit_xor (over_zeros 64 (from_le_bytes w64 second))
+    (over_zeros 128 (bit_xor (from_le_bytes w64 first) x))
 after_words first second x l m small small_too =
     let word : ℕ = from_le_bytes w64 second in
     let one : ℕ = bit_xor (from_le_bytes w64 first) x in
@@ -70,7 +73,8 @@ after_words first second x l m small small_too =
     ∙ ap (bit_xor (over_zeros 64 word)) (sym (zeros_on 64 64 one))
 
 -- One more byte, below those that are summed.
-next : (k n byte above high low : ℕ) → n ≡ k + 1 → byte < 256 → high ≡ over_zeros (8 * k) above → low ≡ over_zeros (8 * k + 8) byte → bit_xor high low ≡ over_zeros (8 * n) (byte + 256 * above)
+next : (k n byte above high low : ℕ) → n ≡ k + 1 → byte < 256 → high ≡ over_zeros (8 * k) above → low ≡ over_zeros (8 * k + 8) byte
+    → bit_xor high low ≡ over_zeros (8 * n) (byte + 256 * above)
 next k n byte above high low is small upper lower =
     let whole : ℕ = byte + 256 * above in
     let moved : above ≡ whole / 256 = omega arith in
@@ -97,7 +101,8 @@ unfolding number
 folds k bytes a b c d e f g h small ea eb ec ed ee ef eg eh =
     let top : get_or bytes 7 0 ≡ get_or bytes 7 0 + 256 * 0 = omega arith in
     let one : 8 * k + 8 ≡ 8 * (k + 1) = omega arith in
-    let at_a : a ≡ over_zeros (8 * (k + 1)) (get_or bytes 7 0 + 256 * 0) = ea ∙ ap (λ (n : ℕ). over_zeros n (get_or bytes 7 0)) one ∙ ap (over_zeros (8 * (k + 1))) top in
+    let at_a : a ≡ over_zeros (8 * (k + 1)) (get_or bytes 7 0 + 256 * 0) = ea ∙ ap (λ (n : ℕ). over_zeros n (get_or bytes 7 0)) one
+    ∙ ap (over_zeros (8 * (k + 1))) top in
     let at_b = next (k + 1) (k + 2) _ _ a b (omega arith) (small 6) at_a eb in
     let at_c = next (k + 2) (k + 3) _ _ _ c (omega arith) (small 5) at_b ec in
     let at_d = next (k + 3) (k + 4) _ _ _ d (omega arith) (small 4) at_c ed in
@@ -106,5 +111,6 @@ folds k bytes a b c d e f g h small ea eb ec ed ee ef eg eh =
     let at_g = next (k + 6) (k + 7) _ _ _ g (omega arith) (small 1) at_f eg in
     let at_h = next (k + 7) (k + 8) _ _ _ h (omega arith) (small 0) at_g eh in
     at_h
-    ∙ ap (over_zeros (8 * (k + 8))) (spelled (get_or bytes 0 0) (get_or bytes 1 0) (get_or bytes 2 0) (get_or bytes 3 0) (get_or bytes 4 0) (get_or bytes 5 0) (get_or bytes 6 0) (get_or bytes 7 0))
+    ∙ ap (over_zeros (8 * (k + 8))) (spelled (get_or bytes 0 0) (get_or bytes 1 0) (get_or bytes 2 0) (get_or bytes 3 0) (get_or bytes 4 0)
+    (get_or bytes 5 0) (get_or bytes 6 0) (get_or bytes 7 0))
     ∙ ap (λ (n : ℕ). over_zeros n (from_le_bytes w64 bytes)) (omega arith)

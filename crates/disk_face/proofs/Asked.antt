@@ -22,10 +22,12 @@ makes_further made more old mid new a b = b ∙ ap (λ (calls : List Call). more
 pub listings-append : (side : Side) (more made : List Call) → listings side (more ++ made) ≡ listings side more + listings side made
 listings-append side = sum_by-append (lists_in side)
 
-pub bytes_asked-append : (side : Side) (name : SegName) (more made : List Call) → bytes_asked side name (more ++ made) ≡ bytes_asked side name more + bytes_asked side name made
+pub bytes_asked-append : (side : Side) (name : SegName) (more made : List Call)
+    → bytes_asked side name (more ++ made) ≡ bytes_asked side name more + bytes_asked side name made
 bytes_asked-append side name = sum_by-append (bytes_in side name)
 
-pub length_listed-append : (side : Side) (name : SegName) (more made : List Call) → length_listed side name (more ++ made) ≡ length_listed side name more + length_listed side name made
+pub length_listed-append : (side : Side) (name : SegName) (more made : List Call)
+    → length_listed side name (more ++ made) ≡ length_listed side name more + length_listed side name made
 length_listed-append side name = sum_by-append (length_in side name)
 
 -- where the later calls list nothing, each side is listed as often as before
@@ -34,7 +36,13 @@ lists_once-append more made none once side = omega (arith, listings-append side 
 
 -- where each of two runs reads no more than it listed, both do
 pub reads_at_most-append : (more made : List Call) → ReadsAtMostListed more → ReadsAtMostListed made → ReadsAtMostListed (more ++ made)
-reads_at_most-append more made a b side name = omega (arith, bytes_asked-append side name more made, length_listed-append side name more made, a side name, b side name)
+reads_at_most-append more made a b side name = omega (
+  arith,
+  bytes_asked-append side name more made,
+  length_listed-append side name more made,
+  a side name,
+  b side name,
+)
 
 pub side_eq_self : (s : Side) → side_eq s s ≡ true
 side_eq_self Primary = refl
@@ -84,7 +92,10 @@ bytes_here side name len = counted _ len (simp (side_eq_self, nat_eq_self))
 -- and for none of any other one
 pub bytes_elsewhere : (side s : Side) (name n : SegName) (len : ℕ) → ((side ≡ s) × (name ≡ n) → ⊥) → bytes_in side name (was_read s n len) ≡ 0
 bytes_elsewhere side s name n len other =
-    not_counted _ len (λ e. other (side_eq_only side s (both_left (side_eq side s) (name_eq name n) e), name_eq_only name n (both_right (side_eq side s) (name_eq name n) e)))
+    not_counted _ len (λ e. other (
+      side_eq_only side s (both_left (side_eq side s) (name_eq name n) e),
+      name_eq_only name n (both_right (side_eq side s) (name_eq name n) e),
+    ))
 
 -- a listing has room for each of its lengths
 among : (names : List Listed) (item : Listed) → Contains names item → item.len ≤ length_among item.name names

@@ -11,8 +11,11 @@ use Rattle.disk_face.specs.Tables.{whole, IsBeingRemoved}
 -- bytes that begin with a front begin with less of it too
 pub begins_shorter : (n m : ℕ) (sent bytes : List ℕ) → n ≤ m → IsFrontOf (take m sent) bytes → IsFrontOf (take n sent) bytes
 begins_shorter n m sent bytes le b =
-    let front : take n (take m sent) ≡ take n sent = grind (arith, take-take n m sent) in
-    (drop n (take m sent) ++ b.0, b.1 ∙ ap (λ (l : List ℕ). l ++ b.0) (sym (take-append-drop n (take m sent))) ∙ append_assoc (take n (take m sent)) (drop n (take m sent)) b.0 ∙ ap (λ (l : List ℕ). l ++ (drop n (take m sent) ++ b.0)) front)
+    let front : take n (take m sent) ≡ take n sent = grind (arith, take-take n m sent) in (
+      drop n (take m sent) ++ b.0,
+      b.1 ∙ ap (λ (l : List ℕ). l ++ b.0) (sym (take-append-drop n (take m sent)))
+          ∙ append_assoc (take n (take m sent)) (drop n (take m sent)) b.0 ∙ ap (λ (l : List ℕ). l ++ (drop n (take m sent) ++ b.0)) front,
+    )
 
 -- where no file is, no image has one
 pub image_of_none : (p : Place) (o : Option (List ℕ)) → IsImageOf p None o → o ≡ None
@@ -20,7 +23,8 @@ image_of_none p None im = refl
 image_of_none p (Some content) im = absurd im
 
 -- each image has a created segment that stays, and it begins with its stable bytes
-pub image_of_created : (side : Side) (name : SegName) (f : File) (o : Option (List ℕ)) → IsImageOf (segment side name) (Some f) o → f.created ≡ true → f.leaving ≡ false
+pub image_of_created : (side : Side) (name : SegName) (f : File) (o : Option (List ℕ)) → IsImageOf (segment side name) (Some f) o
+    → f.created ≡ true → f.leaving ≡ false
     → (content : List ℕ) × (o ≡ Some content) × IsFrontOf (take f.stable f.sent) content
 image_of_created side name f None im made stays = let clash : true ≡ false = sym (im made) ∙ stays in cc
 image_of_created side name f (Some content) im made stays = (content, refl, im made)
@@ -39,8 +43,10 @@ pub removed_image : (p : Place) (f g : Option File) (o : Option (List ℕ)) → 
 removed_image p f None o removed im = inl (image_of_none p o im)
 removed_image p None (Some g) o removed im = absurd removed
 removed_image p (Some f) (Some g) None removed im = inl refl
-removed_image (segment side name) (Some f) (Some g) (Some bytes) removed im = inr (λ made. subst (λ (h : File). IsFrontOf (take h.stable h.sent) bytes) removed (im (ap (λ (h : File). h.created) removed ∙ made)))
-removed_image (table upto) (Some f) (Some g) (Some bytes) removed im = inr (λ made. im (ap (λ (h : File). h.created) removed ∙ made) ∙ ap (λ (h : File). h.sent) removed)
+removed_image (segment side name) (Some f) (Some g) (Some bytes) removed im = inr
+    (λ made. subst (λ (h : File). IsFrontOf (take h.stable h.sent) bytes) removed (im (ap (λ (h : File). h.created) removed ∙ made)))
+removed_image (table upto) (Some f) (Some g) (Some bytes) removed im = inr
+    (λ made. im (ap (λ (h : File). h.created) removed ∙ made) ∙ ap (λ (h : File). h.sent) removed)
 
 -- a sync only takes images away
 pub sync_image : (p : Place) (f : File) (o : Option (List ℕ)) → IsSoundFile f → IsImageOf p (Some (record f { stable = f.done })) o → IsImageOf p (Some f) o
@@ -49,12 +55,15 @@ sync_image (segment side name) f (Some bytes) sound im = λ made. begins_shorter
 sync_image (table n) f (Some bytes) sound im = im
 
 -- the start of a write adds no image of a segment
-pub write_image : (side : Side) (name : SegName) (f : File) (more : List ℕ) (o : Option (List ℕ)) → IsSoundFile f → IsImageOf (segment side name) (Some (record f { sent = f.sent ++ more })) o → IsImageOf (segment side name) (Some f) o
+pub write_image : (side : Side) (name : SegName) (f : File) (more : List ℕ) (o : Option (List ℕ)) → IsSoundFile f
+    → IsImageOf (segment side name) (Some (record f { sent = f.sent ++ more })) o → IsImageOf (segment side name) (Some f) o
 write_image side name f more None sound im = im
-write_image side name f more (Some bytes) sound im = λ made. subst (λ (l : List ℕ). IsFrontOf l bytes) (take-append-le f.stable f.sent more (omega (arith, sound.stable, sound.done))) (im made)
+write_image side name f more (Some bytes) sound im = λ made. subst (λ (l : List ℕ). IsFrontOf l bytes)
+    (take-append-le f.stable f.sent more (omega (arith, sound.stable, sound.done))) (im made)
 
 -- what leaves alone the bytes sent, how many are stable, and whether the file is there, adds no image
-same_image : (p : Place) (f : File) (done : ℕ) (reads : List ℕ) (o : Option (List ℕ)) → IsImageOf p (Some (record f { done = done; reads = reads })) o → IsImageOf p (Some f) o
+same_image : (p : Place) (f : File) (done : ℕ) (reads : List ℕ) (o : Option (List ℕ))
+    → IsImageOf p (Some (record f { done = done; reads = reads })) o → IsImageOf p (Some f) o
 same_image p f done reads None im = im
 same_image (segment side name) f done reads (Some bytes) im = im
 same_image (table upto) f done reads (Some bytes) im = im
@@ -65,7 +74,8 @@ created_image (segment side name) f (Some bytes) im = λ made. im refl
 created_image (table upto) f (Some bytes) im = λ made. im refl
 
 -- an operation that is done only takes images away
-pub done_image : (p : Place) (act : Act) (f g : Option File) (o : Option (List ℕ)) → ((h : File) → f ≡ Some h → IsSoundFile h) → AfterDone act f g → IsImageOf p g o → IsImageOf p f o
+pub done_image : (p : Place) (act : Act) (f g : Option File) (o : Option (List ℕ)) → ((h : File) → f ≡ Some h → IsSoundFile h)
+    → AfterDone act f g → IsImageOf p g o → IsImageOf p f o
 done_image p act None g o sound after im = subst (λ (h : Option File). IsImageOf p h o) after im
 done_image p creating (Some f) g o sound after im = created_image p f o (subst (λ (h : Option File). IsImageOf p h o) after im)
 done_image p writing (Some f) g o sound after im = same_image p f (length f.sent) after.0 o (subst (λ (h : Option File). IsImageOf p h o) after.2 im)

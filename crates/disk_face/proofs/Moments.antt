@@ -43,7 +43,8 @@ pub moments_from : (v : DiskView) (P : Files → Type 0) → P (files v) → AtE
 moments_from v P here k low high = let e : v.clock ≡ k = omega (arith, low, high) in subst (λ (j : ℕ). P (v.history j)) e here
 
 -- no moment more
-pub moments_stay : (since : ℕ) (old new : DiskView) (P : Files → Type 0) → AtEachMoment since old P → GoesOn old new → new.clock ≡ old.clock → AtEachMoment since new P
+pub moments_stay : (since : ℕ) (old new : DiskView) (P : Files → Type 0) → AtEachMoment since old P → GoesOn old new → new.clock ≡ old.clock
+    → AtEachMoment since new P
 moments_stay since old new P each goes same k low high =
     let before : k ≤ old.clock = omega (arith, high, same) in
     subst P (sym (goes.history k before)) (each k low before)
@@ -57,12 +58,14 @@ moments_after since old new P each goes later k low high = elim (dec_le k old.cl
 ]
 
 -- one moment more
-pub moments_more : (since : ℕ) (old new : DiskView) (P : Files → Type 0) → AtEachMoment since old P → GoesOn old new → new.clock ≡ suc old.clock → P (files new) → AtEachMoment since new P
+pub moments_more : (since : ℕ) (old new : DiskView) (P : Files → Type 0) → AtEachMoment since old P → GoesOn old new
+    → new.clock ≡ suc old.clock → P (files new) → AtEachMoment since new P
 moments_more since old new P each goes next here = moments_after since old new P each goes now
   where
     now : (k : ℕ) → old.clock < k → k ≤ new.clock → P (new.history k)
     now k low high = let e : new.clock ≡ k = omega (arith, low, high, next) in subst (λ (j : ℕ). P (new.history j)) e here
 
 -- the moments of two runs
-pub moments_joined : (since : ℕ) (old new : DiskView) (P : Files → Type 0) → AtEachMoment since old P → GoesOn old new → AtEachMoment old.clock new P → AtEachMoment since new P
+pub moments_joined : (since : ℕ) (old new : DiskView) (P : Files → Type 0) → AtEachMoment since old P → GoesOn old new
+    → AtEachMoment old.clock new P → AtEachMoment since new P
 moments_joined since old new P each goes more = moments_after since old new P each goes (λ k low high. more k (omega (arith, low)) high)

@@ -45,7 +45,8 @@ filled_some width n low = omega (arith, length-append (replicate (width - length
 -- reading them gives the number
 pub parse_filled : {E : Type 0} (k n : ℕ) (bytes : List ℕ) (r : Result ℕ E) → n < 2 ^ k → n < 2 ^ 64 → IsFilled bytes n → ParsesUnsigned k 10 bytes r → r ≡ Ok n
 parse_filled k n bytes r fits low (width, is) parses =
-    let given = parse_gives own k (filled width n) r (rw is at parses) (filled_digits width n low) (filled_some width n low) (rw (filled_value width n low) fits) in
+    let given = parse_gives own k (filled width n) r (rw is at parses) (filled_digits width n low) (filled_some width n low)
+    (rw (filled_value width n low) fits) in
     given ∙ ap (λ (m : ℕ). Ok m) (filled_value width n low)
 
 -- none of them is a dash
@@ -66,10 +67,12 @@ index_ascii (suc n) low = IsAscii-append (45 ∷ []) (filled 3 (suc n)) dash_asc
 
 -- a name is ASCII
 pub stem_ascii : (name : SegName) → IsSegmentName name → IsAscii (stem_text name)
-stem_ascii name ok = IsAscii-append (filled 6 name.wal) (index_text name.index) (filled_ascii 6 name.wal (omega (arith, ok.0))) (index_ascii name.index (omega (arith, ok.1)))
+stem_ascii name ok = IsAscii-append (filled 6 name.wal) (index_text name.index) (filled_ascii 6 name.wal (omega (arith, ok.0)))
+    (index_ascii name.index (omega (arith, ok.1)))
 
 -- cut at its first dash, or whole with index 0, a name gives its two numbers
-pub split_stem : (stem : List ℕ) (name : SegName) (r : Option (Bor (List ℕ) × Bor (List ℕ))) → IsSegmentName name → stem ≡ stem_text name → IsSplitOnceResult 45 stem r
+pub split_stem : (stem : List ℕ) (name : SegName) (r : Option (Bor (List ℕ) × Bor (List ℕ))) → IsSegmentName name → stem ≡ stem_text name
+    → IsSplitOnceResult 45 stem r
     → MatchOption r (IsFilled stem name.wal × (name.index ≡ 0)) (λ x. IsFilled x.0.now name.wal × IsFilled x.1.now name.index)
 split_stem stem name r ok is cut = go name.index refl r cut
   where
@@ -85,7 +88,8 @@ split_stem stem name r ok is cut = go name.index refl r cut
         absurd (no_dash 6 name.wal (length x.0.now) (omega (arith, ok.0)) (omega (arith, size)) (rw whole2 at there))
     go (suc n) at q cut =
         let behind : stem ≡ filled 6 name.wal ++ (45 ∷ filled 3 (suc n)) = is ∙ ap (λ (i : ℕ). filled 6 name.wal ++ index_text i) at in
-        finish q (split_after 45 stem (filled 6 name.wal) (filled 3 (suc n)) q cut (omega arith) behind (λ i below. no_dash 6 name.wal i (omega (arith, ok.0)) below))
+        finish q (split_after 45 stem (filled 6 name.wal) (filled 3 (suc n)) q cut (omega arith) behind
+        (λ i below. no_dash 6 name.wal i (omega (arith, ok.0)) below))
       where
         finish : (q : Option (Bor (List ℕ) × Bor (List ℕ))) → MatchOption q ⊥ (λ x. (x.0.now ≡ filled 6 name.wal) × (x.1.now ≡ filled 3 (suc n)))
             → MatchOption q (IsFilled stem name.wal × (name.index ≡ 0)) (λ x. IsFilled x.0.now name.wal × IsFilled x.1.now name.index)
@@ -105,7 +109,8 @@ read_ascii stem bytes Bad (Ok s) o ascii is m e = rw e (m.0 ∙ is)
 read_ascii stem bytes Bad (Err x) o ascii is m e = absurd (m.0 (rw is (IsUtf8-from_ascii bytes ascii)))
 
 -- a name with both numbers is the name
-pub same_numbers : (wal index : ℕ) (name : SegName) → Some wal ≡ Some name.wal → Some index ≡ Some name.index → Some (record { wal = wal; index = index }) ≡ Some name
+pub same_numbers : (wal index : ℕ) (name : SegName) → Some wal ≡ Some name.wal → Some index ≡ Some name.index
+    → Some (record { wal = wal; index = index }) ≡ Some name
 same_numbers wal index name w x =
     let w_is : wal ≡ name.wal = cc in
     let x_is : index ≡ name.index = cc in

@@ -12,7 +12,14 @@ use Rattle.disk_face.specs.Script.{stalled, AnswersItself, PassesPollOn}
 
 -- a disk that keeps nothing
 abbrev pub bare : NoDisk → DiskView
-bare d = record { faults = λ s. 0; polls_left = by_side d.primary_polls d.secondary_polls; in_flight = λ id. None; clock = 0; history = λ k p. None; calls = d.log.calls }
+bare d = record {
+  faults = λ s. 0;
+  polls_left = by_side d.primary_polls d.secondary_polls;
+  in_flight = λ id. None;
+  clock = 0;
+  history = λ k p. None;
+  calls = d.log.calls;
+}
 
 -- the disk within, by what a disk of its kind means
 abbrev pub within : {D : Type 0} → (D → DiskView) → ScriptDisk D → DiskView

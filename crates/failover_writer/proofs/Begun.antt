@@ -28,9 +28,11 @@ use Rattle.failover_writer.proofs.Passed.{first_or_last}
 use Rattle.failover_writer.proofs.Segments.{place_at, index_in, place_is, apart_from, all_push, joined_push, not_theirs, fit_beside, most_synced_push, sent_to_last, count_push, synced_within}
 
 -- No operation is in flight on the file of a segment that is not begun.
-pub next_free : (tells : Bool) (records : List Batch) (state : State) (v : DiskView) → StandsFor tells records state v → IsFree v (place_at state.wal (length state.segments))
+pub next_free : (tells : Bool) (records : List Batch) (state : State) (v : DiskView) → StandsFor tells records state v
+    → IsFree v (place_at state.wal (length state.segments))
 next_free tells records state v stands id f flies at =
-    not_theirs state.segments (place_at state.wal (length state.segments)) (apart_from state.wal 0 0 state.segments (place_at state.wal (length state.segments)) (omega arith) stands.joined)
+    not_theirs state.segments (place_at state.wal (length state.segments))
+    (apart_from state.wal 0 0 state.segments (place_at state.wal (length state.segments)) (omega arith) stands.joined)
     (subst (Contains (map place_of_writer state.segments)) at (stands.alone id f flies))
 
 pub acked_within : (tells : Bool) (records : List Batch) (state : State) (v : DiskView) → StandsFor tells records state v → acked state ≤ length records
@@ -38,22 +40,38 @@ acked_within tells records state v stands = synced_within tells records v 0 stat
 
 -- The writer of a segment of which nothing was started.
 abbrev pub new_writer : Side → SegName → ℕ → ℕ → Writer
-new_writer side name log from = record { side = side; name = name; log = log; from = from; sent = from; written = from; synced = from; place = 0; waiting = 0; phase = New }
+new_writer side name log from = record {
+  side = side;
+  name = name;
+  log = log;
+  from = from;
+  sent = from;
+  written = from;
+  synced = from;
+  place = 0;
+  waiting = 0;
+  phase = New;
+}
 
 -- A new writer fits, on the file of the segment that comes next.
 pub next_fits : (tells : Bool) (state : State) (v : DiskView) (side : Side) (name : SegName) (from : ℕ) (w : Writer) → side ≡ side_at (length state.segments)
     → name ≡ record { wal = state.wal; index = length state.segments } → from ≡ acked state → length state.segments < 10
-    → ((records : List Batch) → from ≤ length records → IsFree v (segment side name) → (IsTrue tells → IsUnsent (files v (segment side name))) → Fits tells records w v)
+    → ((records : List Batch) → from ≤ length records → IsFree v (segment side name)
+    → (IsTrue tells → IsUnsent (files v (segment side name))) → Fits tells records w v)
     → (records : List Batch) → StandsFor tells records state v → Fits tells records w v
 next_fits tells state v side name from w side_is name_is from_is few fits records stands =
-    let place_is : segment side name ≡ place_at state.wal (length state.segments) = ap (λ (s : Side). segment s name) side_is ∙ ap (segment (side_at (length state.segments))) name_is in
+    let place_is : segment side name ≡ place_at state.wal (length state.segments) = ap (λ (s : Side). segment s name) side_is
+    ∙ ap (segment (side_at (length state.segments))) name_is in
     fits records (omega (arith, from_is, acked_within tells records state v stands)) (subst (IsFree v) (sym place_is) (next_free tells records state v stands))
     (λ told. subst (λ (p : Place). IsUnsent (files v p)) (sym place_is) (stands.fresh told (length state.segments) (omega arith) (omega (arith, few))))
 
 -- What a new writer begins is its creation.
-pub begins_first : (state : State) (side : Side) (name : SegName) (log from len : ℕ) (goal : Goal) (started : Bool) (w new : Writer) (before after : DiskView) → side ≡ side_at (length state.segments)
-    → name ≡ record { wal = state.wal; index = length state.segments } → from ≡ acked state → w ≡ new_writer side name log from → BeginsJust (next_operation w.phase w.written goal) len started w new before after
-    → (id : OpId) × begun state id new × Starts (record { place = place_of_writer new; act = creating }) side id before after × (place_of_writer new ≡ place_of_writer w)
+pub begins_first : (state : State) (side : Side) (name : SegName) (log from len : ℕ) (goal : Goal) (started : Bool) (w new : Writer)
+    (before after : DiskView) → side ≡ side_at (length state.segments)
+    → name ≡ record { wal = state.wal; index = length state.segments } → from ≡ acked state → w ≡ new_writer side name log from
+    → BeginsJust (next_operation w.phase w.written goal) len started w new before after
+    → (id : OpId) × begun state id new × Starts (record { place = place_of_writer new; act = creating }) side id before after
+    × (place_of_writer new ≡ place_of_writer w)
 begins_first state side name log from len goal started w new before after side_is name_is from_is made begins =
     let begins_new = (subst (λ (u : Writer). BeginsJust (next_operation u.phase u.written goal) len started u new before after) made begins).1 in
     let moved = begins_new.moved in
@@ -74,15 +92,20 @@ begins_first state side name log from len goal started w new before after side_i
     )
 
 -- Where one operation more is in flight, on this file, each is on theirs or on it.
-pub alone_with : (flight : Flight) (side : Side) (id : OpId) (old new : DiskView) (theirs : List Place) → Starts flight side id old new → Contains theirs flight.place
-    → ((q : OpId) (f : Flight) → old.in_flight q ≡ Some f → Contains theirs f.place) → (q : OpId) (f : Flight) → new.in_flight q ≡ Some f → Contains theirs f.place
+pub alone_with : (flight : Flight) (side : Side) (id : OpId) (old new : DiskView) (theirs : List Place) → Starts flight side id old new
+    → Contains theirs flight.place
+    → ((q : OpId) (f : Flight) → old.in_flight q ≡ Some f → Contains theirs f.place) → (q : OpId) (f : Flight) → new.in_flight q ≡ Some f
+    → Contains theirs f.place
 alone_with flight side id old new theirs starts here alone q f flies = elim (same_id q id) [
-  | inl e ↦ let same : Some flight ≡ Some f = sym starts.here ∙ ap new.in_flight (sym e) ∙ flies in let is : flight ≡ f = cc in subst (λ (g : Flight). Contains theirs g.place) is here
+  | inl e ↦ let same : Some flight ≡ Some f = sym starts.here ∙ ap new.in_flight (sym e)
+      ∙ flies in let is : flight ≡ f = cc in subst (λ (g : Flight). Contains theirs g.place) is here
   | inr ne ↦ alone q f (sym (starts.others q ne) ∙ flies)
 ]
 
-module _ (tells : Bool) (state : State) (old new : DiskView) (id : OpId) (w : Writer) (side : Side) (act : Act) (few : length state.segments < 10) (is : begun state id w)
-    (starts : Starts (record { place = place_of_writer w; act = act }) side id old new) (others : (place : Place) → place ≢ place_of_writer w → SameFile tells place old new) where
+module _ (tells : Bool) (state : State) (old new : DiskView) (id : OpId) (w : Writer) (side : Side) (act : Act)
+    (few : length state.segments < 10) (is : begun state id w)
+    (starts : Starts (record { place = place_of_writer w; act = act }) side id old new)
+    (others : (place : Place) → place ≢ place_of_writer w → SameFile tells place old new) where
   abbrev after : State
   after = record state { segments = state.segments ++ w ∷ [] }
 
@@ -105,21 +128,29 @@ module _ (tells : Bool) (state : State) (old new : DiskView) (id : OpId) (w : Wr
     queued = omega (arith, stands.queued, acked_same, sent_to_last 0 state.segments w, is.3);
     want = stands.want;
     few = omega (arith, few, length-append state.segments (w ∷ []));
-    joined = joined_push state.wal 0 0 state.segments w stands.joined (subst (λ (n : ℕ). IsSegmentAt state.wal n w) (omega arith) its_segment) (omega (arith, is.2));
+    joined = joined_push state.wal 0 0 state.segments w stands.joined
+        (subst (λ (n : ℕ). IsSegmentAt state.wal n w) (omega arith) its_segment) (omega (arith, is.2));
     fit = all_push (λ (u : Writer). Fits tells records u new) state.segments w
-        (fit_beside tells records (place_of_writer w) old new state.segments others (apart_from state.wal 0 0 state.segments (place_of_writer w) (omega (arith, ap index_in its_place)) stands.joined) stands.fit) fits;
+        (fit_beside tells records (place_of_writer w) old new state.segments others
+        (apart_from state.wal 0 0 state.segments (place_of_writer w) (omega (arith, ap index_in its_place)) stands.joined) stands.fit)
+        fits;
     alone = alone_with (record { place = place_of_writer w; act = act }) side id old new (map place_of_writer after.segments) starts
-        (subst (λ (l : List Place). Contains l (place_of_writer w)) (sym (map-append place_of_writer state.segments (w ∷ []))) (Contains-push (map place_of_writer state.segments) (place_of_writer w)))
-        (λ q f flies. subst (λ (l : List Place). Contains l f.place) (sym (map-append place_of_writer state.segments (w ∷ []))) (Contains-append_left (map place_of_writer state.segments) (place_of_writer w ∷ []) f.place (stands.alone q f flies)));
+        (subst (λ (l : List Place). Contains l (place_of_writer w)) (sym (map-append place_of_writer state.segments (w ∷ [])))
+        (Contains-push (map place_of_writer state.segments) (place_of_writer w)))
+        (λ q f flies. subst (λ (l : List Place). Contains l f.place) (sym (map-append place_of_writer state.segments (w ∷ [])))
+        (Contains-append_left (map place_of_writer state.segments) (place_of_writer w ∷ []) f.place (stands.alone q f flies)));
     fresh = λ told index low high.
-        subst IsUnsent (sym ((others (place_at state.wal index) (λ e. omega (arith, low, length-append state.segments (w ∷ []), ap index_in e, ap index_in its_place))).file told))
+        subst IsUnsent (sym ((others (place_at state.wal index)
+        (λ e. omega (arith, low, length-append state.segments (w ∷ []), ap index_in e, ap index_in its_place))).file told))
         (stands.fresh told index (omega (arith, low, length-append state.segments (w ∷ []))) high);
   }
 
   not_broken : count_by is_broken (w ∷ []) ≡ 0
   not_broken = ap (λ (p : Phase). count_by is_broken (record w { phase = p } ∷ [])) is.7
 
-  pub begun_in_order : (acked_so_far rested_to failures : ℕ) → state.dead ≡ None → IsBehind state → ((records : List Batch) → StandsFor tells records state old → Fits tells records w new) → IsInOrder tells state old acked_so_far rested_to failures → IsInOrder tells after new acked_so_far rested_to failures
+  pub begun_in_order : (acked_so_far rested_to failures : ℕ) → state.dead ≡ None → IsBehind state
+      → ((records : List Batch) → StandsFor tells records state old → Fits tells records w new)
+      → IsInOrder tells state old acked_so_far rested_to failures → IsInOrder tells after new acked_so_far rested_to failures
   begun_in_order acked_so_far rested_to failures lives behind fits order = record {
     stands = (order.stands.0, begun_stands order.stands.0 order.stands.1 (fits order.stands.0 order.stands.1));
     acked = order.acked ∙ sym acked_same;
@@ -133,10 +164,12 @@ module _ (tells : Bool) (state : State) (old new : DiskView) (id : OpId) (w : Wr
   -- ---- the moments
 
   has_place : Contains (map place_of_writer after.segments) (place_of_writer w)
-  has_place = subst (λ (l : List Place). Contains l (place_of_writer w)) (sym (map-append place_of_writer state.segments (w ∷ []))) (Contains-push (map place_of_writer state.segments) (place_of_writer w))
+  has_place = subst (λ (l : List Place). Contains l (place_of_writer w)) (sym (map-append place_of_writer state.segments (w ∷ [])))
+      (Contains-push (map place_of_writer state.segments) (place_of_writer w))
 
   has_places : (p : Place) → Contains (map place_of_writer state.segments) p → Contains (map place_of_writer after.segments) p
-  has_places p there = subst (λ (l : List Place). Contains l p) (sym (map-append place_of_writer state.segments (w ∷ []))) (Contains-append_left (map place_of_writer state.segments) (place_of_writer w ∷ []) p there)
+  has_places p there = subst (λ (l : List Place). Contains l p) (sym (map-append place_of_writer state.segments (w ∷ [])))
+      (Contains-append_left (map place_of_writer state.segments) (place_of_writer w ∷ []) p there)
 
   -- Each file but those of the segments is as it was.
   opened_then : (opening : Files) → IsTrue tells → OthersStay opening state (files old) → OthersStay opening after (files new)
@@ -144,7 +177,9 @@ module _ (tells : Bool) (state : State) (old new : DiskView) (id : OpId) (w : Wr
       let apart : p ≢ place_of_writer w = λ e. out (subst (Contains (map place_of_writer after.segments)) (sym e) has_place) in
       (others p apart).file told ∙ stay p (λ there. out (has_places p there))
 
-  pub begun_passes : GoesOn old new → (IsTrue tells → new.clock ≤ suc old.clock) → ((records : List Batch) → StandsFor tells records state old → Fits tells records w new) → Passes tells state after old new
+  pub begun_passes : GoesOn old new → (IsTrue tells → new.clock ≤ suc old.clock)
+      → ((records : List Batch) → StandsFor tells records state old → Fits tells records w new) → Passes tells state after old new
   begun_passes goes one fits =
-      passes_once tells state after old new refl refl (omega (arith, acked_same)) (λ records stands. begun_stands records stands (fits records stands)) goes opened_then
+      passes_once tells state after old new refl refl (omega (arith, acked_same))
+      (λ records stands. begun_stands records stands (fits records stands)) goes opened_then
       (λ told k low high. first_or_last old new goes (one told) k low high)

@@ -50,7 +50,8 @@ pub record Lowers (before after : ℕ) (answer : Option Progress) : Type 0 where
   pub no_more : after ≤ before
   pub less : HasEnded answer → after < before
 
-done_falls : (len want : ℕ) (operation : Operation) (id : OpId) (w : Writer) → rank len want (after_answer operation Done w) < rank_in len want (InFlight operation id) w.sent w.written w.synced
+done_falls : (len want : ℕ) (operation : Operation) (id : OpId) (w : Writer)
+    → rank len want (after_answer operation Done w) < rank_in len want (InFlight operation id) w.sent w.written w.synced
 done_falls len want Create id w = omega arith
 done_falls len want Write id w = omega arith
 done_falls len want Sync id w = omega arith
@@ -60,18 +61,22 @@ flight_above len want sent written synced Create id = omega arith
 flight_above len want sent written synced Write id = omega arith
 flight_above len want sent written synced Sync id = omega arith
 
-answer_lowers : (len want : ℕ) (operation : Operation) (id : OpId) (answer : Progress) (w : Writer) → w.phase ≡ InFlight operation id → Lowers (rank len want w) (rank len want (after_answer operation answer w)) (Some answer)
+answer_lowers : (len want : ℕ) (operation : Operation) (id : OpId) (answer : Progress) (w : Writer) → w.phase ≡ InFlight operation id
+    → Lowers (rank len want w) (rank len want (after_answer operation answer w)) (Some answer)
 answer_lowers len want operation id Pending w phase = record { no_more = omega arith; less = λ none. absurd none }
 answer_lowers len want operation id Done w phase =
-    let was : rank len want w ≡ rank_in len want (InFlight operation id) w.sent w.written w.synced = ap (λ (p : Phase). rank_in len want p w.sent w.written w.synced) phase in
+    let was : rank len want w ≡ rank_in len want (InFlight operation id) w.sent w.written w.synced = ap
+    (λ (p : Phase). rank_in len want p w.sent w.written w.synced) phase in
     let falls = done_falls len want operation id w in
     record { no_more = omega (arith, was, falls); less = λ _. omega (arith, was, falls) }
 answer_lowers len want operation id Failed w phase =
-    let was : rank len want w ≡ rank_in len want (InFlight operation id) w.sent w.written w.synced = ap (λ (p : Phase). rank_in len want p w.sent w.written w.synced) phase in
+    let was : rank len want w ≡ rank_in len want (InFlight operation id) w.sent w.written w.synced = ap
+    (λ (p : Phase). rank_in len want p w.sent w.written w.synced) phase in
     let above = flight_above len want w.sent w.written w.synced operation id in
     record { no_more = omega (arith, was, above); less = λ _. omega (arith, was, above) }
 
-first_lowers : (len want : ℕ) {ws left : List Writer} {answer : Option Progress} → PollsFirst ws answer left → Lowers (ranks len want ws) (ranks len want left) answer
+first_lowers : (len want : ℕ) {ws left : List Writer} {answer : Option Progress} → PollsFirst ws answer left
+    → Lowers (ranks len want ws) (ranks len want left) answer
 first_lowers len want (stepping.none ws rests) = record { no_more = omega arith; less = λ none. absurd none }
 first_lowers len want (stepping.polled front w back operation id answer rests phase) =
     let one = answer_lowers len want operation id answer w phase in
@@ -81,7 +86,8 @@ first_lowers len want (stepping.polled front w back operation id answer rests ph
 
 first_count : {ws left : List Writer} {answer : Option Progress} → PollsFirst ws answer left → length left ≡ length ws
 first_count (stepping.none ws rests) = refl
-first_count (stepping.polled front w back operation id answer rests phase) = omega (arith, length-append front (w ∷ back), length-append front (after_answer operation answer w ∷ back))
+first_count (stepping.polled front w back operation id answer rests phase) = omega
+    (arith, length-append front (w ∷ back), length-append front (after_answer operation answer w ∷ back))
 
 first_none : {ws left : List Writer} {answer : Option Progress} → PollsFirst ws answer left → answer ≡ None → (left ≡ ws) × NoneBusy ws
 first_none (stepping.none ws rests) e = (refl, rests)
@@ -112,17 +118,22 @@ polls_lower {old = old} (nothing_begun none) = record {
 polls_lower {old = old} (asked earlier current one other earlier' current' is early late) =
     let front = first_lowers (len old) old.want early in
     let back = first_lowers (len old) old.want late in
-    let was : ranks (len old) old.want old.segments ≡ ranks (len old) old.want earlier + ranks (len old) old.want (current ∷ []) = ap (ranks (len old) old.want) is ∙ ranks_append (len old) old.want earlier (current ∷ []) in
+    let was : ranks (len old) old.want old.segments ≡ ranks (len old) old.want earlier + ranks (len old) old.want (current ∷ []) = ap
+    (ranks (len old) old.want) is ∙ ranks_append (len old) old.want earlier (current ∷ []) in
     let now = ranks_append (len old) old.want earlier' (current' ∷ []) in
     record {
       same = refl;
       count = omega (arith, ap length is, first_count early, length-append earlier (current ∷ []), length-append earlier' (current' ∷ []));
-      early = record { no_more = omega (arith, was, now, front.no_more, back.no_more); less = λ ended. omega (arith, was, now, front.less ended, back.no_more) };
+      early = record {
+        no_more = omega (arith, was, now, front.no_more, back.no_more);
+        less = λ ended. omega (arith, was, now, front.less ended, back.no_more);
+      };
       late = record { no_more = omega (arith, was, now, front.no_more, back.no_more); less = λ ended. omega (arith, was, now, front.no_more, back.less ended) };
       nothing = λ no_one no_other.
           let left = first_none early no_one in
           let right = first_none late no_other in
-          let whole : earlier' ++ current' ∷ [] ≡ old.segments = ap (λ (ws : List Writer). ws ++ current' ∷ []) left.0 ∙ ap (λ (ws : List Writer). earlier ++ ws) right.0 ∙ sym is in
+          let whole : earlier' ++ current' ∷ [] ≡ old.segments = ap (λ (ws : List Writer). ws ++ current' ∷ []) left.0
+          ∙ ap (λ (ws : List Writer). earlier ++ ws) right.0 ∙ sym is in
           (ap (λ (ws : List Writer). record old { segments = ws }) whole, subst NoneBusy (sym is) (none_busy_push earlier current left.1 right.1));
     }
 
@@ -131,28 +142,43 @@ polls_lower {old = old} (asked earlier current one other earlier' current' is ea
 begins_lowers : (old new : State) → length old.segments < 10 → BeginsNext old new → work new < work old
 begins_lowers old new few begins =
     let w = begins.writer in
-    let flies : rank (len old) old.want w ≡ rank_in (len old) old.want (InFlight Create begins.id) w.sent w.written w.synced = ap (λ (p : Phase). rank_in (len old) old.want p w.sent w.written w.synced) begins.fresh.7 in
+    let flies : rank (len old) old.want w ≡ rank_in (len old) old.want (InFlight Create begins.id) w.sent w.written w.synced = ap
+    (λ (p : Phase). rank_in (len old) old.want p w.sent w.written w.synced) begins.fresh.7 in
     subst (λ (s : State). work s < work old) (sym begins.new_is)
-    (omega (arith, few, flies, still_most w.written (len old), still_most w.synced old.want, length-append old.segments (w ∷ []), ranks_append (len old) old.want old.segments (w ∷ [])))
+    (omega (
+      arith,
+      few,
+      flies,
+      still_most w.written (len old),
+      still_most w.synced old.want,
+      length-append old.segments (w ∷ []),
+      ranks_append (len old) old.want old.segments (w ∷ []),
+    ))
 
 -- What is started at rest leaves less to do.
-started_falls : (len want acked sent written synced : ℕ) (phase : Phase) (operation : Operation) (id : OpId) → synced ≤ acked → next_operation phase written (record { len = len; want = want; acked = acked }) ≡ Some operation
+started_falls : (len want acked sent written synced : ℕ) (phase : Phase) (operation : Operation) (id : OpId) → synced ≤ acked
+    → next_operation phase written (record { len = len; want = want; acked = acked }) ≡ Some operation
     → rank_in len want (InFlight operation id) (sent_with operation len sent) written synced < rank_in len want phase sent written synced
 started_falls len want acked sent written synced New operation id covered next =
     let is : Create ≡ operation = cc in
-    subst (λ (o : Operation). rank_in len want (InFlight o id) (sent_with o len sent) written synced < 8) is (omega (arith, still_most written len, still_most synced want))
+    subst (λ (o : Operation). rank_in len want (InFlight o id) (sent_with o len sent) written synced < 8) is
+    (omega (arith, still_most written len, still_most synced want))
 started_falls len want acked sent written synced (InFlight flying at) operation id covered next = cc
 started_falls len want acked sent written synced Broken operation id covered next = cc
 started_falls len want acked sent written synced Idle operation id covered next = go (ltb acked want) (ltb written want) (ltb written len) refl refl refl next
   where
-    writes : ltb written len ≡ true → Write ≡ operation → rank_in len want (InFlight operation id) (sent_with operation len sent) written synced < rank_in len want Idle sent written synced
-    writes more is = subst (λ (o : Operation). rank_in len want (InFlight o id) (sent_with o len sent) written synced < rank_in len want Idle sent written synced) is (grind (arith, nat_tests))
+    writes : ltb written len ≡ true → Write ≡ operation → rank_in len want (InFlight operation id) (sent_with operation len sent) written
+        synced < rank_in len want Idle sent written synced
+    writes more is = subst (λ (o : Operation). rank_in len want (InFlight o id) (sent_with o len sent) written synced < rank_in len want
+        Idle sent written synced) is (grind (arith, nat_tests))
 
-    go : (wanted has more : Bool) → ltb acked want ≡ wanted → ltb written want ≡ has → ltb written len ≡ more → (if wanted && not has then Some Sync else (if more then Some Write else None)) ≡ Some operation
+    go : (wanted has more : Bool) → ltb acked want ≡ wanted → ltb written want ≡ has → ltb written len ≡ more
+        → (if wanted && not has then Some Sync else (if more then Some Write else None)) ≡ Some operation
         → rank_in len want (InFlight operation id) (sent_with operation len sent) written synced < rank_in len want Idle sent written synced
     go true false more a b c e =
         let is : Sync ≡ operation = cc in
-        subst (λ (o : Operation). rank_in len want (InFlight o id) (sent_with o len sent) written synced < rank_in len want Idle sent written synced) is (grind (arith, nat_tests))
+        subst (λ (o : Operation). rank_in len want (InFlight o id) (sent_with o len sent) written synced < rank_in len want Idle sent
+        written synced) is (grind (arith, nat_tests))
     go true true true a b c e = writes c cc
     go true true false a b c e = cc
     go false has true a b c e = writes c cc
@@ -162,49 +188,89 @@ starts_lowers : (old new : State) → StartsNext old new → work new < work old
 starts_lowers old new is =
     let earlier = is.earlier in
     let current = is.current in
-    let next : Writer = record current { sent = sent_with is.operation (len old) current.sent; place = is.place; waiting = 0; phase = InFlight is.operation is.id } in
+    let next : Writer = record current {
+      sent = sent_with is.operation (len old) current.sent;
+      place = is.place;
+      waiting = 0;
+      phase = InFlight is.operation is.id;
+    } in
     let covered : current.synced ≤ acked old = omega (arith, ap (most_synced 0) is.segments_are, most_synced_push 0 earlier current) in
-    let falls : rank (len old) old.want next < rank (len old) old.want current = started_falls (len old) old.want (acked old) current.sent current.written current.synced current.phase is.operation is.id covered is.next in
+    let falls : rank (len old) old.want next < rank (len old) old.want current = started_falls (len old) old.want
+    (acked old) current.sent current.written current.synced current.phase is.operation is.id covered is.next in
     subst (λ (s : State). work s < work old) (sym is.new_is)
-    (omega (arith, falls, ap length is.segments_are, ap (ranks (len old) old.want) is.segments_are, length-append earlier (current ∷ []), length-append earlier (next ∷ []), ranks_append (len old) old.want earlier (current ∷ []), ranks_append (len old) old.want earlier (next ∷ [])))
+    (omega (
+      arith,
+      falls,
+      ap length is.segments_are,
+      ap (ranks (len old) old.want) is.segments_are,
+      length-append earlier (current ∷ []),
+      length-append earlier (next ∷ []),
+      ranks_append (len old) old.want earlier (current ∷ []),
+      ranks_append (len old) old.want earlier (next ∷ []),
+    ))
 
 -- ---- where nothing is begun or started, though there is work
 
 -- A segment at rest has a next operation.
-idle_next : (len want acked written : ℕ) → want ≤ len → (written < len) ⊎ (acked < want) → (operation : Operation) × (next_operation Idle written (record { len = len; want = want; acked = acked }) ≡ Some operation)
+idle_next : (len want acked written : ℕ) → want ≤ len → (written < len) ⊎ (acked < want) → (operation : Operation)
+    × (next_operation Idle written (record { len = len; want = want; acked = acked }) ≡ Some operation)
 idle_next len want acked written within wants = go (ltb acked want) (ltb written want) (ltb written len) refl refl refl
   where
-    go : (wanted has more : Bool) → ltb acked want ≡ wanted → ltb written want ≡ has → ltb written len ≡ more → (operation : Operation) × ((if wanted && not has then Some Sync else (if more then Some Write else None)) ≡ Some operation)
+    go : (wanted has more : Bool) → ltb acked want ≡ wanted → ltb written want ≡ has → ltb written len ≡ more → (operation : Operation)
+        × ((if wanted && not has then Some Sync else (if more then Some Write else None)) ≡ Some operation)
     go true false more a b c = (Sync, refl)
     go true true true a b c = (Write, refl)
     go true true false a b c = absurd (grind (arith, nat_tests))
     go false has true a b c = (Write, refl)
     go false has false a b c = elim wants [ inl less ↦ absurd (grind (arith, nat_tests)) | inr less ↦ absurd (grind (arith, nat_tests)) ]
 
-wants_last : (state : State) (earlier : List Writer) (current : Writer) → WantsMore state (earlier ++ current ∷ []) → (current.phase ≡ Broken) ⊎ ((current.written < len state) ⊎ (acked state < state.want))
+wants_last : (state : State) (earlier : List Writer) (current : Writer) → WantsMore state (earlier ++ current ∷ [])
+    → (current.phase ≡ Broken) ⊎ ((current.written < len state) ⊎ (acked state < state.want))
 wants_last state [] current wants = wants
 wants_last state (w ∷ []) current wants = wants
 wants_last state (w ∷ v ∷ earlier) current wants = wants_last state (v ∷ earlier) current wants
 
 -- The monitor leaves no broken segment in its place, and any other at rest has a next operation.
-stays_none : (polled : State) → polled.want ≤ len polled → length polled.segments ≤ 10 → Verdict IsToStay polled → ((new : State) → StartsNext polled new → ⊥) → HasWork polled → NoneBusy polled.segments → ⊥
+stays_none : (polled : State) → polled.want ≤ len polled → length polled.segments ≤ 10 → Verdict IsToStay polled
+    → ((new : State) → StartsNext polled new → ⊥) → HasWork polled → NoneBusy polled.segments → ⊥
 stays_none polled within few verdict none wants rests = go verdict.current.phase refl
   where
-    start : (operation : Operation) → next_operation verdict.current.phase verdict.current.written (record { len = len polled; want = polled.want; acked = acked polled }) ≡ Some operation → ⊥
+    start : (operation : Operation) → next_operation verdict.current.phase verdict.current.written
+        (record { len = len polled; want = polled.want; acked = acked polled }) ≡ Some operation → ⊥
     start operation next =
-        none (record polled { segments = verdict.earlier ++ record verdict.current { sent = sent_with operation (len polled) verdict.current.sent; place = 0; waiting = 0; phase = InFlight operation (record { side = Primary; number = 0 }) } ∷ [] })
-        (record { earlier = verdict.earlier; current = verdict.current; operation = operation; id = record { side = Primary; number = 0 }; place = 0; segments_are = verdict.segments_are; next = next; new_is = refl })
+        none (record polled {
+          segments = verdict.earlier ++ record verdict.current {
+            sent = sent_with operation (len polled) verdict.current.sent;
+            place = 0;
+            waiting = 0;
+            phase = InFlight operation (record { side = Primary; number = 0 });
+          } ∷ [];
+        })
+        (record {
+          earlier = verdict.earlier;
+          current = verdict.current;
+          operation = operation;
+          id = record { side = Primary; number = 0 };
+          place = 0;
+          segments_are = verdict.segments_are;
+          next = next;
+          new_is = refl;
+        })
 
     go : (phase : Phase) → verdict.current.phase ≡ phase → ⊥
-    go New is = start Create (ap (λ (p : Phase). next_operation p verdict.current.written (record { len = len polled; want = polled.want; acked = acked polled })) is)
-    go (InFlight operation id) is = all_last (λ (w : Writer). IsBusy w.phase → ⊥) verdict.earlier verdict.current (subst NoneBusy verdict.segments_are rests) (subst IsBusy (sym is) tt)
+    go New is = start Create (ap (λ (p : Phase). next_operation p verdict.current.written
+        (record { len = len polled; want = polled.want; acked = acked polled })) is)
+    go (InFlight operation id) is = all_last (λ (w : Writer). IsBusy w.phase → ⊥) verdict.earlier verdict.current
+        (subst NoneBusy verdict.segments_are rests) (subst IsBusy (sym is) tt)
     go Idle is =
-        let more : (verdict.current.written < len polled) ⊎ (acked polled < polled.want) = elim (wants_last polled verdict.earlier verdict.current (subst (WantsMore polled) verdict.segments_are wants.1)) [
+        let more : (verdict.current.written < len polled) ⊎ (acked polled < polled.want) = elim
+        (wants_last polled verdict.earlier verdict.current (subst (WantsMore polled) verdict.segments_are wants.1)) [
           | inl broken ↦ (let clash : Idle ≡ Broken = sym is ∙ broken in cc)
           | inr more ↦ more
         ] in
         let next = idle_next (len polled) polled.want (acked polled) verdict.current.written within more in
-        start next.0 (ap (λ (p : Phase). next_operation p verdict.current.written (record { len = len polled; want = polled.want; acked = acked polled })) is ∙ next.1)
+        start next.0 (ap (λ (p : Phase). next_operation p verdict.current.written
+        (record { len = len polled; want = polled.want; acked = acked polled })) is ∙ next.1)
     go Broken is =
         let broken : is_broken verdict.current ≡ true = ap phase_is_broken is in
         elim (dec_lt (length polled.segments) 10) [
@@ -213,7 +279,8 @@ stays_none polled within few verdict none wants rests = go verdict.current.phase
         ]
 
 -- Something is begun or started where there is work and nothing is busy.
-goes_lower : (polled new : State) → polled.want ≤ len polled → length polled.segments ≤ 10 → stepping.ActsAfterPolls polled new → (work new < work polled) ⊎ ((new ≡ polled) × (HasWork polled → NoneBusy polled.segments → ⊥))
+goes_lower : (polled new : State) → polled.want ≤ len polled → length polled.segments ≤ 10 → stepping.ActsAfterPolls polled new
+    → (work new < work polled) ⊎ ((new ≡ polled) × (HasWork polled → NoneBusy polled.segments → ⊥))
 goes_lower polled new within few (first _ none behind begins) = inl (begins_lowers polled new (omega (arith, ap length none)) begins)
 goes_lower polled new within few (none_to_begin none not_behind) = inr (refl, λ more _. not_behind more.0)
 goes_lower polled new within few (switches _ verdict begins) = inl (begins_lowers polled new verdict.says.0 begins)
@@ -230,7 +297,8 @@ polls_fall before after goes_on fell = go fell.0 fell.1
     go Secondary less = omega (arith, less, goes_on.polls Primary)
 
 -- A poll was pending, or an operation has ended, or none was polled.
-polls_came : (before after : DiskView) (one other : Option Progress) → IsTold before after one → IsTold before after other → PollsFell before after ⊎ ((HasEnded one ⊎ HasEnded other) ⊎ ((one ≡ None) × (other ≡ None)))
+polls_came : (before after : DiskView) (one other : Option Progress) → IsTold before after one → IsTold before after other
+    → PollsFell before after ⊎ ((HasEnded one ⊎ HasEnded other) ⊎ ((one ≡ None) × (other ≡ None)))
 polls_came before after (Some Pending) other told also = inl told
 polls_came before after (Some Done) other told also = inr (inl (inl tt))
 polls_came before after (Some Failed) other told also = inr (inl (inl tt))
@@ -239,16 +307,19 @@ polls_came before after None (Some Done) told also = inr (inl (inr tt))
 polls_came before after None (Some Failed) told also = inr (inl (inr tt))
 polls_came before after None None told also = inr (inr (refl, refl))
 
-gone_falls : (old polled started new : State) (before after : DiskView) (one other : Option Progress) → old.want ≤ len old → length old.segments ≤ 10 → GoesOn before after → IsUp old → Polls old one other polled → stepping.ActsAfterPolls polled started
+gone_falls : (old polled started new : State) (before after : DiskView) (one other : Option Progress) → old.want ≤ len old
+    → length old.segments ≤ 10 → GoesOn before after → IsUp old → Polls old one other polled → stepping.ActsAfterPolls polled started
     → Releases started new → IsTold before after one → IsTold before after other → measure new after < measure old before
 gone_falls old polled started new before after one other within few goes_on up polls went releases told also =
     let lower = polls_lower polls in
     let same_len : len polled ≡ len old = ap (λ (s : State). len s) lower.same in
     let same_want : polled.want ≡ old.want = ap (λ (s : State). s.want) lower.same in
-    let same_ranks : ranks (len polled) polled.want polled.segments ≡ ranks (len old) old.want polled.segments = ap (λ (s : State). ranks (len s) s.want polled.segments) lower.same in
+    let same_ranks : ranks (len polled) polled.want polled.segments ≡ ranks (len old) old.want polled.segments = ap
+    (λ (s : State). ranks (len s) s.want polled.segments) lower.same in
     let low : work polled ≤ work old = omega (arith, lower.count, lower.early.no_more, same_ranks) in
     let released : work new ≡ work started =
-    ap (λ (s : State). (10 - length s.segments) * 8 + ranks (len new) s.want s.segments) releases.new_is ∙ ap (λ (n : ℕ). (10 - length started.segments) * 8 + ranks n started.want started.segments) releases.end in
+    ap (λ (s : State). (10 - length s.segments) * 8 + ranks (len new) s.want s.segments) releases.new_is
+    ∙ ap (λ (n : ℕ). (10 - length started.segments) * 8 + ranks n started.want started.segments) releases.end in
     let fewer : polls_left after ≤ polls_left before = omega (arith, goes_on.polls Primary, goes_on.polls Secondary) in
     let went = goes_lower polled started (omega (arith, same_want, same_len, within)) (omega (arith, few, lower.count)) went in
     let no_more : work started ≤ work polled = elim went [ inl less ↦ omega (arith, less) | inr same ↦ omega (arith, ap work same.0) ] in
@@ -260,17 +331,21 @@ gone_falls old polled started new before after one other within few goes_on up p
           let nothing = lower.nothing none.0 none.1 in
           elim went [
             | inl less ↦ omega (arith, fewer, less, low, released)
-            | inr same ↦ absurd (same.1 (subst HasWork (sym nothing.0) (up.wants nothing.1)) (subst (λ (s : State). NoneBusy s.segments) (sym nothing.0) nothing.1))
+            | inr same ↦ absurd (same.1 (subst HasWork (sym nothing.0) (up.wants nothing.1))
+                (subst (λ (s : State). NoneBusy s.segments) (sym nothing.0) nothing.1))
           ]
     ]
 
 -- A step that is not idle takes a poll left, or leaves less to do.
-pub falls : (old new : State) (before after : DiskView) (answer : Result Step JournalFault) → old.want ≤ len old → length old.segments ≤ 10 → GoesOn before after → StepsBy old new before after answer → Falls old new before after answer
+pub falls : (old new : State) (before after : DiskView) (answer : Result Step JournalFault) → old.want ≤ len old → length old.segments ≤ 10
+    → GoesOn before after → StepsBy old new before after answer → Falls old new before after answer
 falls old new before after answer within few goes_on by = go by.rule by.one_told by.other_told
   where
-    go : {one other : Option Progress} {left : State} {result : Result Step JournalFault} → StepRule old one other left result → IsTold before after one → IsTold before after other → Falls old left before after result
+    go : {one other : Option Progress} {left : State} {result : Result Step JournalFault} → StepRule old one other left result
+        → IsTold before after one → IsTold before after other → Falls old left before after result
     go (was_dead side count dead) told also = tt
     go (idle lives rests none) told also = λ busy. absurd (busy refl)
     go (dies one other polled left side count up polls died) told also = tt
-    go (goes one other polled started left up polls went releases) told also = λ busy. gone_falls old polled started left before after one other within few goes_on up polls went releases told also
+    go (goes one other polled started left up polls went releases) told also = λ busy. gone_falls old polled started left before after one
+        other within few goes_on up polls went releases told also
     go (short one other polled up polls) told also = tt

@@ -21,14 +21,20 @@ last_wants state (w ∷ v ∷ earlier) current wants = last_wants state (v ∷ e
 abbrev pub HasMore : State → Writer → Type 0
 HasMore state w = (w.phase ≡ Broken) ⊎ ((w.written < len state) ⊎ (acked state < state.want))
 
-pub wants_current : (state : State) (current : Writer) → slice_get state.segments (length state.segments - 1) ≡ Some current → HasMore state current → WantsMore state state.segments
-wants_current state current is more = subst (λ (ws : List Writer). WantsMore state ws) (sym (last_split state.segments current is)) (wants_last state (take (length state.segments - 1) state.segments) current more)
+pub wants_current : (state : State) (current : Writer) → slice_get state.segments (length state.segments - 1) ≡ Some current
+    → HasMore state current → WantsMore state state.segments
+wants_current state current is more = subst (λ (ws : List Writer). WantsMore state ws) (sym (last_split state.segments current is))
+    (wants_last state (take (length state.segments - 1) state.segments) current more)
 
-pub current_wants : (state : State) (current : Writer) → slice_get state.segments (length state.segments - 1) ≡ Some current → WantsMore state state.segments → HasMore state current
-current_wants state current is wants = last_wants state (take (length state.segments - 1) state.segments) current (subst (λ (ws : List Writer). WantsMore state ws) (last_split state.segments current is) wants)
+pub current_wants : (state : State) (current : Writer) → slice_get state.segments (length state.segments - 1) ≡ Some current
+    → WantsMore state state.segments → HasMore state current
+current_wants state current is wants = last_wants state (take (length state.segments - 1) state.segments) current
+    (subst (λ (ws : List Writer). WantsMore state ws) (last_split state.segments current is) wants)
 
-pub works_by : (state seen : State) (current : Writer) → state ≡ seen → slice_get state.segments (length state.segments - 1) ≡ Some current → IsBehind seen → HasMore state current → HasWork seen
+pub works_by : (state seen : State) (current : Writer) → state ≡ seen → slice_get state.segments (length state.segments - 1) ≡ Some current
+    → IsBehind seen → HasMore state current → HasWork seen
 works_by state seen current same is behind more = (behind, subst (λ (s : State). WantsMore s s.segments) same (wants_current state current is more))
 
-pub more_by : (state seen : State) (current : Writer) → state ≡ seen → slice_get state.segments (length state.segments - 1) ≡ Some current → HasWork seen → HasMore state current
+pub more_by : (state seen : State) (current : Writer) → state ≡ seen → slice_get state.segments (length state.segments - 1) ≡ Some current
+    → HasWork seen → HasMore state current
 more_by state seen current same is work = current_wants state current is (subst (λ (s : State). WantsMore s s.segments) (sym same) work.1)

@@ -12,7 +12,9 @@ use Rattle.failover_writer.proofs.Stepped.{broken_phase, dying_broken}
 use Rattle.failover_writer.proofs.Sound.{some_records}
 
 -- A journal that gives up.
-pub sound_dead : (old : State) (side : Side) (count : ℕ) → IsSoundJournal old → Verdict IsToDie old → side ≡ side_at (length old.segments - 1) → count ≡ broken_count old → IsSoundJournal (record old { dead = Some (record { side = side; faults = count }) })
+pub sound_dead : (old : State) (side : Side) (count : ℕ) → IsSoundJournal old → Verdict IsToDie old
+    → side ≡ side_at (length old.segments - 1) → count ≡ broken_count old
+    → IsSoundJournal (record old { dead = Some (record { side = side; faults = count }) })
 sound_dead old side count sound verdict side_is count_is = record {
   least = sound.least;
   most = sound.most;

@@ -84,29 +84,39 @@ own_or_not wal (table upto) = inr tt
 -- ---- the other files
 
 -- A place of another WAL is none of theirs.
-apart_elsewhere : (wal index synced : ℕ) (ws : List Writer) (p : Place) → IsNotOwn wal p → index + length ws ≤ 1000 → AreJoined wal index synced ws → AllByRecursion (λ (w : Writer). place_of_writer w ≢ p) ws
+apart_elsewhere : (wal index synced : ℕ) (ws : List Writer) (p : Place) → IsNotOwn wal p → index + length ws ≤ 1000
+    → AreJoined wal index synced ws → AllByRecursion (λ (w : Writer). place_of_writer w ≢ p) ws
 unfolding AreJoined IsNotOwn IsOwn
 apart_elsewhere wal index synced [] p elsewhere few joined = tt
 apart_elsewhere wal index synced (w ∷ ws) p elsewhere few joined = (
-  λ e. subst (IsNotOwn wal) (sym e) elsewhere (ap (λ (name : SegName). name.wal) joined.0.name, omega (arith, few, ap (λ (name : SegName). name.index) joined.0.name)),
+  λ e. subst (IsNotOwn wal) (sym e) elsewhere (
+    ap (λ (name : SegName). name.wal) joined.0.name,
+    omega (arith, few, ap (λ (name : SegName). name.index) joined.0.name),
+  ),
   apart_elsewhere wal (suc index) (max synced w.synced) ws p elsewhere (omega (arith, few)) joined.2,
 )
 
-module _ (opening : Files) (state : State) (now : Files) (opened : IsOpenedOn opening state now) (named : state.wal ≤ 999999999999) (few : length state.segments ≤ 10) (joined : AreJoined state.wal 0 0 state.segments) (dirs : Dirs) (image : IsImage now dirs) where
+module _ (opening : Files) (state : State) (now : Files) (opened : IsOpenedOn opening state now) (named : state.wal ≤ 999999999999)
+    (few : length state.segments ≤ 10) (joined : AreJoined state.wal 0 0 state.segments) (dirs : Dirs) (image : IsImage now dirs) where
   now_elsewhere : (p : Place) → IsNotOwn state.wal p → now p ≡ opening p
-  now_elsewhere p elsewhere = opened.others p (not_theirs state.segments p (apart_elsewhere state.wal 0 0 state.segments p elsewhere (omega (arith, few)) joined))
+  now_elsewhere p elsewhere = opened.others p (not_theirs state.segments p
+      (apart_elsewhere state.wal 0 0 state.segments p elsewhere (omega (arith, few)) joined))
 
   -- No other segment of the journal's WAL stands.
-  none_beside : (side : Side) (n : ℕ) → 0 ≤ n → n ≤ 999 → (Contains (map place_of_writer state.segments) (place_in state.wal side n) → ⊥) → dirs (place_in state.wal side n) ≡ None
+  none_beside : (side : Side) (n : ℕ) → 0 ≤ n → n ≤ 999 → (Contains (map place_of_writer state.segments) (place_in state.wal side n) → ⊥)
+      → dirs (place_in state.wal side n) ≡ None
   none_beside side n low high not_there =
-      let gone : now (place_in state.wal side n) ≡ None = opened.others (place_in state.wal side n) not_there ∙ opened.absent side (record { wal = state.wal; index = n }) (named, high) refl in
-      image_of_none (place_in state.wal side n) (dirs (place_in state.wal side n)) (subst (λ f. IsImageOf (place_in state.wal side n) f (dirs (place_in state.wal side n))) gone (image (place_in state.wal side n)))
+      let gone : now (place_in state.wal side n) ≡ None = opened.others (place_in state.wal side n) not_there
+      ∙ opened.absent side (record { wal = state.wal; index = n }) (named, high) refl in
+      image_of_none (place_in state.wal side n) (dirs (place_in state.wal side n))
+      (subst (λ f. IsImageOf (place_in state.wal side n) f (dirs (place_in state.wal side n))) gone (image (place_in state.wal side n)))
 
   others_image : IsImage opening (without state.wal dirs)
   unfolding IsOwn
   others_image p = elim (own_or_not state.wal p) [
     | inl (side, name, is, own) ↦
-        let file : opening p ≡ None = ap opening is ∙ opened.absent side name (let wal_is : name.wal ≡ state.wal = own.0 in omega (arith, named, wal_is), own.1) own.0 in
+        let file : opening p ≡ None = ap opening is ∙ opened.absent side name
+        (let wal_is : name.wal ≡ state.wal = own.0 in omega (arith, named, wal_is), own.1) own.0 in
         let content : without state.wal dirs p ≡ None = ap (without state.wal dirs) is ∙ without_own state.wal dirs side name own in
         subst (λ f. IsImageOf p f (without state.wal dirs p)) (sym file) (subst (λ (o : Option (List ℕ)). IsImageOf p None o) (sym content) tt)
     | inr elsewhere ↦
@@ -123,7 +133,8 @@ module _ (opening : Files) (state : State) (now : Files) (opened : IsOpenedOn op
 -- ---- the run
 
 -- A stop leaves a prefix of the records, with all that are acked.
-pub run_kept_now : (tells : Bool) (records : List Batch) (opening : Files) (state : State) (v : DiskView) → IsTrue tells → StandsFor tells records state v → IsOpenedOn opening state (files v)
+pub run_kept_now : (tells : Bool) (records : List Batch) (opening : Files) (state : State) (v : DiskView) → IsTrue tells
+    → StandsFor tells records state v → IsOpenedOn opening state (files v)
     → KeepsRun state.wal state.base records (acked state) opening (files v)
 run_kept_now tells records opening state v told stands opened dirs image chance_free = record {
   count = merged.0;
@@ -142,14 +153,18 @@ run_kept_now tells records opening state v told stands opened dirs image chance_
   where
     row : OwnRow state.wal records dirs 0 0 state.segments
     row =
-        own_row state.wal stands.named records (are_records state.base records stands.numbered stands.spelled) dirs 0 0 state.segments (omega (arith, stands.few)) stands.joined
-        (all_kept tells records v dirs told image chance_free state.wal 0 0 state.segments stands.joined stands.fit) (none_beside opening state (files v) opened stands.named stands.few stands.joined dirs image)
+        own_row state.wal stands.named records (are_records state.base records stands.numbered stands.spelled) dirs 0 0 state.segments
+        (omega (arith, stands.few)) stands.joined
+        (all_kept tells records v dirs told image chance_free state.wal 0 0 state.segments stands.joined stands.fit)
+        (none_beside opening state (files v) opened stands.named stands.few stands.joined dirs image)
 
-    merged : (e : ℕ) × (ranges.most_synced 0 row.held ≤ e) × (e ≤ length records) × Merged state.base (map (ranges.records_in records) row.held) (take e records)
+    merged : (e : ℕ) × (ranges.most_synced 0 row.held ≤ e) × (e ≤ length records)
+        × Merged state.base (map (ranges.records_in records) row.held) (take e records)
     merged = parts_merge state.base records stands.numbered row.held row.are
 
 -- With fewer acked it is so too.
-run_with_fewer : (wal first : ℕ) (records : List Batch) (few many : ℕ) (opening : Files) (dirs : Dirs) → few ≤ many → IsRunOver wal first records many opening dirs → IsRunOver wal first records few opening dirs
+run_with_fewer : (wal first : ℕ) (records : List Batch) (few many : ℕ) (opening : Files) (dirs : Dirs) → few ≤ many
+    → IsRunOver wal first records many opening dirs → IsRunOver wal first records few opening dirs
 run_with_fewer wal first records few many opening dirs le run = record {
   count = run.count;
   has_acked = omega (arith, le, run.has_acked);
@@ -162,11 +177,18 @@ run_with_fewer wal first records few many opening dirs le run = record {
 }
 
 -- It is so at each moment of a call, with all that were acked before it.
-pub run_kept : (tells : Bool) (records : List Batch) (opening : Files) (old : State) (now : Files) → IsTrue tells → HasNoSegment old.wal opening → StoodAt tells records opening old now → KeepsRun old.wal old.base records (acked old) opening now
+pub run_kept : (tells : Bool) (records : List Batch) (opening : Files) (old : State) (now : Files) → IsTrue tells
+    → HasNoSegment old.wal opening → StoodAt tells records opening old now → KeepsRun old.wal old.base records (acked old) opening now
 run_kept tells records opening old now told absent stood dirs image chance_free =
     let here : KeepsRun stood.state.wal stood.state.base records (acked stood.state) opening (files stood.v) =
-    run_kept_now tells records opening stood.state stood.v told stood.stands (record { absent = subst (λ (n : ℕ). HasNoSegment n opening) (sym stood.wal) absent; others = subst (OthersStay opening stood.state) stood.here stood.others }) in
-    let there : KeepsRun stood.state.wal stood.state.base records (acked stood.state) opening now = subst (KeepsRun stood.state.wal stood.state.base records (acked stood.state) opening) (sym stood.here) here in
+    run_kept_now tells records opening stood.state stood.v told stood.stands
+    (record {
+      absent = subst (λ (n : ℕ). HasNoSegment n opening) (sym stood.wal) absent;
+      others = subst (OthersStay opening stood.state) stood.here stood.others;
+    }) in
+    let there : KeepsRun stood.state.wal stood.state.base records (acked stood.state) opening now = subst
+    (KeepsRun stood.state.wal stood.state.base records (acked stood.state) opening) (sym stood.here) here in
     let run : IsRunOver stood.state.wal stood.state.base records (acked stood.state) opening dirs = there dirs image chance_free in
     run_with_fewer old.wal old.base records (acked old) (acked stood.state) opening dirs stood.acked
-    (subst (λ (n : ℕ). IsRunOver old.wal n records (acked stood.state) opening dirs) stood.base (subst (λ (n : ℕ). IsRunOver n stood.state.base records (acked stood.state) opening dirs) stood.wal run))
+    (subst (λ (n : ℕ). IsRunOver old.wal n records (acked stood.state) opening dirs) stood.base
+    (subst (λ (n : ℕ). IsRunOver n stood.state.base records (acked stood.state) opening dirs) stood.wal run))

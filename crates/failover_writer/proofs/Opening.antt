@@ -27,13 +27,19 @@ use Rattle.failover_writer.specs.Keeping.{IsOpening}
 -- ---- chunks and chains
 
 -- A chain stands wherever its chunks do.
-chain_stands : (log : ℕ) (bytes others : List ℕ) → ChunksStandIn others log bytes → (at : ℕ) (is_open : Bool) (links : List Link) → IsChain bytes log at is_open links → IsChain others log at is_open links
+chain_stands : (log : ℕ) (bytes others : List ℕ) → ChunksStandIn others log bytes → (at : ℕ) (is_open : Bool) (links : List Link)
+    → IsChain bytes log at is_open links → IsChain others log at is_open links
 chain_stands log bytes others stand at is_open [] chain = tt
-chain_stands log bytes others stand at is_open (link ∷ links) chain =
-    (chain.0, stand (next_place at) link.kind link.payload chain.1, chain_stands log bytes others stand (chunk_end (next_place at) link) (leaves_open link.kind) links chain.2)
+chain_stands log bytes others stand at is_open (link ∷ links) chain = (
+  chain.0,
+  stand (next_place at) link.kind link.payload chain.1,
+  chain_stands log bytes others stand (chunk_end (next_place at) link)
+      (leaves_open link.kind) links chain.2,
+)
 
 -- Bytes in which the same chunks stand hold the same batches.
-holds_same : (log : ℕ) (bytes others : List ℕ) (batches : List Batch) → ChunksStandIn others log bytes → ChunksStandIn bytes log others → HoldsBatches log bytes batches → HoldsBatches log others batches
+holds_same : (log : ℕ) (bytes others : List ℕ) (batches : List Batch) → ChunksStandIn others log bytes → ChunksStandIn bytes log others
+    → HoldsBatches log bytes batches → HoldsBatches log others batches
 holds_same log bytes others batches there back holds = record {
   records = holds.records;
   ends_at = holds.ends_at;
@@ -60,7 +66,8 @@ stands_behind log sent rest at kind payload here =
     let fits : at + size ≤ length sent = stands_within here.stands (omega (arith, chunk_len kind log payload)) in
     record {
       stands = record {
-        is = ap (take size) (drop-append-le at sent rest (omega (arith, fits))) ∙ take-append-le size (drop at sent) rest (omega (arith, fits, length-drop at sent)) ∙ here.stands.is;
+        is = ap (take size) (drop-append-le at sent rest (omega (arith, fits)))
+            ∙ take-append-le size (drop at sent) rest (omega (arith, fits, length-drop at sent)) ∙ here.stands.is;
       };
       within = here.within;
     }
@@ -112,7 +119,8 @@ pub reads_sent : (o : Option File) (f : File) → o ≡ Some f → IsRestedFile 
 reads_sent o f is rests = ap as_read is ∙ rw rests.created (ap Some rests.reads)
 
 -- What reads is a file at rest that was sent so.
-read_of : (o : Option File) (bytes : List ℕ) → ((f : File) → o ≡ Some f → IsRestedFile f) → as_read o ≡ Some bytes → (f : File) × (o ≡ Some f) × (f.sent ≡ bytes)
+read_of : (o : Option File) (bytes : List ℕ) → ((f : File) → o ≡ Some f → IsRestedFile f) → as_read o ≡ Some bytes → (f : File)
+    × (o ≡ Some f) × (f.sent ≡ bytes)
 read_of None bytes rested e = absurd cc
 read_of (Some f) bytes rested e = let whole : Some f.sent ≡ Some bytes = sym (reads_sent (Some f) f refl (rested f refl)) ∙ e in (f, refl, cc)
 
@@ -121,9 +129,11 @@ has_file : (p : Place) (o : Option File) (content : List ℕ) → IsImageOf p o 
 has_file p None content im = absurd im
 has_file p (Some f) content im = (f, refl)
 
-module _ (now : Files) (rested : IsRested now) (stable : AreSegmentsStable now) (dirs : Dirs) (image : IsImage now dirs) (chance_free : IsChanceFree IsChunkOf now dirs) where
+module _ (now : Files) (rested : IsRested now) (stable : AreSegmentsStable now) (dirs : Dirs) (image : IsImage now dirs)
+    (chance_free : IsChanceFree IsChunkOf now dirs) where
   -- A segment stands in the image with all that was sent, and what else is after it.
-  content_of : (side : Side) (name : SegName) (f : File) → IsSegmentName name → now (segment side name) ≡ Some f → (rest : List ℕ) × (dirs (segment side name) ≡ Some (f.sent ++ rest))
+  content_of : (side : Side) (name : SegName) (f : File) → IsSegmentName name → now (segment side name) ≡ Some f → (rest : List ℕ)
+      × (dirs (segment side name) ≡ Some (f.sent ++ rest))
   content_of side name f named is =
       let p : Place = segment side name in
       let s : IsStable f = stable side name f named is in
@@ -131,12 +141,14 @@ module _ (now : Files) (rested : IsRested now) (stable : AreSegmentsStable now) 
       (has.2.0, has.1 ∙ ap Some (has.2.1 ∙ ap (λ (front : List ℕ). front ++ has.2.0) (take_all f.stable f.sent (omega (arith, s.whole)))))
 
   -- No chunk of it reaches after what was sent.
-  stood_before : (side : Side) (name : SegName) (f : File) (rest : List ℕ) → now (segment side name) ≡ Some f → dirs (segment side name) ≡ Some (f.sent ++ rest) → ChunksStandIn f.sent (log_number name.wal) (f.sent ++ rest)
+  stood_before : (side : Side) (name : SegName) (f : File) (rest : List ℕ) → now (segment side name) ≡ Some f
+      → dirs (segment side name) ≡ Some (f.sent ++ rest) → ChunksStandIn f.sent (log_number name.wal) (f.sent ++ rest)
   stood_before side name f rest is has at kind payload here =
       let log : ℕ = log_number name.wal in
       let long : length (chunk kind log payload) ≡ 11 + length payload = chunk_len kind log payload in
       let same : take (11 + length payload) (drop at (f.sent ++ rest)) ≡ take (11 + length payload) (drop at f.sent) =
-      chance_free (segment side name) f (f.sent ++ rest) at (11 + length payload) is has (record { kind = kind; payload = payload; stands = here; size_is = refl }) in
+      chance_free (segment side name) f (f.sent ++ rest) at (11 + length payload) is has
+      (record { kind = kind; payload = payload; stands = here; size_is = refl }) in
       record {
         stands = record { is = sym (subst (λ (n : ℕ). take n (drop at (f.sent ++ rest)) ≡ take n (drop at f.sent)) (sym long) same) ∙ here.stands.is };
         within = here.within;
@@ -152,7 +164,8 @@ module _ (now : Files) (rested : IsRested now) (stable : AreSegmentsStable now) 
       (named, has.1 ∙ ap Some (sym (ap (λ (o : Option (List ℕ)). unwrap_or o []) has.1)))
 
   -- What stands in the image was read.
-  was_read : (number : ℕ) (stored : Stored) → StandsIn dirs number stored → (old : Stored) × StandsIn (dirs_as_read now) number old × (filled dirs number old ≡ stored)
+  was_read : (number : ℕ) (stored : Stored) → StandsIn dirs number stored → (old : Stored) × StandsIn (dirs_as_read now) number old
+      × (filled dirs number old ≡ stored)
   unfolding filled
   was_read number stored (named, stands) =
       let p : Place = place_in number stored.side stored.index in
@@ -178,10 +191,16 @@ module _ (now : Files) (rested : IsRested now) (stable : AreSegmentsStable now) 
       here number stored stands =
           let old = was_read number stored stands in
           let of = (listed.same number old.0).1 old.1 in
-          let same : filled dirs of.0.number old.0 ≡ stored = ap (λ (k : ℕ). filled dirs k old.0) of.2 ∙ old.2 in
-          (filled_wal dirs of.0, within_map (filled_wal dirs) wals of.0 of.1, of.2, subst (Contains (map (filled dirs of.0.number) of.0.segments)) same (within_map (filled dirs of.0.number) of.0.segments old.0 of.3))
+          let same : filled dirs of.0.number old.0 ≡ stored = ap (λ (k : ℕ). filled dirs k old.0) of.2 ∙ old.2 in (
+            filled_wal dirs of.0,
+            within_map (filled_wal dirs) wals of.0 of.1,
+            of.2,
+            subst (Contains (map (filled dirs of.0.number) of.0.segments)) same
+                (within_map (filled dirs of.0.number) of.0.segments old.0 of.3),
+          )
 
-  one_holds : (number : ℕ) (stored : Stored) (batches : List Batch) → StandsIn (dirs_as_read now) number stored → HoldsBatches (log_number number) stored.content batches
+  one_holds : (number : ℕ) (stored : Stored) (batches : List Batch) → StandsIn (dirs_as_read now) number stored
+      → HoldsBatches (log_number number) stored.content batches
       → HoldsBatches (log_number number) (filled dirs number stored).content batches
   unfolding filled
   one_holds number stored batches (named, read) holds =
@@ -198,14 +217,18 @@ module _ (now : Files) (rested : IsRested now) (stable : AreSegmentsStable now) 
   abbrev WereRead : ℕ → List Stored → Type 0
   WereRead number segments = (stored : Stored) → Contains segments stored → StandsIn (dirs_as_read now) number stored
 
-  row_holds : (number : ℕ) (segments : List Stored) (row : List (List Batch)) → WereRead number segments → HoldRow (log_number number) segments row → HoldRow (log_number number) (map (filled dirs number) segments) row
+  row_holds : (number : ℕ) (segments : List Stored) (row : List (List Batch)) → WereRead number segments
+      → HoldRow (log_number number) segments row → HoldRow (log_number number) (map (filled dirs number) segments) row
   row_holds number [] [] each holds = tt
   row_holds number [] (batches ∷ row) each holds = holds
   row_holds number (stored ∷ segments) [] each holds = holds
-  row_holds number (stored ∷ segments) (batches ∷ row) each holds =
-      (one_holds number stored batches (each stored (within_head stored segments)) holds.0, row_holds number segments row (λ s h. each s (within_tail stored segments s h)) holds.1)
+  row_holds number (stored ∷ segments) (batches ∷ row) each holds = (
+    one_holds number stored batches (each stored (within_head stored segments)) holds.0,
+    row_holds number segments row (λ s h. each s (within_tail stored segments s h)) holds.1,
+  )
 
-  wals_merge : (first : ℕ) (wals : List Wal) (merged : List Batch) → ((wal : Wal) → Contains wals wal → WereRead wal.number wal.segments) → WalsMerge first wals merged → WalsMerge first (map (filled_wal dirs) wals) merged
+  wals_merge : (first : ℕ) (wals : List Wal) (merged : List Batch) → ((wal : Wal) → Contains wals wal → WereRead wal.number wal.segments)
+      → WalsMerge first wals merged → WalsMerge first (map (filled_wal dirs) wals) merged
   unfolding WalsMerge filled_wal
   wals_merge first [] merged each merges = merges
   wals_merge first (wal ∷ wals) merged each (own, later, here, rest, is) = (
@@ -225,7 +248,8 @@ module _ (now : Files) (rested : IsRested now) (stable : AreSegmentsStable now) 
   }
 
 pub stable_opens : (wal : ℕ) (base : List Batch) (now : Files) → IsRested now → AreSegmentsStable now → Recovers (dirs_as_read now) base
-    → ((side : Side) (name : SegName) (f : File) → IsSegmentName name → now (segment side name) ≡ Some f → name.wal < wal) → IsOpening wal (end_after NUMBER_FIRST base) base now
+    → ((side : Side) (name : SegName) (f : File) → IsSegmentName name → now (segment side name) ≡ Some f → name.wal < wal)
+    → IsOpening wal (end_after NUMBER_FIRST base) base now
 stable_opens wal base now rested stable read above = record {
   above = above;
   ends = refl;
@@ -238,7 +262,8 @@ stable_opens wal base now rested stable read above = record {
 pub rested_above : (wal : ℕ) (now : Files) → IsRested now → IsNextWal (dirs_as_read now) wal
     → (side : Side) (name : SegName) (f : File) → IsSegmentName name → now (segment side name) ≡ Some f → name.wal < wal
 rested_above wal now rested next side name f named is =
-    next.above name.wal (record { side = side; index = name.index; content = f.sent }) (named, reads_sent (now (segment side name)) f is (rested (segment side name) f is))
+    next.above name.wal (record { side = side; index = name.index; content = f.sent })
+    (named, reads_sent (now (segment side name)) f is (rested (segment side name) f is))
 
 -- A sync leaves what a read finds, and a file at rest.
 as_read_synced : (o n : Option File) → IsAsOrSynced o n → as_read n ≡ as_read o
@@ -260,7 +285,8 @@ pub rested_synced : (old now : Files) → IsRested old → OnlySynced old now �
 rested_synced old now rested only p g is = rested_here (old p) (now p) g (rested p) (only p) is
 
 -- Files at rest that recovered with no gap, and were synced, open a journal of the next WAL.
-pub recovered_opens : (wal : ℕ) (base : List Batch) (old now : Files) → IsRested old → OnlySynced old now → AreSegmentsStable now → Recovers (dirs_as_read old) base → IsNextWal (dirs_as_read old) wal
+pub recovered_opens : (wal : ℕ) (base : List Batch) (old now : Files) → IsRested old → OnlySynced old now → AreSegmentsStable now
+    → Recovers (dirs_as_read old) base → IsNextWal (dirs_as_read old) wal
     → IsOpening wal (end_after NUMBER_FIRST base) base now
 recovered_opens wal base old now rested only stable recovers next =
     let same : dirs_as_read old ≡ dirs_as_read now = sym (read_synced old now only) in

@@ -22,12 +22,18 @@ use Rattle.failover_writer.specs.Keeping.{AreSegmentsOf, IsSameElsewhere, IsRunO
 abbrev AreBelow : ℕ → List Wal → Type 0
 AreBelow top wals = (wal : Wal) → Contains wals wal → wal.number < top
 
-order_more : (low top : ℕ) (wals : List Wal) (wal : Wal) → AreByNumber low wals → AreBelow top wals → wal.number ≡ top → low ≤ top → wal.segments ≢ [] → AreByIndex 0 wal.segments
+order_more : (low top : ℕ) (wals : List Wal) (wal : Wal) → AreByNumber low wals → AreBelow top wals → wal.number ≡ top → low ≤ top
+    → wal.segments ≢ [] → AreByIndex 0 wal.segments
     → AreByNumber low (wals ++ wal ∷ [])
 unfolding AreByNumber
 order_more low top [] wal order below e le some by = (omega (arith, e, le), some, by, tt)
-order_more low top (old ∷ wals) wal order below e le some by =
-    (order.0, order.1, order.2, order_more (suc old.number) top wals wal order.3 (λ w h. below w (within_tail old wals w h)) e (omega (arith, below old (within_head old wals))) some by)
+order_more low top (old ∷ wals) wal order below e le some by = (
+  order.0,
+  order.1,
+  order.2,
+  order_more (suc old.number) top wals wal order.3 (λ w h. below w (within_tail old wals w h)) e
+      (omega (arith, below old (within_head old wals))) some by,
+)
 
 -- each segment that stands is of a lower number
 abbrev StandBelow : ℕ → Dirs → Type 0
@@ -50,9 +56,11 @@ module _ (wal : ℕ) (old dirs : Dirs) (same : IsSameElsewhere wal dirs old) (be
   lower_stands number stored stands = stands_too number stored (λ e. omega (arith, e, below number stored stands)) stands
 
   -- One more WAL, above all others, stands in the directories.
-  listed_more : (segments : List Stored) → segments ≢ [] → AreSegmentsOf dirs wal segments → IsListingOf dirs (wals ++ record { number = wal; segments = segments } ∷ [])
+  listed_more : (segments : List Stored) → segments ≢ [] → AreSegmentsOf dirs wal segments
+      → IsListingOf dirs (wals ++ record { number = wal; segments = segments } ∷ [])
   listed_more segments some are = record {
-    order = order_more 0 wal wals (record { number = wal; segments = segments }) listed.order (all_below wal old wals listed below) refl (omega arith) some are.order;
+    order = order_more 0 wal wals (record { number = wal; segments = segments }) listed.order (all_below wal old wals listed below) refl
+        (omega arith) some are.order;
     same = λ number stored. (there number stored, here number stored);
   }
     where
@@ -97,13 +105,21 @@ empty_row log (batches ∷ row) h = absurd h
 -- A WAL of no segment merges to nothing.
 nothing_of_none : (first wal : ℕ) (merged : List Batch) → WalMerges first (record { number = wal; segments = [] }) merged → merged ≡ []
 nothing_of_none first wal merged m =
-    one_merged first [] merged [] (subst (λ (r : List (List Batch)). Merged first r merged) (empty_row (log_number wal) m.row m.holds) m.merges) (nothing_merged first)
+    one_merged first [] merged [] (subst (λ (r : List (List Batch)). Merged first r merged) (empty_row (log_number wal) m.row m.holds)
+    m.merges) (nothing_merged first)
 
-module _ (wal : ℕ) (old dirs : Dirs) (same : IsSameElsewhere wal dirs old) (below : StandBelow wal old) (base own : List Batch) (recovers : Recovers old base) where
-  merges_on : (segments : List Stored) → AreSegmentsOf dirs wal segments → WalMerges (end_after NUMBER_FIRST base) (record { number = wal; segments = segments }) own → Recovers dirs (base ++ own)
+module _ (wal : ℕ) (old dirs : Dirs) (same : IsSameElsewhere wal dirs old) (below : StandBelow wal old) (base own : List Batch)
+    (recovers : Recovers old base) where
+  merges_on : (segments : List Stored) → AreSegmentsOf dirs wal segments
+      → WalMerges (end_after NUMBER_FIRST base) (record { number = wal; segments = segments }) own → Recovers dirs (base ++ own)
   merges_on [] are merges =
-      let nothing : base ≡ base ++ own = sym (append-nil base) ∙ ap (λ (rest : List Batch). base ++ rest) (sym (nothing_of_none (end_after NUMBER_FIRST base) wal own merges)) in
-      subst (Recovers dirs) nothing (record { wals = recovers.wals; listed = listed_still wal old dirs same below recovers.wals recovers.listed are; merges = recovers.merges })
+      let nothing : base ≡ base ++ own = sym (append-nil base) ∙ ap (λ (rest : List Batch). base ++ rest)
+      (sym (nothing_of_none (end_after NUMBER_FIRST base) wal own merges)) in
+      subst (Recovers dirs) nothing (record {
+        wals = recovers.wals;
+        listed = listed_still wal old dirs same below recovers.wals recovers.listed are;
+        merges = recovers.merges;
+      })
   merges_on (one ∷ more) are merges = record {
     wals = recovers.wals ++ record { number = wal; segments = one ∷ more } ∷ [];
     listed = listed_more wal old dirs same below recovers.wals recovers.listed (one ∷ more) (λ e. cc) are;
@@ -116,19 +132,22 @@ has_file p None content im = absurd im
 has_file p (Some f) content im = (f, refl)
 
 -- Each segment of an image of an opening is of a lower number.
-opening_below : (wal first : ℕ) (base records : List Batch) (acked : ℕ) (opening : Files) (dirs : Dirs) → IsOpening wal first base opening → (run : IsRunOver wal first records acked opening dirs) → StandBelow wal run.others
+opening_below : (wal first : ℕ) (base records : List Batch) (acked : ℕ) (opening : Files) (dirs : Dirs) → IsOpening wal first base opening
+    → (run : IsRunOver wal first records acked opening dirs) → StandBelow wal run.others
 opening_below wal first base records acked opening dirs begun run number stored stands =
     let p : Place = place_in number stored.side stored.index in
     let f = has_file p (opening p) stored.content (subst (λ (o : Option (List ℕ)). IsImageOf p (opening p) o) stands.1 (run.image p)) in
     begun.above stored.side (name_in number stored.index) f.0 stands.0 f.1
 
-pub base_recovers : (wal first : ℕ) (records base : List Batch) (acked : ℕ) (opening now : Files) → IsOpening wal first base opening → KeepsRun wal first records acked opening now → RecoversTo base records acked now
+pub base_recovers : (wal first : ℕ) (records base : List Batch) (acked : ℕ) (opening now : Files) → IsOpening wal first base opening
+    → KeepsRun wal first records acked opening now → RecoversTo base records acked now
 base_recovers wal first records base acked opening now begun keeps dirs image chance_free =
     let run : IsRunOver wal first records acked opening dirs = keeps dirs image chance_free in (
       run.count,
       run.has_acked,
       run.within,
-      merges_on wal run.others dirs run.same (opening_below wal first base records acked opening dirs begun run) base (take run.count records) (begun.recovers run.others run.image run.chance_free)
+      merges_on wal run.others dirs run.same (opening_below wal first base records acked opening dirs begun run) base
+          (take run.count records) (begun.recovers run.others run.image run.chance_free)
           run.merges.segments run.merges.are
           (subst (λ (n : ℕ). WalMerges n (record { number = wal; segments = run.merges.segments }) (take run.count records)) begun.ends run.merges.merges),
     )

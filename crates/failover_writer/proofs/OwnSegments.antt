@@ -39,7 +39,10 @@ pub record IsRecord (batch : Batch) : Type 0 where
 pub are_records : (from : ℕ) (batches : List Batch) → IsContiguous from batches → AllByRecursion IsSpelled batches → AllByRecursion IsRecord batches
 unfolding IsContiguous
 are_records from [] contiguous spelled = tt
-are_records from (batch ∷ batches) contiguous spelled = (record { spelled = spelled.0; some = contiguous.1 }, are_records (end_of batch) batches contiguous.2 spelled.1)
+are_records from (batch ∷ batches) contiguous spelled = (
+  record { spelled = spelled.0; some = contiguous.1 },
+  are_records (end_of batch) batches contiguous.2 spelled.1,
+)
 
 all_take : {X : Type 0} (P : X → Type 0) (n : ℕ) (xs : List X) → AllByRecursion P xs → AllByRecursion P (take n xs)
 all_take P zero xs all = tt
@@ -66,7 +69,8 @@ read_spells (one ∷ read) (batch ∷ batches) e are =
     (subst (λ (bytes : List ℕ). SpellsBatch bytes batch) (sym here) are.0.spelled, read_spells read batches later are.1)
 
 -- A segment that is kept holds the records from where it begins up to some number, not below what is synced.
-kept_holds : (log : ℕ) (content : List ℕ) (from synced : ℕ) (records : List Batch) → AllByRecursion IsRecord records → from ≤ synced → IsKeptAs log from synced records (Some content)
+kept_holds : (log : ℕ) (content : List ℕ) (from synced : ℕ) (records : List Batch) → AllByRecursion IsRecord records → from ≤ synced
+    → IsKeptAs log from synced records (Some content)
     → (to : ℕ) × (synced ≤ to) × (to ≤ length records) × HoldsBatches log content (between from to records)
 kept_holds log content from synced records are low kept = (
   from + first.count,
@@ -78,7 +82,8 @@ kept_holds log content from synced records are low kept = (
     torn = reading.torn;
     read = reading.read;
     all = between from (from + first.count) records;
-    spelled = read_spells reading.records (between from (from + first.count) records) (first.first ∙ ap (λ (n : ℕ). map written (take n (drop from records))) count_is) part_are;
+    spelled = read_spells reading.records (between from (from + first.count) records)
+        (first.first ∙ ap (λ (n : ℕ). map written (take n (drop from records))) count_is) part_are;
     counted_are = sym (all_counted (between from (from + first.count) records) part_are);
   },
 )
@@ -102,7 +107,8 @@ pub record IsKeptIn (wal : ℕ) (records : List Batch) (dirs : Dirs) (w : Writer
   pub begins : w.from ≤ w.synced
   pub kept : IsKeptAs (log_number wal) w.from w.synced records (dirs (place_of_writer w))
 
-pub all_kept : (tells : Bool) (records : List Batch) (v : DiskView) (dirs : Dirs) → IsTrue tells → IsImage (files v) dirs → IsChanceFree IsChunkOf (files v) dirs → (wal index synced : ℕ) (ws : List Writer)
+pub all_kept : (tells : Bool) (records : List Batch) (v : DiskView) (dirs : Dirs) → IsTrue tells → IsImage (files v) dirs
+    → IsChanceFree IsChunkOf (files v) dirs → (wal index synced : ℕ) (ws : List Writer)
     → AreJoined wal index synced ws → AllByRecursion (λ (w : Writer). Fits tells records w v) ws → AllByRecursion (IsKeptIn wal records dirs) ws
 unfolding AreJoined
 all_kept tells records v dirs told image chance_free wal index synced [] joined fit = tt
@@ -114,11 +120,15 @@ all_kept tells records v dirs told image chance_free wal index synced (w ∷ ws)
     )
 
 -- A place of a lower index is none of theirs.
-pub apart_below : (wal index synced : ℕ) (ws : List Writer) (place : Place) → index_in place < index → AreJoined wal index synced ws → AllByRecursion (λ (w : Writer). place_of_writer w ≢ place) ws
+pub apart_below : (wal index synced : ℕ) (ws : List Writer) (place : Place) → index_in place < index → AreJoined wal index synced ws
+    → AllByRecursion (λ (w : Writer). place_of_writer w ≢ place) ws
 unfolding AreJoined
 apart_below wal index synced [] place low joined = tt
-apart_below wal index synced (w ∷ ws) place low joined =
-    (λ e. omega (arith, low, index_is wal index w joined.0, ap index_in e), apart_below wal (suc index) (max synced w.synced) ws place (omega (arith, low)) joined.2)
+apart_below wal index synced (w ∷ ws) place low joined = (
+  λ e. omega (arith, low, index_is wal index w joined.0, ap index_in e),
+  apart_below wal (suc index) (max synced w.synced) ws place
+      (omega (arith, low)) joined.2,
+)
 
 -- ---- the row
 
@@ -147,7 +157,8 @@ pub record OwnRow (wal : ℕ) (records : List Batch) (dirs : Dirs) (index synced
 module _ (wal : ℕ) (named : wal ≤ 999999999999) (records : List Batch) (are : AllByRecursion IsRecord records) (dirs : Dirs) where
   -- No other segment of the WAL stands from this index on.
   abbrev pub NoneBeside : ℕ → List Writer → Type 0
-  NoneBeside index ws = (side : Side) (n : ℕ) → index ≤ n → n ≤ 999 → (Contains (map place_of_writer ws) (place_in wal side n) → ⊥) → dirs (place_in wal side n) ≡ None
+  NoneBeside index ws = (side : Side) (n : ℕ) → index ≤ n → n ≤ 999 → (Contains (map place_of_writer ws) (place_in wal side n) → ⊥)
+      → dirs (place_in wal side n) ≡ None
 
   none_behind : (index synced : ℕ) (w : Writer) (ws : List Writer) → AreJoined wal index synced (w ∷ ws) → NoneBeside index (w ∷ ws) → NoneBeside (suc index) ws
   unfolding AreJoined
@@ -158,11 +169,16 @@ module _ (wal : ℕ) (named : wal ≤ 999999999999) (records : List Batch) (are 
       ])
 
   -- At the index of a writer only its own side has a segment.
-  at_index : (index synced : ℕ) (w : Writer) (ws : List Writer) (stored : Stored) → AreJoined wal index synced (w ∷ ws) → NoneBeside index (w ∷ ws) → stored.index ≡ index → stored.index ≤ 999
+  at_index : (index synced : ℕ) (w : Writer) (ws : List Writer) (stored : Stored) → AreJoined wal index synced (w ∷ ws)
+      → NoneBeside index (w ∷ ws) → stored.index ≡ index → stored.index ≤ 999
       → dirs (place_in wal stored.side stored.index) ≡ Some stored.content → (stored.side ≡ side_at index) × (dirs (place_at wal index) ≡ Some stored.content)
   unfolding AreJoined
   at_index index synced w ws stored joined none e few there = elim (same_side stored.side (side_at index)) [
-    | inl s ↦ (s, subst (λ (n : ℕ). dirs (place_in wal (side_at index) n) ≡ Some stored.content) e (subst (λ (side : Side). dirs (place_in wal side stored.index) ≡ Some stored.content) s there))
+    | inl s ↦ (
+      s,
+      subst (λ (n : ℕ). dirs (place_in wal (side_at index) n) ≡ Some stored.content) e
+          (subst (λ (side : Side). dirs (place_in wal side stored.index) ≡ Some stored.content) s there),
+    )
     | inr other ↦
         let gone : dirs (place_in wal stored.side stored.index) ≡ None =
         none stored.side stored.index (omega (arith, e)) few (not_theirs (w ∷ ws) (place_in wal stored.side stored.index) (
@@ -176,11 +192,13 @@ module _ (wal : ℕ) (named : wal ≤ 999999999999) (records : List Batch) (are 
       side_of one two same = cc
 
   -- Where a writer's segment is gone, nothing of it was synced.
-  row_without : (index synced : ℕ) (w : Writer) (ws : List Writer) → AreJoined wal index synced (w ∷ ws) → NoneBeside index (w ∷ ws) → IsKeptIn wal records dirs w → dirs (place_at wal index) ≡ None
+  row_without : (index synced : ℕ) (w : Writer) (ws : List Writer) → AreJoined wal index synced (w ∷ ws) → NoneBeside index (w ∷ ws)
+      → IsKeptIn wal records dirs w → dirs (place_at wal index) ≡ None
       → OwnRow wal records dirs (suc index) (max synced w.synced) ws → OwnRow wal records dirs index synced (w ∷ ws)
   unfolding AreJoined most_synced
   row_without index synced w ws joined none kept gone later =
-      let nothing : w.synced ≡ w.from = subst (λ (o : Option (List ℕ)). IsKeptAs (log_number wal) w.from w.synced records o) (ap dirs (place_is wal index w joined.0) ∙ gone) kept.kept in
+      let nothing : w.synced ≡ w.from = subst (λ (o : Option (List ℕ)). IsKeptAs (log_number wal) w.from w.synced records o)
+      (ap dirs (place_is wal index w joined.0) ∙ gone) kept.kept in
       let still : max synced w.synced ≡ synced = omega (arith, nothing, joined.1) in
       record {
         segments = later.segments;
@@ -199,8 +217,10 @@ module _ (wal : ℕ) (named : wal ≤ 999999999999) (records : List Batch) (are 
       }
 
   -- Where it stands, it holds records up to some number.
-  row_with : (index synced : ℕ) (w : Writer) (ws : List Writer) → index ≤ 999 → AreJoined wal index synced (w ∷ ws) → NoneBeside index (w ∷ ws) → IsKeptIn wal records dirs w
-      → (content : List ℕ) → dirs (place_at wal index) ≡ Some content → OwnRow wal records dirs (suc index) (max synced w.synced) ws → OwnRow wal records dirs index synced (w ∷ ws)
+  row_with : (index synced : ℕ) (w : Writer) (ws : List Writer) → index ≤ 999 → AreJoined wal index synced (w ∷ ws)
+      → NoneBeside index (w ∷ ws) → IsKeptIn wal records dirs w
+      → (content : List ℕ) → dirs (place_at wal index) ≡ Some content → OwnRow wal records dirs (suc index) (max synced w.synced) ws
+      → OwnRow wal records dirs index synced (w ∷ ws)
   unfolding AreJoined AreRanges AreByIndex most_synced ranges.most_synced
   row_with index synced w ws few joined none kept content there later =
       let here : Stored = record { side = side_at index; index = index; content = content } in
@@ -230,7 +250,8 @@ module _ (wal : ℕ) (named : wal ≤ 999999999999) (records : List Batch) (are 
         );
       }
 
-  pub own_row : (index synced : ℕ) (ws : List Writer) → index + length ws ≤ 1000 → AreJoined wal index synced ws → AllByRecursion (IsKeptIn wal records dirs) ws → NoneBeside index ws
+  pub own_row : (index synced : ℕ) (ws : List Writer) → index + length ws ≤ 1000 → AreJoined wal index synced ws
+      → AllByRecursion (IsKeptIn wal records dirs) ws → NoneBeside index ws
       → OwnRow wal records dirs index synced ws
   unfolding AreJoined AreRanges AreByIndex most_synced ranges.most_synced
   own_row index synced [] few joined kept none = record {
@@ -242,7 +263,8 @@ module _ (wal : ℕ) (named : wal ≤ 999999999999) (records : List Batch) (are 
     holds = tt;
     same = λ stored. (
       λ h. absurd (none_within stored h),
-      λ h. not_both (dirs (place_in wal stored.side stored.index)) stored.content (none stored.side stored.index h.0 h.1.0.1 (λ has. none_within (place_in wal stored.side stored.index) has)) h.1.1,
+      λ h. not_both (dirs (place_in wal stored.side stored.index)) stored.content
+          (none stored.side stored.index h.0 h.1.0.1 (λ has. none_within (place_in wal stored.side stored.index) has)) h.1.1,
     );
   }
   own_row index synced (w ∷ ws) few joined kept none =

@@ -35,7 +35,8 @@ pub record IsPolledEarly (state mid : State) (one : Option Progress) : Type 0 wh
   pub first : PollsFirst earlier one polled
   pub now : mid ≡ record state { segments = polled ++ current ∷ [] }
 
-pub none_early : (state : State) (current : Writer) → slice_get state.segments (length state.segments - 1) ≡ Some current → NoneBusy (take (length state.segments - 1) state.segments) → IsPolledEarly state state None
+pub none_early : (state : State) (current : Writer) → slice_get state.segments (length state.segments - 1) ≡ Some current
+    → NoneBusy (take (length state.segments - 1) state.segments) → IsPolledEarly state state None
 none_early state current is none = record {
   earlier = take (length state.segments - 1) state.segments;
   polled = take (length state.segments - 1) state.segments;
@@ -45,18 +46,23 @@ none_early state current is none = record {
   now = ap (λ (ws : List Writer). record state { segments = ws }) (last_split state.segments current is);
 }
 
-in_front : (front : List Writer) (w : Writer) (index : ℕ) (x : Writer) → index < length front → slice_get (front ++ w ∷ []) index ≡ Some x → slice_get front index ≡ Some x
+in_front : (front : List Writer) (w : Writer) (index : ℕ) (x : Writer) → index < length front → slice_get (front ++ w ∷ []) index ≡ Some x
+    → slice_get front index ≡ Some x
 in_front [] w index x below is = absurd (omega (arith, below))
 in_front (v ∷ front) w zero x below is = is
 in_front (v ∷ front) w (suc index) x below is = in_front front w index x (omega (arith, below)) is
 
-first_at : (writers : List Writer) (index : ℕ) (w : Writer) (operation : Operation) (id : OpId) (answer : Progress) → NoneBusy (take index writers) → slice_get writers index ≡ Some w → w.phase ≡ InFlight operation id
+first_at : (writers : List Writer) (index : ℕ) (w : Writer) (operation : Operation) (id : OpId) (answer : Progress)
+    → NoneBusy (take index writers) → slice_get writers index ≡ Some w → w.phase ≡ InFlight operation id
     → PollsFirst writers (Some answer) (take index writers ++ after_answer operation answer w ∷ drop (suc index) writers)
 first_at writers index w operation id answer none is phase =
-    subst (λ (ws : List Writer). PollsFirst ws (Some answer) (take index writers ++ after_answer operation answer w ∷ drop (suc index) writers)) (sym (split_at writers index w is))
+    subst (λ (ws : List Writer). PollsFirst ws (Some answer) (take index writers ++ after_answer operation answer w ∷ drop
+    (suc index) writers)) (sym (split_at writers index w is))
     (stepping.polled (take index writers) w (drop (suc index) writers) operation id answer none phase)
 
-spliced : (front : List Writer) (last : Writer) (index : ℕ) (x : Writer) → index < length front → take index (front ++ last ∷ []) ++ x ∷ drop (index + 1) (front ++ last ∷ []) ≡ (take index front ++ x ∷ drop (suc index) front) ++ last ∷ []
+spliced : (front : List Writer) (last : Writer) (index : ℕ) (x : Writer) → index < length front
+    → take index (front ++ last ∷ []) ++ x ∷ drop (index + 1) (front ++ last ∷ []) ≡ (take index front ++ x ∷ drop (suc index) front) ++
+    last ∷ []
 spliced front last index x below =
     let next : index + 1 ≡ suc index = omega arith in
     ap (λ (ws : List Writer). ws ++ x ∷ drop (index + 1) (front ++ last ∷ [])) (take-append-le index front (last ∷ []) (omega (arith, below)))
@@ -64,12 +70,14 @@ spliced front last index x below =
     ∙ ap (λ (ws : List Writer). take index front ++ x ∷ ws) (drop-append-le (suc index) front (last ∷ []) (omega (arith, below)))
     ∙ sym (append_assoc (take index front) (x ∷ drop (suc index) front) (last ∷ []))
 
-pub one_early : (tells : Bool) (state mid : State) (before after : DiskView) (index : ℕ) (pending : Bool) (current : Writer) → slice_get state.segments (length state.segments - 1) ≡ Some current → index < length state.segments - 1
+pub one_early : (tells : Bool) (state mid : State) (before after : DiskView) (index : ℕ) (pending : Bool) (current : Writer)
+    → slice_get state.segments (length state.segments - 1) ≡ Some current → index < length state.segments - 1
     → NoneBusy (take index state.segments) → (polls : PollsAt tells index state mid before after pending) → IsPolledEarly state mid (Some polls.answer)
 one_early tells state mid before after index pending current is below none polls =
     let front = take (length state.segments - 1) state.segments in
     let were : state.segments ≡ take (length state.segments - 1) state.segments ++ current ∷ [] = last_split state.segments current is in
-    let long : length (take (length state.segments - 1) state.segments) ≡ length state.segments - 1 = omega (arith, length-take (length state.segments - 1) state.segments) in
+    let long : length (take (length state.segments - 1) state.segments) ≡ length state.segments - 1 = omega
+    (arith, length-take (length state.segments - 1) state.segments) in
     record {
       earlier = front;
       polled = take index front ++ after_answer polls.operation polls.answer polls.writer ∷ drop (suc index) front;
@@ -77,8 +85,10 @@ one_early tells state mid before after index pending current is below none polls
       were = were;
       first =
           first_at front index polls.writer polls.operation polls.id polls.answer
-          (subst (λ (ws : List Writer). NoneBusy ws) (ap (λ (ws : List Writer). take index ws) were ∙ take-append-le index front (current ∷ []) (omega (arith, below, long))) none)
-          (in_front front current index polls.writer (omega (arith, below, long)) (subst (λ (ws : List Writer). slice_get ws index ≡ Some polls.writer) were polls.stood)) polls.phase;
+          (subst (λ (ws : List Writer). NoneBusy ws) (ap (λ (ws : List Writer). take index ws) were
+          ∙ take-append-le index front (current ∷ []) (omega (arith, below, long))) none)
+          (in_front front current index polls.writer (omega (arith, below, long))
+          (subst (λ (ws : List Writer). slice_get ws index ≡ Some polls.writer) were polls.stood)) polls.phase;
       now =
           polls.new_is ∙ ap (λ (ws : List Writer). record state { segments = ws })
           (ap (λ (ws : List Writer). take index ws ++ after_answer polls.operation polls.answer polls.writer ∷ drop (index + 1) ws) were
@@ -93,35 +103,57 @@ last_at front w = at_length front w (length (front ++ w ∷ []) - 1) (omega (ari
     at_length (v ∷ ws) x n is = subst (λ (k : ℕ). slice_get (v ∷ (ws ++ x ∷ [])) k ≡ Some x) (sym is) (at_length ws x (length ws) refl)
 
 -- The current segment is at rest, and is not polled.
-pub none_late : (state mid : State) (one : Option Progress) (current : Writer) → (early : IsPolledEarly state mid one) → slice_get mid.segments (length mid.segments - 1) ≡ Some current → (IsBusy current.phase → ⊥) → Polls state one None mid
+pub none_late : (state mid : State) (one : Option Progress) (current : Writer) → (early : IsPolledEarly state mid one)
+    → slice_get mid.segments (length mid.segments - 1) ≡ Some current → (IsBusy current.phase → ⊥) → Polls state one None mid
 none_late state mid one current early is rests =
-    let seen : slice_get (early.polled ++ early.current ∷ []) (length (early.polled ++ early.current ∷ []) - 1) ≡ Some current = subst (λ (s : State). slice_get s.segments (length s.segments - 1) ≡ Some current) early.now is in
+    let seen : slice_get (early.polled ++ early.current ∷ []) (length (early.polled ++ early.current ∷ []) - 1) ≡ Some current = subst
+    (λ (s : State). slice_get s.segments (length s.segments - 1) ≡ Some current) early.now is in
     let here : Some current ≡ Some early.current = sym seen ∙ last_at early.polled early.current in
     let same : current ≡ early.current = cc in
     subst (λ (s : State). Polls state one None s) (sym early.now)
-    (stepping.asked early.earlier early.current one None early.polled early.current early.were early.first (stepping.none (early.current ∷ []) (subst (λ (w : Writer). IsBusy w.phase → ⊥) same rests, tt)))
+    (stepping.asked early.earlier early.current one None early.polled early.current early.were early.first
+    (stepping.none (early.current ∷ []) (subst (λ (w : Writer). IsBusy w.phase → ⊥) same rests, tt)))
 
 -- The current segment is polled.
-pub one_late : (tells : Bool) (state mid new : State) (before after : DiskView) (one : Option Progress) (index : ℕ) (pending : Bool) → (early : IsPolledEarly state mid one) → index ≡ length mid.segments - 1
+pub one_late : (tells : Bool) (state mid new : State) (before after : DiskView) (one : Option Progress) (index : ℕ) (pending : Bool)
+    → (early : IsPolledEarly state mid one) → index ≡ length mid.segments - 1
     → (polls : PollsAt tells index mid new before after pending) → Polls state one (Some polls.answer) new
 one_late tells state mid new before after one index pending early at polls =
-    let stood : slice_get mid.segments (length mid.segments - 1) ≡ Some polls.writer = subst (λ (n : ℕ). slice_get mid.segments n ≡ Some polls.writer) at polls.stood in
-    let seen : slice_get (early.polled ++ early.current ∷ []) (length (early.polled ++ early.current ∷ []) - 1) ≡ Some polls.writer = subst (λ (s : State). slice_get s.segments (length s.segments - 1) ≡ Some polls.writer) early.now stood in
+    let stood : slice_get mid.segments (length mid.segments - 1) ≡ Some polls.writer = subst
+    (λ (n : ℕ). slice_get mid.segments n ≡ Some polls.writer) at polls.stood in
+    let seen : slice_get (early.polled ++ early.current ∷ []) (length (early.polled ++ early.current ∷ []) - 1) ≡ Some polls.writer = subst
+    (λ (s : State). slice_get s.segments (length s.segments - 1) ≡ Some polls.writer) early.now stood in
     let here : Some polls.writer ≡ Some early.current = sym seen ∙ last_at early.polled early.current in
     let same : polls.writer ≡ early.current = cc in
     let segments : mid.segments ≡ early.polled ++ early.current ∷ [] = ap (λ (s : State). s.segments) early.now in
-    let place : index ≡ length early.polled = omega (arith, at, ap (λ (ws : List Writer). length ws) segments, length-append early.polled (early.current ∷ [])) in
+    let place : index ≡ length early.polled = omega (
+      arith,
+      at,
+      ap (λ (ws : List Writer). length ws) segments,
+      length-append early.polled (early.current ∷ []),
+    ) in
     let behind : length (early.polled ++ early.current ∷ []) ≤ index + 1 = omega (arith, place, length-append early.polled (early.current ∷ [])) in
     let left = after_answer polls.operation polls.answer early.current in
     let becomes : new ≡ record state { segments = early.polled ++ after_answer polls.operation polls.answer early.current ∷ [] } =
-    polls.new_is ∙ ap (λ (s : State). record s { segments = take index s.segments ++ after_answer polls.operation polls.answer polls.writer ∷ drop (index + 1) s.segments }) early.now
-    ∙ ap (λ (w : Writer). record state { segments = take index (early.polled ++ early.current ∷ []) ++ after_answer polls.operation polls.answer w ∷ drop (index + 1) (early.polled ++ early.current ∷ []) }) same
-    ∙ ap (λ (ws : List Writer). record state { segments = ws ++ after_answer polls.operation polls.answer early.current ∷ drop (index + 1) (early.polled ++ early.current ∷ []) })
+    polls.new_is ∙ ap (λ (s : State). record s {
+      segments = take index s.segments ++ after_answer polls.operation polls.answer polls.writer
+          ∷ drop (index + 1) s.segments;
+    }) early.now
+    ∙ ap (λ (w : Writer). record state {
+      segments = take index (early.polled ++ early.current ∷ []) ++ after_answer polls.operation
+          polls.answer w ∷ drop (index + 1) (early.polled ++ early.current ∷ []);
+    }) same
+    ∙ ap (λ (ws : List Writer). record state {
+      segments = ws ++ after_answer polls.operation polls.answer early.current ∷ drop (index + 1)
+          (early.polled ++ early.current ∷ []);
+    })
     (take_at early.polled (early.current ∷ []) index (sym place))
-    ∙ ap (λ (ws : List Writer). record state { segments = early.polled ++ after_answer polls.operation polls.answer early.current ∷ ws }) (drop_all (index + 1) (early.polled ++ early.current ∷ []) behind) in
+    ∙ ap (λ (ws : List Writer). record state { segments = early.polled ++ after_answer polls.operation polls.answer early.current ∷ ws })
+    (drop_all (index + 1) (early.polled ++ early.current ∷ []) behind) in
     subst (λ (s : State). Polls state one (Some polls.answer) s) (sym becomes)
     (stepping.asked early.earlier early.current one (Some polls.answer) early.polled left early.were early.first
-    (stepping.polled [] early.current [] polls.operation polls.id polls.answer tt (subst (λ (w : Writer). w.phase ≡ InFlight polls.operation polls.id) same polls.phase)))
+    (stepping.polled [] early.current [] polls.operation polls.id polls.answer tt
+    (subst (λ (w : Writer). w.phase ≡ InFlight polls.operation polls.id) same polls.phase)))
 
 -- ---- what the polls tell
 
@@ -131,7 +163,8 @@ told_at tells id Done before after polled = tt
 told_at tells id Failed before after polled = (id.side, polled.rose)
 
 -- What a poll told, it tells after later calls too.
-pub told_earlier : (before between after : DiskView) (answer : Option Progress) → GoesOn between after → IsTold before between answer → IsTold before after answer
+pub told_earlier : (before between after : DiskView) (answer : Option Progress) → GoesOn between after → IsTold before between answer
+    → IsTold before after answer
 told_earlier before between after None goes told = tt
 told_earlier before between after (Some Pending) goes told = (told.0, omega (arith, goes.polls told.0, told.1))
 told_earlier before between after (Some Done) goes told = tt
@@ -141,7 +174,11 @@ told_later : (before between after : DiskView) (answer : Option Progress) → Go
 told_later before between after None goes told = tt
 told_later before between after (Some Pending) goes told = (told.0, omega (arith, goes.polls told.0, told.1))
 told_later before between after (Some Done) goes told = tt
-told_later before between after (Some Failed) goes told = (told.0, rose_later (before.faults told.0) (between.faults told.0) (after.faults told.0) (goes.faults told.0) told.1)
+told_later before between after (Some Failed) goes told = (
+  told.0,
+  rose_later (before.faults told.0) (between.faults told.0)
+      (after.faults told.0) (goes.faults told.0) told.1,
+)
 
 -- ---- both polls
 
@@ -161,11 +198,13 @@ parted (w ∷ ws) = inr (get_or (w ∷ ws) (length (w ∷ ws) - 1) w, slice_get-
 pub early_none : (state : State) (v : DiskView) → NoneBusy (take (length state.segments - 1) state.segments) → PollsEarly state state v v false
 early_none state v none = record { one = None; early = go (parted state.segments); told = tt; taken = omega arith; asks = refl; pending_is = refl }
   where
-    go : (state.segments ≡ []) ⊎ ((w : Writer) × (slice_get state.segments (length state.segments - 1) ≡ Some w)) → ((state.segments ≡ []) × (state ≡ state) × (◌≡◌ {A = Option Progress} None None)) ⊎ IsPolledEarly state state None
+    go : (state.segments ≡ []) ⊎ ((w : Writer) × (slice_get state.segments (length state.segments - 1) ≡ Some w))
+        → ((state.segments ≡ []) × (state ≡ state) × (◌≡◌ {A = Option Progress} None None)) ⊎ IsPolledEarly state state None
     go (inl empty) = inl (empty, refl, refl)
     go (inr (w, is)) = inr (none_early state w is none)
 
-pub early_one : (tells : Bool) (state mid : State) (before between : DiskView) (index : ℕ) (pending : Bool) → IsFirstBusy index state → PollsAt tells index state mid before between pending → PollsEarly state mid before between pending
+pub early_one : (tells : Bool) (state mid : State) (before between : DiskView) (index : ℕ) (pending : Bool) → IsFirstBusy index state
+    → PollsAt tells index state mid before between pending → PollsEarly state mid before between pending
 early_one tells state mid before between index pending first polls = record {
   one = Some polls.answer;
   early = go (parted state.segments);
@@ -175,12 +214,14 @@ early_one tells state mid before between index pending first polls = record {
   pending_is = polls.pending_is;
 }
   where
-    go : (state.segments ≡ []) ⊎ ((w : Writer) × (slice_get state.segments (length state.segments - 1) ≡ Some w)) → ((state.segments ≡ []) × (mid ≡ state) × (Some polls.answer ≡ None)) ⊎ IsPolledEarly state mid (Some polls.answer)
+    go : (state.segments ≡ []) ⊎ ((w : Writer) × (slice_get state.segments (length state.segments - 1) ≡ Some w))
+        → ((state.segments ≡ []) × (mid ≡ state) × (Some polls.answer ≡ None)) ⊎ IsPolledEarly state mid (Some polls.answer)
     go (inl empty) = absurd (omega (arith, first.before_current, ap (λ (ws : List Writer). length ws) empty))
     go (inr (w, is)) = inr (one_early tells state mid before between index pending w is first.before_current first.first polls)
 
 -- The current segment is at rest, and is not polled.
-pub all_none : (state mid : State) (before between : DiskView) (pending : Bool) → PollsEarly state mid before between pending → NoneBusy (drop (length mid.segments - 1) mid.segments) → PollsAll state mid before between (pending || false)
+pub all_none : (state mid : State) (before between : DiskView) (pending : Bool) → PollsEarly state mid before between pending
+    → NoneBusy (drop (length mid.segments - 1) mid.segments) → PollsAll state mid before between (pending || false)
 all_none state mid before between pending early none = record {
   one = early.one;
   other = None;
@@ -195,17 +236,23 @@ all_none state mid before between pending early none = record {
 }
   where
     go : (one : Option Progress) → ((state.segments ≡ []) × (mid ≡ state) × (one ≡ None)) ⊎ IsPolledEarly state mid one → Polls state one None mid
-    go one (inl (empty, same, is)) = subst (λ (s : State). Polls state one None s) (sym same) (subst (λ (o : Option Progress). Polls state o None state) (sym is) (stepping.nothing_begun empty))
+    go one (inl (empty, same, is)) = subst (λ (s : State). Polls state one None s) (sym same)
+        (subst (λ (o : Option Progress). Polls state o None state) (sym is) (stepping.nothing_begun empty))
     go one (inr polled) =
         let segments : mid.segments ≡ polled.polled ++ polled.current ∷ [] = ap (λ (s : State). s.segments) polled.now in
-        let place : length polled.polled ≡ length (polled.polled ++ polled.current ∷ []) - 1 = omega (arith, length-append polled.polled (polled.current ∷ [])) in
+        let place : length polled.polled ≡ length (polled.polled ++ polled.current ∷ []) - 1 = omega
+        (arith, length-append polled.polled (polled.current ∷ [])) in
         let rests = subst (λ (ws : List Writer). NoneBusy (drop (length ws - 1) ws)) segments none in
-        none_late state mid one polled.current polled (subst (λ (ws : List Writer). slice_get ws (length ws - 1) ≡ Some polled.current) (sym segments) (last_at polled.polled polled.current))
-        (subst (λ (ws : List Writer). NoneBusy ws) (drop_at polled.polled (polled.current ∷ []) (length (polled.polled ++ polled.current ∷ []) - 1) place) rests).0
+        none_late state mid one polled.current polled (subst (λ (ws : List Writer). slice_get ws (length ws - 1) ≡ Some polled.current)
+        (sym segments) (last_at polled.polled polled.current))
+        (subst (λ (ws : List Writer). NoneBusy ws) (drop_at polled.polled (polled.current ∷ [])
+        (length (polled.polled ++ polled.current ∷ []) - 1) place) rests).0
 
 -- The current segment is polled.
-pub all_one : (tells : Bool) (state mid new : State) (before between after : DiskView) (index : ℕ) (pending pending_now : Bool) → PollsEarly state mid before between pending → suc index ≡ length mid.segments
-    → PollsAt tells index mid new between after pending_now → GoesOn before between → GoesOn between after → PollsAll state new before after (pending || pending_now)
+pub all_one : (tells : Bool) (state mid new : State) (before between after : DiskView) (index : ℕ) (pending pending_now : Bool)
+    → PollsEarly state mid before between pending → suc index ≡ length mid.segments
+    → PollsAt tells index mid new between after pending_now → GoesOn before between → GoesOn between after
+    → PollsAll state new before after (pending || pending_now)
 all_one tells state mid new before between after index pending pending_now early at polls goes goes_later = record {
   one = early.one;
   other = Some polls.answer;
@@ -219,7 +266,8 @@ all_one tells state mid new before between after index pending pending_now early
   pending_is = ap (λ (b : Bool). b || pending_now) early.pending_is ∙ ap (λ (b : Bool). was_pending early.one || b) polls.pending_is;
 }
   where
-    go : (one : Option Progress) → ((state.segments ≡ []) × (mid ≡ state) × (one ≡ None)) ⊎ IsPolledEarly state mid one → Polls state one (Some polls.answer) new
+    go : (one : Option Progress) → ((state.segments ≡ []) × (mid ≡ state) × (one ≡ None)) ⊎ IsPolledEarly state mid one
+        → Polls state one (Some polls.answer) new
     go one (inl (empty, same, is)) = absurd (omega (arith, at, ap (λ (s : State). length s.segments) same, ap (λ (ws : List Writer). length ws) empty))
     go one (inr polled) = one_late tells state mid new between after one index pending_now polled (omega (arith, at)) polls
 
@@ -245,34 +293,48 @@ part_still : (tells : Bool) (state : State) (v : DiskView) → GoesPart tells st
 part_still tells state v = record { keeps = λ records stands. stands; passes = passes_still tells state state v refl refl refl; goes = goes_on_from v }
 
 module _ {D : Type 0} (tells : Bool) (view : D → DiskView) where
-  pub early_not : (old now : JournalView D) (early : Bool) → now ≡ old → early ≡ false → NoneBusy (take (length old.state.segments - 1) old.state.segments) → GoesEarly tells old.state now.state (view old.disk) (view now.disk) early
+  pub early_not : (old now : JournalView D) (early : Bool) → now ≡ old → early ≡ false
+      → NoneBusy (take (length old.state.segments - 1) old.state.segments)
+      → GoesEarly tells old.state now.state (view old.disk) (view now.disk) early
   early_not old now early same is none =
-      subst (λ (h : JournalView D). GoesEarly tells old.state h.state (view old.disk) (view h.disk) early) (sym same) (subst (λ (b : Bool). GoesEarly tells old.state old.state (view old.disk) (view old.disk) b) (sym is)
+      subst (λ (h : JournalView D). GoesEarly tells old.state h.state (view old.disk) (view h.disk) early) (sym same)
+      (subst (λ (b : Bool). GoesEarly tells old.state old.state (view old.disk) (view old.disk) b) (sym is)
       (record { polls = early_none old.state (view old.disk) none; part = part_still tells old.state (view old.disk) }))
 
-  pub early_made : (old seen now then : JournalView D) (early pending : Bool) (index : ℕ) → seen ≡ old → now ≡ then → early ≡ pending → IsFirstBusy index old.state
-      → PollsAt tells index seen.state then.state (view seen.disk) (view then.disk) pending → GoesPart tells seen.state then.state (view seen.disk) (view then.disk)
+  pub early_made : (old seen now then : JournalView D) (early pending : Bool) (index : ℕ) → seen ≡ old → now ≡ then → early ≡ pending
+      → IsFirstBusy index old.state
+      → PollsAt tells index seen.state then.state (view seen.disk) (view then.disk) pending
+      → GoesPart tells seen.state then.state (view seen.disk) (view then.disk)
       → GoesEarly tells old.state now.state (view old.disk) (view now.disk) early
   early_made old seen now then early pending index same same_now is first polls part =
       subst (λ (h : JournalView D). GoesEarly tells h.state now.state (view h.disk) (view now.disk) early) same
       (subst (λ (h : JournalView D). GoesEarly tells seen.state h.state (view seen.disk) (view h.disk) early) (sym same_now)
       (subst (λ (b : Bool). GoesEarly tells seen.state then.state (view seen.disk) (view then.disk) b) (sym is)
-      (record { polls = early_one tells seen.state then.state (view seen.disk) (view then.disk) index pending (subst (λ (h : JournalView D). IsFirstBusy index h.state) (sym same) first) polls; part = part })))
+      (record {
+        polls = early_one tells seen.state then.state (view seen.disk) (view then.disk) index pending
+            (subst (λ (h : JournalView D). IsFirstBusy index h.state) (sym same) first) polls;
+        part = part;
+      })))
 
-  pub late_not : (old mid now : JournalView D) (early late : Bool) → GoesEarly tells old.state mid.state (view old.disk) (view mid.disk) early → now ≡ mid → late ≡ false
+  pub late_not : (old mid now : JournalView D) (early late : Bool)
+      → GoesEarly tells old.state mid.state (view old.disk) (view mid.disk) early → now ≡ mid → late ≡ false
       → NoneBusy (drop (length mid.state.segments - 1) mid.state.segments) → GoesBoth tells old.state now.state (view old.disk) (view now.disk) (early || late)
   late_not old mid now early late went same is none =
       subst (λ (h : JournalView D). GoesBoth tells old.state h.state (view old.disk) (view h.disk) (early || late)) (sym same)
       (subst (λ (b : Bool). GoesBoth tells old.state mid.state (view old.disk) (view mid.disk) (early || b)) (sym is)
       (record { polls = all_none old.state mid.state (view old.disk) (view mid.disk) early went.polls none; passes = went.part.passes }))
 
-  pub late_made : (old mid now then : JournalView D) (early late pending : Bool) (index : ℕ) → GoesEarly tells old.state mid.state (view old.disk) (view mid.disk) early → now ≡ then → late ≡ pending
-      → suc index ≡ length mid.state.segments → PollsAt tells index mid.state then.state (view mid.disk) (view then.disk) pending → GoesPart tells mid.state then.state (view mid.disk) (view then.disk)
+  pub late_made : (old mid now then : JournalView D) (early late pending : Bool) (index : ℕ)
+      → GoesEarly tells old.state mid.state (view old.disk) (view mid.disk) early → now ≡ then → late ≡ pending
+      → suc index ≡ length mid.state.segments → PollsAt tells index mid.state then.state (view mid.disk) (view then.disk) pending
+      → GoesPart tells mid.state then.state (view mid.disk) (view then.disk)
       → GoesBoth tells old.state now.state (view old.disk) (view now.disk) (early || late)
   late_made old mid now then early late pending index went same is at polls part =
       subst (λ (h : JournalView D). GoesBoth tells old.state h.state (view old.disk) (view h.disk) (early || late)) (sym same)
       (subst (λ (b : Bool). GoesBoth tells old.state then.state (view old.disk) (view then.disk) (early || b)) (sym is)
       (record {
-        polls = all_one tells old.state mid.state then.state (view old.disk) (view mid.disk) (view then.disk) index early pending went.polls at polls went.part.goes part.goes;
-        passes = passes_further tells old.state mid.state then.state (view old.disk) (view mid.disk) (view then.disk) went.part.keeps part.goes went.part.passes part.passes;
+        polls = all_one tells old.state mid.state then.state (view old.disk) (view mid.disk) (view then.disk) index early pending went.polls
+            at polls went.part.goes part.goes;
+        passes = passes_further tells old.state mid.state then.state (view old.disk) (view mid.disk)
+            (view then.disk) went.part.keeps part.goes went.part.passes part.passes;
       }))

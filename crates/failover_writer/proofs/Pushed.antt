@@ -20,14 +20,17 @@ use Rattle.failover_writer.proofs.Segments.{all_push}
 pub queue_end : (records : List Batch) (queue : Queue) → IsQueueOf records queue → queues.queue_end queue ≡ length records
 queue_end records queue is = let held = ap (λ (bs : List Batch). length bs) is.holds in omega (arith, held, length-drop queue.start records, is.start)
 
-pub queue_pushed : (records : List Batch) (added : Batch) (old new : Queue) → IsQueueOf records old → new.start ≡ old.start → new.records ≡ old.records ++ added ∷ [] → IsQueueOf (records ++ added ∷ []) new
+pub queue_pushed : (records : List Batch) (added : Batch) (old new : Queue) → IsQueueOf records old → new.start ≡ old.start
+    → new.records ≡ old.records ++ added ∷ [] → IsQueueOf (records ++ added ∷ []) new
 queue_pushed records added old new is start holds = record {
   start = omega (arith, start, is.start, length-append records (added ∷ []));
   holds =
-      holds ∙ ap (λ (bs : List Batch). bs ++ added ∷ []) is.holds ∙ sym (drop-append-le old.start records (added ∷ []) is.start) ∙ ap (λ (n : ℕ). drop n (records ++ added ∷ [])) (sym start);
+      holds ∙ ap (λ (bs : List Batch). bs ++ added ∷ []) is.holds ∙ sym (drop-append-le old.start records (added ∷ []) is.start)
+      ∙ ap (λ (n : ℕ). drop n (records ++ added ∷ [])) (sym start);
 }
 
-pub numbered_pushed : (base : ℕ) (records : List Batch) (added : Batch) → IsContiguous base records → added.first ≡ end_after base records → 0 < count_of added.entries → IsContiguous base (records ++ added ∷ [])
+pub numbered_pushed : (base : ℕ) (records : List Batch) (added : Batch) → IsContiguous base records → added.first ≡ end_after base records
+    → 0 < count_of added.entries → IsContiguous base (records ++ added ∷ [])
 unfolding IsContiguous
 numbered_pushed base records added numbered first some = contiguous_append base records (added ∷ []) numbered (first, some, tt)
 
@@ -36,7 +39,8 @@ unfolding end_after
 end_pushed base records added = end_append base records (added ∷ [])
 
 -- The journal stands for one record more.
-pub pushed_stands : (tells : Bool) (records : List Batch) (added : Batch) (old : State) (queue : Queue) (next want : ℕ) (v : DiskView) → StandsFor tells records old v → added.first ≡ old.next → 0 < count_of added.entries → IsSpelled added
+pub pushed_stands : (tells : Bool) (records : List Batch) (added : Batch) (old : State) (queue : Queue) (next want : ℕ) (v : DiskView)
+    → StandsFor tells records old v → added.first ≡ old.next → 0 < count_of added.entries → IsSpelled added
     → queue.start ≡ old.queue.start → queue.records ≡ old.queue.records ++ added ∷ [] → next ≡ end_of added → want ≤ length records + 1
     → StandsFor tells (records ++ added ∷ []) (record old { queue = queue; next = next; want = want }) v
 pushed_stands tells records added old queue next want v stands first some spelled start holds next_is within = record {
@@ -50,7 +54,8 @@ pushed_stands tells records added old queue next want v stands first some spelle
   few = stands.few;
   joined = stands.joined;
   fit =
-      all_then (λ (w : Writer). Fits tells records w v) (λ (w : Writer). Fits tells (records ++ added ∷ []) w v) (λ w fits. fits_grown tells records (added ∷ []) w v fits) old.segments stands.fit;
+      all_then (λ (w : Writer). Fits tells records w v) (λ (w : Writer). Fits tells (records ++ added ∷ []) w v)
+      (λ w fits. fits_grown tells records (added ∷ []) w v fits) old.segments stands.fit;
   alone = stands.alone;
   fresh = stands.fresh;
 }

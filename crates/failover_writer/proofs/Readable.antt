@@ -46,7 +46,8 @@ none_of P a b c d (Last, holds) = d holds
 search_kinds : (P : ChunkKind → Type 0) → ((kind : ChunkKind) → P kind ⊎ (P kind → ⊥)) → ((kind : ChunkKind) × P kind) ⊎ ((kind : ChunkKind) × P kind → ⊥)
 search_kinds P decide = go (decide Full) (decide First) (decide Middle) (decide Last)
   where
-    go : P Full ⊎ (P Full → ⊥) → P First ⊎ (P First → ⊥) → P Middle ⊎ (P Middle → ⊥) → P Last ⊎ (P Last → ⊥) → ((kind : ChunkKind) × P kind) ⊎ ((kind : ChunkKind) × P kind → ⊥)
+    go : P Full ⊎ (P Full → ⊥) → P First ⊎ (P First → ⊥) → P Middle ⊎ (P Middle → ⊥) → P Last ⊎ (P Last → ⊥) → ((kind : ChunkKind) × P kind)
+        ⊎ ((kind : ChunkKind) × P kind → ⊥)
     go (inl holds) b c d = inl (Full, holds)
     go (inr a) (inl holds) c d = inl (First, holds)
     go (inr a) (inr b) (inl holds) d = inl (Middle, holds)
@@ -57,11 +58,13 @@ search_kinds P decide = go (decide Full) (decide First) (decide Middle) (decide 
 abbrev payload_in : List ℕ → ℕ → ℕ → List ℕ
 payload_in bytes at n = take n (drop (at + 6 + 5) bytes)
 
-payload_is : {bytes : List ℕ} {at log : ℕ} {kind : ChunkKind} {payload : List ℕ} → ChunkAt bytes at log kind payload → payload_in bytes at (length payload) ≡ payload
+payload_is : {bytes : List ℕ} {at log : ℕ} {kind : ChunkKind} {payload : List ℕ} → ChunkAt bytes at log kind payload
+    → payload_in bytes at (length payload) ≡ payload
 unfolding covered
 payload_is {bytes} {at} {log} {kind} {payload} h = (stands_back {at = at + 6} (type_byte kind ∷ to_le_bytes w32 log) payload (fields_of h.stands).body).is
 
-chunk_is_here : (bytes : List ℕ) (at log : ℕ) (kind : ChunkKind) (payload : List ℕ) → ChunkAt bytes at log kind payload ⊎ (ChunkAt bytes at log kind payload → ⊥)
+chunk_is_here : (bytes : List ℕ) (at log : ℕ) (kind : ChunkKind) (payload : List ℕ) → ChunkAt bytes at log kind payload
+    ⊎ (ChunkAt bytes at log kind payload → ⊥)
 chunk_is_here bytes at log kind payload = elim (same_bytes (take (length (chunk kind log payload)) (drop at bytes)) (chunk kind log payload)) [
   | inl is ↦ elim (dec_le (at % 32768 + 11 + length payload) 32768) [
     | yes within ↦ inl (record { stands = record { is = is }; within = within })
@@ -72,11 +75,15 @@ chunk_is_here bytes at log kind payload = elim (same_bytes (take (length (chunk 
 
 -- A chunk of the log stands here, or none does.
 chunk_or_none : (bytes : List ℕ) (log at : ℕ)
-    → ((kind : ChunkKind) × (payload : List ℕ) × ChunkAt bytes at log kind payload) ⊎ ((kind : ChunkKind) (payload : List ℕ) → ChunkAt bytes at log kind payload → ⊥)
+    → ((kind : ChunkKind) × (payload : List ℕ) × ChunkAt bytes at log kind payload)
+    ⊎ ((kind : ChunkKind) (payload : List ℕ) → ChunkAt bytes at log kind payload → ⊥)
 chunk_or_none bytes log at =
-    elim (search_below (λ n. (kind : ChunkKind) × ChunkAt bytes at log kind (payload_in bytes at n)) (λ n. search_kinds (λ kind. ChunkAt bytes at log kind (payload_in bytes at n)) (λ kind. chunk_is_here bytes at log kind (payload_in bytes at n))) (suc (length bytes))) [
+    elim (search_below (λ n. (kind : ChunkKind) × ChunkAt bytes at log kind (payload_in bytes at n))
+    (λ n. search_kinds (λ kind. ChunkAt bytes at log kind (payload_in bytes at n))
+    (λ kind. chunk_is_here bytes at log kind (payload_in bytes at n))) (suc (length bytes))) [
       | inl (n, found) ↦ inl (found.0, payload_in bytes at n, found.1)
-      | inr none ↦ inr (λ kind payload here. none (length payload) (omega (arith, within_segment here)) (kind, subst (λ (p : List ℕ). ChunkAt bytes at log kind p) (sym (payload_is here)) here))
+      | inr none ↦ inr (λ kind payload here. none (length payload) (omega (arith, within_segment here))
+          (kind, subst (λ (p : List ℕ). ChunkAt bytes at log kind p) (sym (payload_is here)) here))
     ]
 
 may_follow_or_not : (is_open : Bool) (kind : ChunkKind) → MayFollow is_open kind ⊎ (MayFollow is_open kind → ⊥)
@@ -107,14 +114,16 @@ module _ (bytes : List ℕ) (log : ℕ) where
   }
 
   read_on : (fuel at : ℕ) (is_open : Bool) (so_far : Spelled) → LeftToRead bytes log at is_open so_far → length bytes ≤ at + fuel → Reading bytes log
-  read_on zero at is_open so_far left short = ended_here at is_open so_far left (λ kind payload may here. omega (arith, short, not_before at, within_segment here))
+  read_on zero at is_open so_far left short = ended_here at is_open so_far left
+      (λ kind payload may here. omega (arith, short, not_before at, within_segment here))
   read_on (suc fuel) at is_open so_far left short = elim (chunk_or_none bytes log (next_place at)) [
     | inr none ↦ ended_here at is_open so_far left (λ kind payload may here. none kind payload here)
     | inl (kind, payload, here) ↦ elim (may_follow_or_not is_open kind) [
       | inr never ↦ ended_here at is_open so_far left (λ other more may there. never (subst (MayFollow is_open) (one_chunk there here).0 may))
       | inl may ↦
           let link : Link = record { kind = kind; payload = payload } in
-          read_on fuel (chunk_end (next_place at) link) (leaves_open kind) (after_link (next_place at) so_far link) (left_next link left may here) (omega (arith, short, not_before at))
+          read_on fuel (chunk_end (next_place at) link) (leaves_open kind) (after_link (next_place at) so_far link)
+          (left_next link left may here) (omega (arith, short, not_before at))
     ]
   ]
 

@@ -32,7 +32,8 @@ use Rattle.failover_writer.proofs.Segments.{not_theirs}
 -- What a read finds of a file is one of its images, and each chunk that stands there was sent so.
 record ReadsAsImage (place : Place) (f : Option File) : Type 0 where
   image : IsImageOf place f (as_read f)
-  was_sent : (g : File) (bytes : List ℕ) (at size : ℕ) → f ≡ Some g → as_read f ≡ Some bytes → IsChunkOf bytes at (log_of place) size → take size (drop at bytes) ≡ take size (drop at g.sent)
+  was_sent : (g : File) (bytes : List ℕ) (at size : ℕ) → f ≡ Some g → as_read f ≡ Some bytes → IsChunkOf bytes at (log_of place) size
+      → take size (drop at bytes) ≡ take size (drop at g.sent)
 
 -- What was sent to a file is an image of it.
 sent_is_image : (place : Place) (f : File) → IsImageOf place (Some f) (Some f.sent)
@@ -56,12 +57,14 @@ chunk_in_front : (front more : List ℕ) (at log size : ℕ) → IsChunkOf front
 chunk_in_front front more at log size here =
     let long : length (chunk here.kind log here.payload) ≡ 11 + length here.payload = chunk_len here.kind log here.payload in
     let fits : at + length (chunk here.kind log here.payload) ≤ length front = stands_within here.stands.stands (omega (arith, long)) in
-    sym (ap (take size) (drop-append-le at front more (omega (arith, fits))) ∙ take-append-le size (drop at front) more (omega (arith, fits, long, here.size_is, length-drop at front)))
+    sym (ap (take size) (drop-append-le at front more (omega (arith, fits)))
+    ∙ take-append-le size (drop at front) more (omega (arith, fits, long, here.size_is, length-drop at front)))
 
 -- ---- one segment
 
 fresh_reads : (w : Writer) (f : Option File) → f ≡ Some fresh → ReadsAsImage (place_of_writer w) f
-fresh_reads w f is = subst (ReadsAsImage (place_of_writer w)) (sym is) (record { image = λ e. absurd cc; was_sent = λ g bytes at size same read here. absurd cc })
+fresh_reads w f is = subst (ReadsAsImage (place_of_writer w)) (sym is)
+    (record { image = λ e. absurd cc; was_sent = λ g bytes at size same read here. absurd cc })
 
 module _ (records : List Batch) (w : Writer) (ordered : IsOrdered records w) where
   -- the bytes of its records up to this one
@@ -77,14 +80,17 @@ module _ (records : List Batch) (w : Writer) (ordered : IsOrdered records w) whe
     image = λ made. (
       behind w.synced w.written,
       bytes_split w.log w.from w.synced w.written records ordered.from ordered.synced
-          ∙ ap (λ (front : List ℕ). front ++ behind w.synced w.written) (sym (bytes_front w.log w.from w.synced w.sent records ordered.from (omega (arith, ordered.synced, ordered.written)))),
+          ∙ ap (λ (front : List ℕ). front ++ behind w.synced w.written)
+          (sym (bytes_front w.log w.from w.synced w.sent records ordered.from (omega (arith, ordered.synced, ordered.written)))),
     );
     was_sent = λ g bytes at size is read here.
         let bytes_are : upto w.written ≡ bytes = cc in
         let sent_is : upto w.sent ≡ g.sent = ap (λ (o : Option File). sent_of o) is in
-        let split : upto w.sent ≡ upto w.written ++ behind w.written w.sent = bytes_split w.log w.from w.written w.sent records (omega (arith, ordered.from, ordered.synced)) ordered.written in
+        let split : upto w.sent ≡ upto w.written ++ behind w.written w.sent = bytes_split w.log w.from w.written w.sent records
+        (omega (arith, ordered.from, ordered.synced)) ordered.written in
         subst (λ (l : List ℕ). take size (drop at l) ≡ take size (drop at g.sent)) bytes_are
-        (chunk_in_front (upto w.written) (behind w.written w.sent) at (log_of (place_of_writer w)) size (subst (λ (l : List ℕ). IsChunkOf l at (log_of (place_of_writer w)) size) (sym bytes_are) here)
+        (chunk_in_front (upto w.written) (behind w.written w.sent) at (log_of (place_of_writer w)) size
+        (subst (λ (l : List ℕ). IsChunkOf l at (log_of (place_of_writer w)) size) (sym bytes_are) here)
         ∙ ap (λ (l : List ℕ). take size (drop at l)) (sym split ∙ sent_is));
   }
     where
@@ -109,7 +115,8 @@ none_counted : (b : Bool) (n : ℕ) → cond b 1 0 + n ≡ 0 → (b ≡ false) �
 none_counted true n none = absurd (omega (arith, none))
 none_counted false n none = (refl, omega (arith, none))
 
-all_read : (tells : Bool) (records : List Batch) (v : DiskView) → IsTrue tells → (wal index synced : ℕ) (ws : List Writer) → AreJoined wal index synced ws → AllByRecursion (λ (w : Writer). Fits tells records w v) ws → count_by is_broken ws ≡ 0
+all_read : (tells : Bool) (records : List Batch) (v : DiskView) → IsTrue tells → (wal index synced : ℕ) (ws : List Writer)
+    → AreJoined wal index synced ws → AllByRecursion (λ (w : Writer). Fits tells records w v) ws → count_by is_broken ws ≡ 0
     → AllByRecursion (λ (w : Writer). ReadsAsImage (place_of_writer w) (files v (place_of_writer w))) ws
 unfolding AreJoined
 all_read tells records v told wal index synced [] joined fit none = tt
@@ -120,22 +127,26 @@ all_read tells records v told wal index synced (w ∷ ws) joined fit none =
     )
 
 -- What holds at the place of each holds here, or the place is none of theirs.
-holds_or_apart : (P : Place → Type 0) (ws : List Writer) (place : Place) → AllByRecursion (λ (w : Writer). P (place_of_writer w)) ws → P place ⊎ AllByRecursion (λ (w : Writer). place_of_writer w ≢ place) ws
+holds_or_apart : (P : Place → Type 0) (ws : List Writer) (place : Place) → AllByRecursion (λ (w : Writer). P (place_of_writer w)) ws
+    → P place ⊎ AllByRecursion (λ (w : Writer). place_of_writer w ≢ place) ws
 holds_or_apart P [] place all = inr tt
 holds_or_apart P (w ∷ ws) place all = elim (same_place (place_of_writer w) place) [
   | inl here ↦ inl (subst P here all.0)
   | inr other ↦ elim (holds_or_apart P ws place all.1) [ inl here ↦ inl here | inr apart ↦ inr (other, apart) ]
 ]
 
-each_reads : (tells : Bool) (records : List Batch) (opening : Files) (state : State) (v : DiskView) → IsTrue tells → StandsFor tells records state v → broken_count state ≡ 0 → IsRested opening → OthersStay opening state (files v)
+each_reads : (tells : Bool) (records : List Batch) (opening : Files) (state : State) (v : DiskView) → IsTrue tells
+    → StandsFor tells records state v → broken_count state ≡ 0 → IsRested opening → OthersStay opening state (files v)
     → (place : Place) → ReadsAsImage place (files v place)
 each_reads tells records opening state v told stands none rested others place =
-    elim (holds_or_apart (λ (p : Place). ReadsAsImage p (files v p)) state.segments place (all_read tells records v told state.wal 0 0 state.segments stands.joined stands.fit none)) [
+    elim (holds_or_apart (λ (p : Place). ReadsAsImage p (files v p)) state.segments place
+    (all_read tells records v told state.wal 0 0 state.segments stands.joined stands.fit none)) [
       | inl own ↦ own
       | inr apart ↦ subst (ReadsAsImage place) (sym (others place (not_theirs state.segments place apart))) (rested_reads place (opening place) (rested place))
     ]
 
-pub reads_as_image : (tells : Bool) (records : List Batch) (opening : Files) (state : State) (v : DiskView) → IsTrue tells → StandsFor tells records state v → broken_count state ≡ 0 → IsRested opening → OthersStay opening state (files v)
+pub reads_as_image : (tells : Bool) (records : List Batch) (opening : Files) (state : State) (v : DiskView) → IsTrue tells
+    → StandsFor tells records state v → broken_count state ≡ 0 → IsRested opening → OthersStay opening state (files v)
     → IsImage (files v) (dirs_as_read (files v)) × IsChanceFree IsChunkOf (files v) (dirs_as_read (files v))
 reads_as_image tells records opening state v told stands none rested others =
     let each : (place : Place) → ReadsAsImage place (files v place) = each_reads tells records opening state v told stands none rested others in

@@ -13,7 +13,8 @@ use Rattle.failover_writer.specs.Ranges.{releasable, sent_to_current, StandsFor}
 use Rattle.failover_writer.specs.Stepping.{Releases}
 use Rattle.failover_writer.proofs.Lists.{all_then, last_split}
 
-pub most_within : (bound from : ℕ) (writers : List Writer) → from ≤ bound → AllByRecursion (λ (w : Writer). w.synced ≤ bound) writers → most_synced from writers ≤ bound
+pub most_within : (bound from : ℕ) (writers : List Writer) → from ≤ bound → AllByRecursion (λ (w : Writer). w.synced ≤ bound) writers
+    → most_synced from writers ≤ bound
 unfolding most_synced
 most_within bound from [] le all = le
 most_within bound from (w ∷ writers) le all = most_within bound (max from w.synced) writers (omega (arith, le, all.0)) all.1
@@ -24,7 +25,8 @@ synced_within tells records w v fits = let ordered = fits.ordered in omega (arit
 pub acked_within : (tells : Bool) (records : List Batch) (state : State) (v : DiskView) → StandsFor tells records state v → acked state ≤ length records
 acked_within tells records state v stands =
     most_within (length records) 0 state.segments (omega arith)
-    (all_then (λ (w : Writer). Fits tells records w v) (λ (w : Writer). w.synced ≤ length records) (λ w fits. synced_within tells records w v fits) state.segments stands.fit)
+    (all_then (λ (w : Writer). Fits tells records w v) (λ (w : Writer). w.synced ≤ length records)
+    (λ w fits. synced_within tells records w v fits) state.segments stands.fit)
 
 -- what was sent to the current segment, the last one
 pub sent_to_last : (none : ℕ) (earlier : List Writer) (current : Writer) → sent_to_current none (earlier ++ current ∷ []) ≡ current.sent
@@ -35,7 +37,8 @@ pub last_sent : (writers : List Writer) (current : Writer) → slice_get writers
 last_sent writers current is =
     sym (ap (λ (ws : List Writer). sent_to_current 0 ws) (last_split writers current is) ∙ sent_to_last 0 (take (length writers - 1) writers) current)
 
-pub released_stands : (tells : Bool) (records : List Batch) (old : State) (queue : Queue) (v : DiskView) → StandsFor tells records old v → queue.start ≡ max old.queue.start (releasable old)
+pub released_stands : (tells : Bool) (records : List Batch) (old : State) (queue : Queue) (v : DiskView) → StandsFor tells records old v
+    → queue.start ≡ max old.queue.start (releasable old)
     → queue.records ≡ drop (releasable old - old.queue.start) old.queue.records → StandsFor tells records (record old { queue = queue }) v
 released_stands tells records old queue v stands start holds = record {
   named = stands.named;
@@ -46,7 +49,8 @@ released_stands tells records old queue v stands start holds = record {
     start = omega (arith, start, stands.queue.start, acked_within tells records old v stands);
     holds =
         let from : old.queue.start + (releasable old - old.queue.start) ≡ queue.start = omega (arith, start) in
-        holds ∙ ap (λ (bs : List Batch). drop (releasable old - old.queue.start) bs) stands.queue.holds ∙ drop-drop (releasable old - old.queue.start) old.queue.start records ∙ ap (λ (n : ℕ). drop n records) from;
+        holds ∙ ap (λ (bs : List Batch). drop (releasable old - old.queue.start) bs) stands.queue.holds
+        ∙ drop-drop (releasable old - old.queue.start) old.queue.start records ∙ ap (λ (n : ℕ). drop n records) from;
   };
   queued = omega (arith, start, stands.queued);
   want = stands.want;
@@ -57,5 +61,7 @@ released_stands tells records old queue v stands start holds = record {
   fresh = stands.fresh;
 }
 
-pub releases_as_seen : (old seen : State) (queue : Queue) → old ≡ seen → queue.start ≡ max old.queue.start (releasable old) → queue_end queue ≡ queue_end old.queue → Releases seen (record old { queue = queue })
-releases_as_seen old seen queue same start end = subst (λ (state : State). Releases state (record old { queue = queue })) same (record { start = start; end = end; new_is = refl })
+pub releases_as_seen : (old seen : State) (queue : Queue) → old ≡ seen → queue.start ≡ max old.queue.start (releasable old)
+    → queue_end queue ≡ queue_end old.queue → Releases seen (record old { queue = queue })
+releases_as_seen old seen queue same start end = subst (λ (state : State). Releases state (record old { queue = queue })) same
+    (record { start = start; end = end; new_is = refl })

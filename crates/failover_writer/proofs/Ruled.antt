@@ -29,11 +29,13 @@ use Rattle.failover_writer.proofs.Segments.{last_is}
 
 pub empty_from : (ws : List Writer) → slice_get ws (length ws - 1) ≡ None → ws ≡ []
 empty_from [] e = refl
-empty_from (w ∷ ws) e = let some = slice_get-get_or (w ∷ ws) (length (w ∷ ws) - 1) w (omega arith) in let clash : Some (get_or (w ∷ ws) (length (w ∷ ws) - 1) w) ≡ None = sym some ∙ e in cc
+empty_from (w ∷ ws) e = let some = slice_get-get_or (w ∷ ws) (length (w ∷ ws) - 1) w (omega arith) in let clash : Some
+    (get_or (w ∷ ws) (length (w ∷ ws) - 1) w) ≡ None = sym some ∙ e in cc
 
 -- ---- the verdict
 
-pub verdict_from : (Says : MonitorView → Type 0) (state : State) (view : MonitorView) (current : Writer) → slice_get state.segments (length state.segments - 1) ≡ Some current → view ≡ shown_to_monitor state current → Says view
+pub verdict_from : (Says : MonitorView → Type 0) (state : State) (view : MonitorView) (current : Writer)
+    → slice_get state.segments (length state.segments - 1) ≡ Some current → view ≡ shown_to_monitor state current → Says view
     → Verdict Says state
 verdict_from Says state view current at is says = record {
   earlier = take (length state.segments - 1) state.segments;
@@ -42,7 +44,8 @@ verdict_from Says state view current at is says = record {
   says = subst Says is says;
 }
 
-pub stays_where : (said : Said) (view : MonitorView) → (said ≡ verdicts.Dead) ↔ IsToDie view → (said ≡ verdicts.Switch) ↔ IsToSwitch view → said ≡ verdicts.Stay → IsToStay view
+pub stays_where : (said : Said) (view : MonitorView) → (said ≡ verdicts.Dead) ↔ IsToDie view → (said ≡ verdicts.Switch) ↔ IsToSwitch view
+    → said ≡ verdicts.Stay → IsToStay view
 stays_where said view dead switch is = (
   λ die. let clash : verdicts.Stay ≡ verdicts.Dead = sym is ∙ dead.1 die in cc,
   λ leave. let clash : verdicts.Stay ≡ verdicts.Switch = sym is ∙ switch.1 leave in cc,
@@ -52,13 +55,17 @@ pub went_on : (state new : State) → Verdict IsToStay state → MayStartNext st
 went_on state new verdict (started then behind is) = starts then verdict behind is
 went_on state new verdict (nothing none) = stays verdict none
 
-pub dies_now : (tells : Bool) (records : List Batch) (state : State) (v : DiskView) (side : Side) (count : ℕ) → StandsFor tells records state v → (verdict : Verdict IsToDie state)
-    → side ≡ side_at (length state.segments - 1) → count ≡ broken_count state → Dies state (record state { dead = Some (record { side = side; faults = count }) }) side count
+pub dies_now : (tells : Bool) (records : List Batch) (state : State) (v : DiskView) (side : Side) (count : ℕ)
+    → StandsFor tells records state v → (verdict : Verdict IsToDie state)
+    → side ≡ side_at (length state.segments - 1) → count ≡ broken_count state
+    → Dies state (record state { dead = Some (record { side = side; faults = count }) }) side count
 dies_now tells records state v side count stands verdict side_is count_is =
-    let size : length state.segments - 1 ≡ 0 + length verdict.earlier = omega (arith, ap length verdict.segments_are, length-append verdict.earlier (verdict.current ∷ [])) in
+    let size : length state.segments - 1 ≡ 0 + length verdict.earlier = omega
+    (arith, ap length verdict.segments_are, length-append verdict.earlier (verdict.current ∷ [])) in
     record {
       verdict = verdict;
-      side_is = side_is ∙ ap side_at size ∙ sym (last_is state.wal 0 0 verdict.earlier verdict.current (subst (AreJoined state.wal 0 0) verdict.segments_are stands.joined)).0.side;
+      side_is = side_is ∙ ap side_at size ∙ sym (last_is state.wal 0 0 verdict.earlier verdict.current
+          (subst (AreJoined state.wal 0 0) verdict.segments_are stands.joined)).0.side;
       faults_are = count_is;
       new_is = refl;
     }
@@ -66,14 +73,17 @@ dies_now tells records state v side count stands verdict side_is count_is =
 -- ---- the step
 
 -- What an answer tells of the disk, it tells after later calls too.
-told_later : (before between after : DiskView) (answer : Option Progress) → calls.GoesOn between after → IsTold before between answer → IsTold before after answer
+told_later : (before between after : DiskView) (answer : Option Progress) → calls.GoesOn between after → IsTold before between answer
+    → IsTold before after answer
 told_later before between after None onward told = tt
 told_later before between after (Some Pending) onward told = (told.0, omega (arith, told.1, onward.polls told.0))
 told_later before between after (Some Done) onward told = tt
 told_later before between after (Some Failed) onward told = (told.0, omega (arith, told.1, onward.faults told.0))
 
 -- A step whose polls were told is one by its rule.
-steps_by : (old polled new : State) (before between after : DiskView) (waited : Bool) (answer : Result Step JournalFault) → calls.GoesOn between after → polls_left after ≡ polls_left between → StartsAtMostOne between after → (polls : PollsAll old polled before between waited)
+steps_by : (old polled new : State) (before between after : DiskView) (waited : Bool) (answer : Result Step JournalFault)
+    → calls.GoesOn between after → polls_left after ≡ polls_left between → StartsAtMostOne between after
+    → (polls : PollsAll old polled before between waited)
     → StepRule old polls.one polls.other new answer → StepsBy old new before after answer
 steps_by old polled new before between after waited answer onward stalls asks polls rule = record {
   one = polls.one;
@@ -85,15 +95,19 @@ steps_by old polled new before between after waited answer onward stalls asks po
   asks = record { first_polled = polls.between; both_polled = between; first = polls.first; second = polls.second; start = asks };
 }
 
-pub rule_ended : (old polled new : State) (before between after : DiskView) (waited : Bool) (fault : JournalFault) → IsUp old → calls.GoesOn between after → polls_left after ≡ polls_left between → StartsAtMostOne between after → PollsAll old polled before between waited → EndsGoing polled new fault
+pub rule_ended : (old polled new : State) (before between after : DiskView) (waited : Bool) (fault : JournalFault) → IsUp old
+    → calls.GoesOn between after → polls_left after ≡ polls_left between → StartsAtMostOne between after
+    → PollsAll old polled before between waited → EndsGoing polled new fault
     → StepsBy old new before after (Err fault)
 rule_ended old polled new before between after waited (faults.Dead side count) up onward stalls asks polls ends =
-    steps_by old polled new before between after waited (Err (faults.Dead side count)) onward stalls asks polls (dies polls.one polls.other polled new side count up polls.polls ends)
+    steps_by old polled new before between after waited (Err (faults.Dead side count)) onward stalls asks polls
+    (dies polls.one polls.other polled new side count up polls.polls ends)
 rule_ended old polled new before between after waited faults.NoMemory up onward stalls asks polls ends =
     steps_by old polled new before between after waited (Err faults.NoMemory) onward stalls asks polls
     (subst (λ (s : State). StepRule old polls.one polls.other s (Err faults.NoMemory)) (sym ends) (short polls.one polls.other polled up polls.polls))
 
-answered : (one other : Option Progress) (waited : Bool) → waited ≡ (was_pending one || was_pending other) → moved_or_waited one other ≡ cond waited steps.Waited steps.Moved
+answered : (one other : Option Progress) (waited : Bool) → waited ≡ (was_pending one || was_pending other)
+    → moved_or_waited one other ≡ cond waited steps.Waited steps.Moved
 answered one other waited is = go one other ∙ ap (λ (b : Bool). cond b steps.Waited steps.Moved) (sym is)
   where
     go : (one other : Option Progress) → moved_or_waited one other ≡ cond (was_pending one || was_pending other) steps.Waited steps.Moved
@@ -112,8 +126,13 @@ answered one other waited is = go one other ∙ ap (λ (b : Bool). cond b steps.
     go (Some Failed) (Some Failed) = refl
 
 -- The release at the end of a step leaves the disk as it is.
-pub rule_went : (old polled going new : State) (before between after last : DiskView) (waited : Bool) → IsUp old → calls.GoesOn between after → polls_left after ≡ polls_left between → StartsAtMostOne between after → last ≡ after → PollsAll old polled before between waited → ActsAfterPolls polled going → Releases going new
+pub rule_went : (old polled going new : State) (before between after last : DiskView) (waited : Bool) → IsUp old
+    → calls.GoesOn between after → polls_left after ≡ polls_left between → StartsAtMostOne between after → last ≡ after
+    → PollsAll old polled before between waited → ActsAfterPolls polled going → Releases going new
     → StepsBy old new before last (Ok (cond waited steps.Waited steps.Moved))
 rule_went old polled going new before between after last waited up onward stalls asks still polls went releases =
-    steps_by old polled new before between last waited (Ok (cond waited steps.Waited steps.Moved)) (subst (calls.GoesOn between) (sym still) onward) (ap polls_left still ∙ stalls) (subst (StartsAtMostOne between) (sym still) asks) polls
-    (subst (λ (s : Step). StepRule old polls.one polls.other new (Ok s)) (answered polls.one polls.other waited polls.pending_is) (goes polls.one polls.other polled going new up polls.polls went releases))
+    steps_by old polled new before between last waited (Ok (cond waited steps.Waited steps.Moved))
+    (subst (calls.GoesOn between) (sym still) onward) (ap polls_left still ∙ stalls) (subst (StartsAtMostOne between) (sym still) asks)
+    polls
+    (subst (λ (s : Step). StepRule old polls.one polls.other new (Ok s)) (answered polls.one polls.other waited polls.pending_is)
+    (goes polls.one polls.other polled going new up polls.polls went releases))

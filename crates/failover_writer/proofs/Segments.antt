@@ -51,7 +51,8 @@ pub index_is : (wal index : ℕ) (w : Writer) → IsSegmentAt wal index w → in
 index_is wal index w is = ap index_in (place_is wal index w is)
 
 -- Each place of another index is none of theirs.
-pub apart_from : (wal index synced : ℕ) (ws : List Writer) (place : Place) → index + length ws ≤ index_in place → AreJoined wal index synced ws → AllByRecursion (λ (w : Writer). place_of_writer w ≢ place) ws
+pub apart_from : (wal index synced : ℕ) (ws : List Writer) (place : Place) → index + length ws ≤ index_in place
+    → AreJoined wal index synced ws → AllByRecursion (λ (w : Writer). place_of_writer w ≢ place) ws
 unfolding AreJoined
 apart_from wal index synced [] place high joined = tt
 apart_from wal index synced (w ∷ ws) place high joined = (
@@ -59,7 +60,8 @@ apart_from wal index synced (w ∷ ws) place high joined = (
   apart_from wal (suc index) (max synced w.synced) ws place (omega (arith, high)) joined.2,
 )
 
-pub last_is : (wal index synced : ℕ) (ws : List Writer) (w : Writer) → AreJoined wal index synced (ws ++ w ∷ []) → IsSegmentAt wal (index + length ws) w × (w.from ≤ most_synced synced ws)
+pub last_is : (wal index synced : ℕ) (ws : List Writer) (w : Writer) → AreJoined wal index synced (ws ++ w ∷ [])
+    → IsSegmentAt wal (index + length ws) w × (w.from ≤ most_synced synced ws)
 unfolding AreJoined most_synced
 last_is wal index synced [] w joined = (subst (λ (n : ℕ). IsSegmentAt wal n w) (omega arith) joined.0, joined.1)
 last_is wal index synced (u ∷ ws) w joined =
@@ -71,19 +73,23 @@ unfolding AreJoined
 joined_front wal index synced [] more joined = tt
 joined_front wal index synced (u ∷ ws) more joined = (joined.0, joined.1, joined_front wal (suc index) (max synced u.synced) ws more joined.2)
 
-pub joined_push : (wal index synced : ℕ) (ws : List Writer) (w : Writer) → AreJoined wal index synced ws → IsSegmentAt wal (index + length ws) w → w.from ≤ most_synced synced ws → AreJoined wal index synced (ws ++ w ∷ [])
+pub joined_push : (wal index synced : ℕ) (ws : List Writer) (w : Writer) → AreJoined wal index synced ws
+    → IsSegmentAt wal (index + length ws) w → w.from ≤ most_synced synced ws → AreJoined wal index synced (ws ++ w ∷ [])
 unfolding AreJoined most_synced
 joined_push wal index synced [] w joined is begins = (subst (λ (n : ℕ). IsSegmentAt wal n w) (omega arith) is, begins, tt)
 joined_push wal index synced (u ∷ ws) w joined is begins =
     (joined.0, joined.1, joined_push wal (suc index) (max synced u.synced) ws w joined.2 (subst (λ (n : ℕ). IsSegmentAt wal n w) (omega arith) is) begins)
 
 -- The last one stands apart from those before it.
-pub apart_from_last : (wal : ℕ) (ws : List Writer) (w : Writer) → AreJoined wal 0 0 (ws ++ w ∷ []) → AllByRecursion (λ (u : Writer). place_of_writer u ≢ place_of_writer w) ws
+pub apart_from_last : (wal : ℕ) (ws : List Writer) (w : Writer) → AreJoined wal 0 0 (ws ++ w ∷ [])
+    → AllByRecursion (λ (u : Writer). place_of_writer u ≢ place_of_writer w) ws
 apart_from_last wal ws w joined =
-    apart_from wal 0 0 ws (place_of_writer w) (omega (arith, index_is wal (0 + length ws) w (last_is wal 0 0 ws w joined).0)) (joined_front wal 0 0 ws (w ∷ []) joined)
+    apart_from wal 0 0 ws (place_of_writer w) (omega (arith, index_is wal (0 + length ws) w (last_is wal 0 0 ws w joined).0))
+    (joined_front wal 0 0 ws (w ∷ []) joined)
 
 -- A place that is none of theirs is not in the list of their places.
-pub not_theirs : (ws : List Writer) (place : Place) → AllByRecursion (λ (w : Writer). place_of_writer w ≢ place) ws → Contains (map place_of_writer ws) place → ⊥
+pub not_theirs : (ws : List Writer) (place : Place) → AllByRecursion (λ (w : Writer). place_of_writer w ≢ place) ws
+    → Contains (map place_of_writer ws) place → ⊥
 not_theirs [] place apart here = omega (arith, here.1)
 not_theirs (w ∷ ws) place apart here = elim (Contains-append_cases (place_of_writer w ∷ []) (map place_of_writer ws) place here) [
   | inl one ↦ elim (Contains-push_cases [] (place_of_writer w) place one) [ inl none ↦ omega (arith, none.1) | inr e ↦ apart.0 e ]
@@ -92,8 +98,10 @@ not_theirs (w ∷ ws) place apart here = elim (Contains-append_cases (place_of_w
 
 -- ---- changes beside them
 
-pub fit_beside : (tells : Bool) (records : List Batch) (place : Place) (old new : DiskView) (ws : List Writer) → ((other : Place) → other ≢ place → SameFile tells other old new)
-    → AllByRecursion (λ (w : Writer). place_of_writer w ≢ place) ws → AllByRecursion (λ (w : Writer). Fits tells records w old) ws → AllByRecursion (λ (w : Writer). Fits tells records w new) ws
+pub fit_beside : (tells : Bool) (records : List Batch) (place : Place) (old new : DiskView) (ws : List Writer)
+    → ((other : Place) → other ≢ place → SameFile tells other old new)
+    → AllByRecursion (λ (w : Writer). place_of_writer w ≢ place) ws → AllByRecursion (λ (w : Writer). Fits tells records w old) ws
+    → AllByRecursion (λ (w : Writer). Fits tells records w new) ws
 fit_beside tells records place old new ws same apart fit =
     all_from (λ (w : Writer). place_of_writer w ≢ place) (λ (w : Writer). Fits tells records w old) (λ (w : Writer). Fits tells records w new) ws
     (λ w ne fits. fits_beside tells records w old new fits (same (place_of_writer w) ne)) apart fit
@@ -113,7 +121,8 @@ pub count_push : (test : Writer → Bool) (ws : List Writer) (w : Writer) → co
 count_push test ws w = sum_by-append (λ (u : Writer). cond (test u) 1 0) ws (w ∷ [])
 
 -- What is synced is within the records.
-pub synced_within : (tells : Bool) (records : List Batch) (v : DiskView) (acked : ℕ) (ws : List Writer) → acked ≤ length records → AllByRecursion (λ (w : Writer). Fits tells records w v) ws → most_synced acked ws ≤ length records
+pub synced_within : (tells : Bool) (records : List Batch) (v : DiskView) (acked : ℕ) (ws : List Writer) → acked ≤ length records
+    → AllByRecursion (λ (w : Writer). Fits tells records w v) ws → most_synced acked ws ≤ length records
 unfolding most_synced
 synced_within tells records v acked [] low fit = low
 synced_within tells records v acked (w ∷ ws) low fit =

@@ -54,7 +54,8 @@ goal_further old mid new one two = record {
 }
 
 goal_beside : (old new : State) (segments : List Writer) → new ≡ record old { segments = segments } → KeepsGoal old new
-goal_beside old new segments is = let same = goal_still (record old { segments = segments }) new is in record { wal = same.wal; base = same.base; threshold = same.threshold; next = same.next; end = same.end; want = same.want }
+goal_beside old new segments is = let same = goal_still (record old { segments = segments }) new is in record
+    { wal = same.wal; base = same.base; threshold = same.threshold; next = same.next; end = same.end; want = same.want }
 
 goal_polled : {old polled : State} {one other : Option Progress} → Polls old one other polled → KeepsGoal old polled
 goal_polled {old = old} {polled = polled} polls = goal_beside old polled polled.segments (polls_lower polls).same
@@ -89,7 +90,8 @@ goal_released started new releases = record {
 pub goal_kept : {old new : State} {one other : Option Progress} {answer : Result Step JournalFault} → StepRule old one other new answer → KeepsGoal old new
 goal_kept {old = old} (was_dead side count dead) = goal_still old old refl
 goal_kept {old = old} (idle lives rests none) = goal_still old old refl
-goal_kept {old = old} (dies one other polled new side count up polls died) = goal_further old polled new (goal_polled polls) (goal_died polled new side count died)
+goal_kept {old = old} (dies one other polled new side count up polls died) = goal_further old polled new (goal_polled polls)
+    (goal_died polled new side count died)
 goal_kept {old = old} (goes one other polled started new up polls went releases) =
     goal_further old polled new (goal_polled polls) (goal_further polled started new (goal_went polled started went) (goal_released started new releases))
 goal_kept (short one other polled up polls) = goal_polled polls
@@ -123,7 +125,8 @@ fell_after before between after one fell = (fell.0, omega (arith, fell.1, one.po
 
 module _ {Disk : Type 0} (tells : Bool) (view : Disk → DiskView) where
   -- A call that changes nothing but what is asked for.
-  pub lasts_beside : (old : JournalView Disk) (want : ℕ) → ((records : List Batch) → StandsFor tells records old.state (view old.disk) → StandsFor tells records (record old.state { want = want }) (view old.disk))
+  pub lasts_beside : (old : JournalView Disk) (want : ℕ) → ((records : List Batch) → StandsFor tells records old.state (view old.disk)
+      → StandsFor tells records (record old.state { want = want }) (view old.disk))
       → Lasts tells view old (record old { state = record old.state { want = want } })
   lasts_beside old want keeps = record {
     setting = record { wal = refl; base = refl; threshold = refl; next = refl; end = refl };
@@ -143,7 +146,11 @@ module _ {Disk : Type 0} (tells : Bool) (view : Disk → DiskView) where
     setting = end_further old.state mid.state new.state one.setting two.setting;
     acked = omega (arith, one.acked, two.acked);
     harmed = λ harmed. elim (two.harmed harmed) [
-      | inl was ↦ elim (one.harmed was) [ inl harmed_first ↦ inl harmed_first | inr rose ↦ inr (rose_before (view old.disk) (view mid.disk) (view new.disk) one.goes_on two.goes_on rose) ]
+      | inl was ↦ elim (one.harmed was) [
+        | inl harmed_first ↦ inl harmed_first
+        | inr rose ↦ inr
+            (rose_before (view old.disk) (view mid.disk) (view new.disk) one.goes_on two.goes_on rose)
+      ]
       | inr rose ↦ inr (rose_after (view old.disk) (view mid.disk) (view new.disk) one.goes_on rose)
     ];
     smooth = λ low smooth. elim (one.smooth low smooth) [
@@ -161,8 +168,10 @@ module _ {Disk : Type 0} (tells : Bool) (view : Disk → DiskView) where
   }
 
   -- The last step is idle, or ends with a fault.
-  pub drained : (old mid new : JournalView Disk) (step : Result Step JournalFault) (answer : Result Unit JournalFault) → step ≡ last_answer answer → StepsOn old.state (view old.disk) mid.state (view mid.disk) → mid.state.want ≡ old.state.want
-      → Lasts tells view old mid → StepsBy mid.state new.state (view mid.disk) (view new.disk) step → new.state.want ≡ mid.state.want → Lasts tells view mid new → OnOk answer (IsIdle new.state) → IfErr answer (IsMarked new.state) → Drains tells view old new answer
+  pub drained : (old mid new : JournalView Disk) (step : Result Step JournalFault) (answer : Result Unit JournalFault)
+      → step ≡ last_answer answer → StepsOn old.state (view old.disk) mid.state (view mid.disk) → mid.state.want ≡ old.state.want
+      → Lasts tells view old mid → StepsBy mid.state new.state (view mid.disk) (view new.disk) step → new.state.want ≡ mid.state.want
+      → Lasts tells view mid new → OnOk answer (IsIdle new.state) → IfErr answer (IsMarked new.state) → Drains tells view old new answer
   drained old mid new step answer is steps want one by wanted two rests marked = record {
     mid = mid.state;
     v = (view mid.disk);
@@ -175,8 +184,11 @@ module _ {Disk : Type 0} (tells : Bool) (view : Disk → DiskView) where
   }
 
   -- The last step does not move: it is idle, has waited, or ends with a fault.
-  pub moved_to : (old mid new : JournalView Disk) (answer : Result Step JournalFault) → MovesOn old.state (view old.disk) mid.state (view mid.disk) → mid.state.want ≡ old.state.want → Lasts tells view old mid → StepsBy mid.state new.state (view mid.disk) (view new.disk) answer
-      → new.state.want ≡ mid.state.want → Lasts tells view mid new → answer ≢ Ok steps.Moved → (answer ≡ Ok steps.Idle → IsIdle new.state) → (answer ≡ Ok steps.Waited → PollsFell (view mid.disk) (view new.disk)) → IfErr answer (IsMarked new.state)
+  pub moved_to : (old mid new : JournalView Disk) (answer : Result Step JournalFault)
+      → MovesOn old.state (view old.disk) mid.state (view mid.disk) → mid.state.want ≡ old.state.want → Lasts tells view old mid
+      → StepsBy mid.state new.state (view mid.disk) (view new.disk) answer
+      → new.state.want ≡ mid.state.want → Lasts tells view mid new → answer ≢ Ok steps.Moved → (answer ≡ Ok steps.Idle → IsIdle new.state)
+      → (answer ≡ Ok steps.Waited → PollsFell (view mid.disk) (view new.disk)) → IfErr answer (IsMarked new.state)
       → Moves tells view old new answer
   moved_to old mid new answer moves want one by wanted two ends rests waited marked = record {
     settles = record { mid = mid.state; v = (view mid.disk); moves = moves; last = by; ends = ends };
@@ -196,7 +208,8 @@ asking old = record old { state = record old.state { want = len old.state } }
 pub records_are : (tells : Bool) (records : List Batch) (state : State) (v : DiskView) → StandsFor tells records state v → len state ≡ length records
 records_are tells records state v stands = omega (arith, stands.queue.start, ap length stands.queue.holds, length-drop state.queue.start records)
 
-pub asking_stands : (tells : Bool) (records : List Batch) (state : State) (v : DiskView) → StandsFor tells records state v → StandsFor tells records (record state { want = len state }) v
+pub asking_stands : (tells : Bool) (records : List Batch) (state : State) (v : DiskView) → StandsFor tells records state v
+    → StandsFor tells records (record state { want = len state }) v
 asking_stands tells records state v stands = record {
   named = stands.named;
   numbered = stands.numbered;
@@ -218,14 +231,16 @@ wants_synced state (w ∷ []) less = inr (inr less)
 wants_synced state (w ∷ v ∷ ws) less = wants_synced state (v ∷ ws) less
 
 -- Where all records are to be synced and there is no work, all are.
-all_acked : (tells : Bool) (records : List Batch) (state : State) (v : DiskView) → StandsFor tells records state v → state.want ≡ len state → IsIdle state → acked state ≡ len state
+all_acked : (tells : Bool) (records : List Batch) (state : State) (v : DiskView) → StandsFor tells records state v → state.want ≡ len state
+    → IsIdle state → acked state ≡ len state
 all_acked tells records state v stands all rests = elim (dec_lt (acked state) (len state)) [
   | yes less ↦ absurd (rests.no_work (less, wants_synced state state.segments (omega (arith, less, all))))
   | no not_less ↦ omega (arith, not_less, acked_within tells records state v stands, records_are tells records state v stands)
 ]
 
 -- An operation in flight is none of a writer that is not busy.
-not_its : (tells : Bool) (records : List Batch) (v : DiskView) (id : OpId) (f : Flight) (w : Writer) → v.in_flight id ≡ Some f → Fits tells records w v → (IsBusy w.phase → ⊥) → place_of_writer w ≢ f.place
+not_its : (tells : Bool) (records : List Batch) (v : DiskView) (id : OpId) (f : Flight) (w : Writer) → v.in_flight id ≡ Some f
+    → Fits tells records w v → (IsBusy w.phase → ⊥) → place_of_writer w ≢ f.place
 not_its tells records v id f w flies fits rests e = go w.phase fits.flight rests
   where
     go : (phase : Phase) → HasFlight phase (place_of_writer w) v → (IsBusy phase → ⊥) → ⊥
@@ -234,25 +249,32 @@ not_its tells records v id f w flies fits rests e = go w.phase fits.flight rests
     go Idle free not_busy = free id f flies (sym e)
     go Broken free not_busy = free id f flies (sym e)
 
-none_flies : (tells : Bool) (records : List Batch) (state : State) (v : DiskView) → StandsFor tells records state v → NoneBusy state.segments → NothingInFlight v
+none_flies : (tells : Bool) (records : List Batch) (state : State) (v : DiskView) → StandsFor tells records state v
+    → NoneBusy state.segments → NothingInFlight v
 none_flies tells records state v stands rests id = go (v.in_flight id) refl
   where
     go : (flight : Option Flight) → v.in_flight id ≡ flight → v.in_flight id ≡ None
     go None is = is
     go (Some f) is =
         absurd (not_theirs state.segments f.place
-        (all_from (λ (w : Writer). Fits tells records w v) (λ (w : Writer). IsBusy w.phase → ⊥) (λ (w : Writer). place_of_writer w ≢ f.place) state.segments (λ w fits not_busy. not_its tells records v id f w is fits not_busy) stands.fit rests)
+        (all_from (λ (w : Writer). Fits tells records w v) (λ (w : Writer). IsBusy w.phase → ⊥)
+        (λ (w : Writer). place_of_writer w ≢ f.place) state.segments
+        (λ w fits not_busy. not_its tells records v id f w is fits not_busy) stands.fit rests)
         (stands.alone id f is))
 
-module _ {Disk : Type 0} (tells : Bool) (view : Disk → DiskView) (old new : JournalView Disk) (answer : Result Unit JournalFault) (drains : Drains tells view (asking old) new answer) where
+module _ {Disk : Type 0} (tells : Bool) (view : Disk → DiskView) (old new : JournalView Disk) (answer : Result Unit JournalFault)
+    (drains : Drains tells view (asking old) new answer) where
   pub closed_lasts : Lasts tells view old new
-  closed_lasts = lasts_further tells view old (asking old) new (lasts_beside tells view old (len old.state) (λ records. asking_stands tells records old.state (view old.disk))) drains.lasts
+  closed_lasts = lasts_further tells view old (asking old) new (lasts_beside tells view old (len old.state)
+      (λ records. asking_stands tells records old.state (view old.disk))) drains.lasts
 
   pub closed_synced : Stands tells old.state (view old.disk) → OnOk answer (acked new.state ≡ len new.state)
-  closed_synced stands = on_ok_weaker answer (λ rests. all_acked tells stands.0 new.state (view new.disk) (closed_lasts.keeps stands.0 stands.1) (drains.want ∙ sym drains.lasts.setting.end) rests) drains.idle
+  closed_synced stands = on_ok_weaker answer (λ rests. all_acked tells stands.0 new.state (view new.disk)
+      (closed_lasts.keeps stands.0 stands.1) (drains.want ∙ sym drains.lasts.setting.end) rests) drains.idle
 
   pub closed_rests : Stands tells old.state (view old.disk) → OnOk answer (NothingInFlight (view new.disk))
-  closed_rests stands = on_ok_weaker answer (λ rests. none_flies tells stands.0 new.state (view new.disk) (closed_lasts.keeps stands.0 stands.1) rests.rests) drains.idle
+  closed_rests stands = on_ok_weaker answer (λ rests. none_flies tells stands.0 new.state (view new.disk)
+      (closed_lasts.keeps stands.0 stands.1) rests.rests) drains.idle
 
   -- A dead journal stays as it was, so it is not idle then.
   pub closed_lives : (old.state.dead ≢ None → new.state.dead ≡ old.state.dead) → OnOk answer (old.state.dead ≡ None)

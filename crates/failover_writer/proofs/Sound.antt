@@ -5,7 +5,8 @@ use Rattle.failover_writer.specs.State.{State, len, broken_count}
 use Rattle.failover_writer.specs.Sound.{IsSoundJournal}
 
 -- A journal that is not dead, and has no segment where it has no record.
-pub sound_alive : (state : State) → 1 ≤ state.threshold → state.threshold ≤ 1000 → state.dead ≡ None → (len state ≡ 0 → state.segments ≡ []) → IsSoundJournal state
+pub sound_alive : (state : State) → 1 ≤ state.threshold → state.threshold ≤ 1000 → state.dead ≡ None → (len state ≡ 0 → state.segments ≡ [])
+    → IsSoundJournal state
 sound_alive state least most lives none = record {
   least = least;
   most = most;
@@ -14,7 +15,8 @@ sound_alive state least most lives none = record {
 }
 
 -- Nothing of which it speaks changes but the number of records, which falls to none no more.
-pub sound_beside : (old new : State) → new.threshold ≡ old.threshold → new.segments ≡ old.segments → new.dead ≡ old.dead → (len new ≡ 0 → len old ≡ 0) → IsSoundJournal old → IsSoundJournal new
+pub sound_beside : (old new : State) → new.threshold ≡ old.threshold → new.segments ≡ old.segments → new.dead ≡ old.dead
+    → (len new ≡ 0 → len old ≡ 0) → IsSoundJournal old → IsSoundJournal new
 sound_beside old new threshold segments dead empty sound = record {
   least = omega (arith, threshold, sound.least);
   most = omega (arith, threshold, sound.most);
@@ -38,5 +40,6 @@ pub some_records : (state : State) → IsSoundJournal state → state.segments �
 some_records state sound some empty = some (sound.none empty).0
 
 -- The segments of a journal that is not dead change, and it has a record.
-pub sound_with : (old : State) (segments : List Writer) → old.dead ≡ None → len old ≢ 0 → IsSoundJournal old → IsSoundJournal (record old { segments = segments })
+pub sound_with : (old : State) (segments : List Writer) → old.dead ≡ None → len old ≢ 0 → IsSoundJournal old
+    → IsSoundJournal (record old { segments = segments })
 sound_with old segments lives some sound = sound_alive (record old { segments = segments }) sound.least sound.most lives (λ empty. absurd (some empty))

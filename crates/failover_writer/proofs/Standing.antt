@@ -16,7 +16,8 @@ use Rattle.failover_writer.proofs.Segments.{place_at}
 use Rattle.failover_writer.proofs.Lists.{all_then}
 
 -- A journal of no record and no segment.
-pub nothing_stands : (tells : Bool) (state : State) (v : DiskView) → state.segments ≡ [] → state.queue.start ≡ 0 → state.queue.records ≡ [] → state.next ≡ state.base → state.want ≡ 0 → NothingInFlight v → (IsTrue tells → AreUnsent state.wal 0 v) → state.wal ≤ 999999999999
+pub nothing_stands : (tells : Bool) (state : State) (v : DiskView) → state.segments ≡ [] → state.queue.start ≡ 0 → state.queue.records ≡ []
+    → state.next ≡ state.base → state.want ≡ 0 → NothingInFlight v → (IsTrue tells → AreUnsent state.wal 0 v) → state.wal ≤ 999999999999
     → StandsFor tells [] state v
 unfolding IsContiguous end_after AreJoined
 nothing_stands tells state v none start records next want idle absent named = record {
@@ -35,7 +36,8 @@ nothing_stands tells state v none start records next want idle absent named = re
 }
 
 -- The same disk holds the same.
-pub same_stands : (tells : Bool) (records : List Batch) (state : State) (before after : DiskView) → SameDisk before after → StandsFor tells records state before → StandsFor tells records state after
+pub same_stands : (tells : Bool) (records : List Batch) (state : State) (before after : DiskView) → SameDisk before after
+    → StandsFor tells records state before → StandsFor tells records state after
 same_stands tells records state before after same stands = record {
   named = stands.named;
   numbered = stands.numbered;
@@ -47,14 +49,17 @@ same_stands tells records state before after same stands = record {
   few = stands.few;
   joined = stands.joined;
   fit =
-      all_then (λ (w : Writer). Fits tells records w before) (λ (w : Writer). Fits tells records w after) (λ w fits. fits_beside tells records w before after fits (same_disk tells (place_of_writer w) before after same))
+      all_then (λ (w : Writer). Fits tells records w before) (λ (w : Writer). Fits tells records w after)
+      (λ w fits. fits_beside tells records w before after fits (same_disk tells (place_of_writer w) before after same))
       state.segments stands.fit;
   alone = λ id f flies. stands.alone id f (ap (λ (flights : OpId → Option Flight). flights id) (sym same.in_flight) ∙ flies);
-  fresh = λ told index low high. subst IsUnsent (sym ((same_disk tells (place_at state.wal index) before after same).file told)) (stands.fresh told index low high);
+  fresh = λ told index low high. subst IsUnsent (sym ((same_disk tells (place_at state.wal index) before after same).file told))
+      (stands.fresh told index low high);
 }
 
 -- Room in the queue changes nothing that is held.
-pub roomy_stands : (tells : Bool) (records : List Batch) (state : State) (queue : Queue) (v : DiskView) → queue.start ≡ state.queue.start → queue.records ≡ state.queue.records → StandsFor tells records state v
+pub roomy_stands : (tells : Bool) (records : List Batch) (state : State) (queue : Queue) (v : DiskView) → queue.start ≡ state.queue.start
+    → queue.records ≡ state.queue.records → StandsFor tells records state v
     → StandsFor tells records (record state { queue = queue }) v
 roomy_stands tells records state queue v start held stands = record {
   named = stands.named;

@@ -52,10 +52,13 @@ at_end [] w d = refl
 at_end (u ∷ ws) w d = at_end ws w d
 
 -- What stands at the last place is the last.
-pub element_is : (ws earlier : List Writer) (current w : Writer) (last : ℕ) → ws ≡ earlier ++ current ∷ [] → last ≡ length earlier → w ≡ get_or ws last w → w ≡ current
-element_is ws earlier current w last is at read = read ∙ ap (λ (l : List Writer). get_or l last w) is ∙ ap (λ (n : ℕ). get_or (earlier ++ current ∷ []) n w) at ∙ at_end earlier current w
+pub element_is : (ws earlier : List Writer) (current w : Writer) (last : ℕ) → ws ≡ earlier ++ current ∷ [] → last ≡ length earlier
+    → w ≡ get_or ws last w → w ≡ current
+element_is ws earlier current w last is at read = read ∙ ap (λ (l : List Writer). get_or l last w) is
+    ∙ ap (λ (n : ℕ). get_or (earlier ++ current ∷ []) n w) at ∙ at_end earlier current w
 
-pub set_at_last : (ws earlier : List Writer) (current w : Writer) (last : ℕ) → ws ≡ earlier ++ current ∷ [] → last ≡ length earlier → slice_set ws last w ≡ earlier ++ w ∷ []
+pub set_at_last : (ws earlier : List Writer) (current w : Writer) (last : ℕ) → ws ≡ earlier ++ current ∷ [] → last ≡ length earlier
+    → slice_set ws last w ≡ earlier ++ w ∷ []
 set_at_last ws earlier current w last is at =
     ap (λ (l : List Writer). slice_set l last w) is ∙ ap (λ (n : ℕ). slice_set (earlier ++ current ∷ []) n w) at ∙ set_last earlier current w
 
@@ -85,7 +88,8 @@ not_broken Broken ne = absurd (ne refl)
 none_broken : (w : Writer) → w.phase ≢ Broken → count_by is_broken (w ∷ []) ≡ 0
 none_broken w ne = ap (λ (b : Bool). 0 + cond b 1 0) (not_broken w.phase ne)
 
-module _ (tells : Bool) (state : State) (old new : DiskView) (earlier : List Writer) (current next : Writer) (is : state.segments ≡ earlier ++ current ∷ []) where
+module _ (tells : Bool) (state : State) (old new : DiskView) (earlier : List Writer) (current next : Writer)
+    (is : state.segments ≡ earlier ++ current ∷ []) where
   abbrev after : State
   after = record state { segments = earlier ++ next ∷ [] }
 
@@ -108,9 +112,11 @@ module _ (tells : Bool) (state : State) (old new : DiskView) (earlier : List Wri
   places_same : KeepsPlace → map place_of_writer after.segments ≡ map place_of_writer state.segments
   places_same keeps =
       let here : place_of_writer next ≡ place_of_writer current = ap (λ (s : Side). segment s next.name) keeps.side ∙ ap (segment current.side) keeps.name in
-      map-append place_of_writer earlier (next ∷ []) ∙ ap (λ (p : Place). map place_of_writer earlier ++ p ∷ []) here ∙ sym (map-append place_of_writer earlier (current ∷ [])) ∙ sym (ap (map place_of_writer) is)
+      map-append place_of_writer earlier (next ∷ []) ∙ ap (λ (p : Place). map place_of_writer earlier ++ p ∷ []) here
+      ∙ sym (map-append place_of_writer earlier (current ∷ [])) ∙ sym (ap (map place_of_writer) is)
 
-  pub kept_stands : KeepsPlace → ((place : Place) → place ≢ place_of_writer current → SameFile tells place old new) → ((id : OpId) (f : Flight) → new.in_flight id ≡ Some f → Contains (map place_of_writer state.segments) f.place)
+  pub kept_stands : KeepsPlace → ((place : Place) → place ≢ place_of_writer current → SameFile tells place old new)
+      → ((id : OpId) (f : Flight) → new.in_flight id ≡ Some f → Contains (map place_of_writer state.segments) f.place)
       → (records : List Batch) → StandsFor tells records state old → Fits tells records next new → StandsFor tells records after new
   kept_stands keeps others alone records stands fits =
       let joined = joined_was stands.joined in
@@ -121,33 +127,54 @@ module _ (tells : Bool) (state : State) (old new : DiskView) (earlier : List Wri
         spelled = stands.spelled;
         next = stands.next;
         queue = stands.queue;
-        queued = omega (arith, stands.queued, acked_same keeps, sent_to_last 0 earlier next, sent_to_last 0 earlier current, ap (sent_to_current 0) is, keeps.sent);
+        queued = omega (
+          arith,
+          stands.queued,
+          acked_same keeps,
+          sent_to_last 0 earlier next,
+          sent_to_last 0 earlier current,
+          ap (sent_to_current 0) is,
+          keeps.sent,
+        );
         want = stands.want;
         few = omega (arith, stands.few, ap length is, length-append earlier (next ∷ []), length-append earlier (current ∷ []));
         joined = joined_push state.wal 0 0 earlier next (joined_front state.wal 0 0 earlier (current ∷ []) joined)
             (record { side = keeps.side ∙ last.0.side; name = keeps.name ∙ last.0.name; begun = keeps.begun }) (omega (arith, keeps.from, last.1));
         fit = all_push (λ (u : Writer). Fits tells records u new) earlier next
             (fit_beside tells records (place_of_writer current) old new earlier others (apart_from_last state.wal earlier current joined)
-            (all_front (λ (u : Writer). Fits tells records u old) earlier (current ∷ []) (subst (AllByRecursion (λ (u : Writer). Fits tells records u old)) is stands.fit))) fits;
+            (all_front (λ (u : Writer). Fits tells records u old) earlier (current ∷ [])
+            (subst (AllByRecursion (λ (u : Writer). Fits tells records u old)) is stands.fit))) fits;
         alone = λ id f flies. subst (λ (l : List Place). Contains l f.place) (sym (places_same keeps)) (alone id f flies);
         fresh = λ told index low high.
             let length_is : length earlier + 1 ≤ index = omega (arith, low, length-append earlier (next ∷ [])) in
-            subst IsUnsent (sym ((others (place_at state.wal index) (λ e. omega (arith, length_is, ap index_in e, index_is state.wal (0 + length earlier) current last.0))).file told))
+            subst IsUnsent (sym ((others (place_at state.wal index)
+            (λ e. omega (arith, length_is, ap index_in e, index_is state.wal (0 + length earlier) current last.0))).file told))
             (stands.fresh told index (omega (arith, length_is, ap length is, length-append earlier (current ∷ []))) high);
       }
 
-  pub kept_in_order : KeepsPlace → current.phase ≢ Broken → Stands tells after new → (acked_so_far rested_to failures : ℕ) → state.dead ≡ None → IsInOrder tells state old acked_so_far rested_to failures
+  pub kept_in_order : KeepsPlace → current.phase ≢ Broken → Stands tells after new → (acked_so_far rested_to failures : ℕ)
+      → state.dead ≡ None → IsInOrder tells state old acked_so_far rested_to failures
       → IsInOrder tells after new acked_so_far rested_to failures
   kept_in_order keeps whole stands acked_so_far rested_to failures lives order =
       let short : rested_to ≤ length earlier = omega (arith, order.first_busy, ap length is, length-append earlier (current ∷ [])) in
       record {
         stands = stands;
         acked = order.acked ∙ sym (acked_same keeps);
-        failed = omega (arith, order.failed, ap (count_by is_broken) is, count_push is_broken earlier current, count_push is_broken earlier next, none_broken current whole, none_broken next keeps.whole);
-        rested = subst NoneBusy (ap (take rested_to) is ∙ take-append-le rested_to earlier (current ∷ []) short ∙ sym (take-append-le rested_to earlier (next ∷ []) short)) order.rested;
+        failed = omega (
+          arith,
+          order.failed,
+          ap (count_by is_broken) is,
+          count_push is_broken earlier current,
+          count_push is_broken earlier next,
+          none_broken current whole,
+          none_broken next keeps.whole,
+        );
+        rested = subst NoneBusy (ap (take rested_to) is ∙ take-append-le rested_to earlier (current ∷ []) short
+            ∙ sym (take-append-le rested_to earlier (next ∷ []) short)) order.rested;
         first_busy = omega (arith, short, length-append earlier (next ∷ []));
         wal = order.wal;
-        sound = sound_with state after.segments lives (some_records state order.sound (λ none. omega (arith, ap length is, ap length none, length-append earlier (current ∷ [])))) order.sound;
+        sound = sound_with state after.segments lives (some_records state order.sound
+            (λ none. omega (arith, ap length is, ap length none, length-append earlier (current ∷ [])))) order.sound;
       }
 
   -- ---- what begins
@@ -157,7 +184,8 @@ module _ (tells : Bool) (state : State) (old new : DiskView) (earlier : List Wri
   sent_grows Write n sent le = le
   sent_grows Sync n sent le = omega arith
 
-  pub keeps_place : (o : Option Operation) (n : ℕ) (was : Bool) → current.phase ≢ New → current.phase ≢ Broken → current.sent ≤ n → BeginsJust o n was current next old new → KeepsPlace
+  pub keeps_place : (o : Option Operation) (n : ℕ) (was : Bool) → current.phase ≢ New → current.phase ≢ Broken → current.sent ≤ n
+      → BeginsJust o n was current next old new → KeepsPlace
   keeps_place None n was begun whole room begins =
       let e : next ≡ current = begins.1 in
       record {
@@ -182,20 +210,28 @@ module _ (tells : Bool) (state : State) (old new : DiskView) (earlier : List Wri
       }
 
   has_place : Contains (map place_of_writer state.segments) (place_of_writer current)
-  has_place = subst (λ (l : List Place). Contains l (place_of_writer current)) (sym (ap (map place_of_writer) is ∙ map-append place_of_writer earlier (current ∷ []))) (Contains-push (map place_of_writer earlier) (place_of_writer current))
+  has_place = subst (λ (l : List Place). Contains l (place_of_writer current))
+      (sym (ap (map place_of_writer) is ∙ map-append place_of_writer earlier (current ∷ [])))
+      (Contains-push (map place_of_writer earlier) (place_of_writer current))
 
   -- Each file but those of the segments is as it was.
-  opened_then : KeepsPlace → ((place : Place) → place ≢ place_of_writer current → SameFile tells place old new) → (opening : Files) → IsTrue tells → OthersStay opening state (files old) → OthersStay opening after (files new)
+  opened_then : KeepsPlace → ((place : Place) → place ≢ place_of_writer current → SameFile tells place old new) → (opening : Files)
+      → IsTrue tells → OthersStay opening state (files old) → OthersStay opening after (files new)
   opened_then keeps others opening told stay p out =
-      let outside : Contains (map place_of_writer state.segments) p → ⊥ = λ there. out (subst (λ (l : List Place). Contains l p) (sym (places_same keeps)) there) in
+      let outside : Contains (map place_of_writer state.segments) p
+      → ⊥ = λ there. out (subst (λ (l : List Place). Contains l p) (sym (places_same keeps)) there) in
       (others p (λ e. outside (subst (Contains (map place_of_writer state.segments)) (sym e) has_place))).file told ∙ stay p outside
 
-  pub alone_now : (o : Option Operation) (n : ℕ) (was : Bool) → BeginsJust o n was current next old new → ((id : OpId) (f : Flight) → old.in_flight id ≡ Some f → Contains (map place_of_writer state.segments) f.place)
+  pub alone_now : (o : Option Operation) (n : ℕ) (was : Bool) → BeginsJust o n was current next old new
+      → ((id : OpId) (f : Flight) → old.in_flight id ≡ Some f → Contains (map place_of_writer state.segments) f.place)
       → (id : OpId) (f : Flight) → new.in_flight id ≡ Some f → Contains (map place_of_writer state.segments) f.place
-  alone_now None n was begins alone = subst (λ (v : DiskView). (id : OpId) (f : Flight) → v.in_flight id ≡ Some f → Contains (map place_of_writer state.segments) f.place) (sym begins.2) alone
-  alone_now (Some o) n was begins alone = alone_with (record { place = place_of_writer current; act = act_of o }) current.side begins.1.id old new (map place_of_writer state.segments) begins.1.starts has_place alone
+  alone_now None n was begins alone = subst (λ (v : DiskView). (id : OpId) (f : Flight) → v.in_flight id ≡ Some f
+      → Contains (map place_of_writer state.segments) f.place) (sym begins.2) alone
+  alone_now (Some o) n was begins alone = alone_with (record { place = place_of_writer current; act = act_of o }) current.side begins.1.id
+      old new (map place_of_writer state.segments) begins.1.starts has_place alone
 
-  module _ (goal : Goal) (was : Bool) (goal_is : goal ≡ record { len = len state; want = state.want; acked = acked state }) (begins : BeginsJust (next_operation current.phase current.written goal) goal.len was current next old new) where
+  module _ (goal : Goal) (was : Bool) (goal_is : goal ≡ record { len = len state; want = state.want; acked = acked state })
+      (begins : BeginsJust (next_operation current.phase current.written goal) goal.len was current next old new) where
     abbrev coming : Option Operation
     coming = next_operation current.phase current.written goal
 
@@ -208,7 +244,8 @@ module _ (tells : Bool) (state : State) (old new : DiskView) (earlier : List Wri
             subst (MayStartNext state) same (nothing (λ _ other starts.
             let current_is : current ≡ starts.current = last_same earlier starts.earlier current starts.current (sym is ∙ starts.segments_are) in
             let clash : None ≡ Some starts.operation =
-            sym none ∙ ap (λ (w : Writer). next_operation w.phase w.written goal) current_is ∙ ap (next_operation starts.current.phase starts.current.written) goal_is ∙ starts.next in
+            sym none ∙ ap (λ (w : Writer). next_operation w.phase w.written goal) current_is
+            ∙ ap (next_operation starts.current.phase starts.current.written) goal_is ∙ starts.next in
             cc))
         go (Some o) some begins = started after behind (record {
           earlier = earlier;
@@ -219,26 +256,42 @@ module _ (tells : Bool) (state : State) (old new : DiskView) (earlier : List Wri
           segments_are = is;
           next = ap (next_operation current.phase current.written) (sym goal_is) ∙ some;
           new_is = ap (λ (w : Writer). record state { segments = earlier ++ w ∷ [] })
-              (begins.1.moved ∙ ap (λ (n : ℕ). record current { sent = sent_with o n current.sent; place = begins.1.place; waiting = 0; phase = InFlight o begins.1.id }) (ap (λ (g : Goal). g.len) goal_is));
+              (begins.1.moved ∙ ap (λ (n : ℕ). record current {
+                sent = sent_with o n current.sent;
+                place = begins.1.place;
+                waiting = 0;
+                phase = InFlight o begins.1.id;
+              }) (ap (λ (g : Goal). g.len) goal_is));
         })
 
     module _ (whole : current.phase ≢ Broken) (others : (place : Place) → place ≢ place_of_writer current → SameFile tells place old new) where
       keeps : (records : List Batch) → StandsFor tells records state old → KeepsPlace
       keeps records stands =
-          let fits : Fits tells records current old = all_last (λ (u : Writer). Fits tells records u old) earlier current (subst (AllByRecursion (λ (u : Writer). Fits tells records u old)) is stands.fit) in
+          let fits : Fits tells records current old = all_last (λ (u : Writer). Fits tells records u old) earlier current
+          (subst (AllByRecursion (λ (u : Writer). Fits tells records u old)) is stands.fit) in
           keeps_place coming goal.len was (last_is state.wal 0 0 earlier current (joined_was stands.joined)).0.begun whole
-          (omega (arith, fits.ordered.sent, ap (λ (g : Goal). g.len) goal_is, stands.queue.start, ap length stands.queue.holds, length-drop state.queue.start records)) begins
+          (omega (
+            arith,
+            fits.ordered.sent,
+            ap (λ (g : Goal). g.len) goal_is,
+            stands.queue.start,
+            ap length stands.queue.holds,
+            length-drop state.queue.start records,
+          )) begins
 
       pub started_stands : (records : List Batch) → StandsFor tells records state old → Fits tells records next new → StandsFor tells records after new
       started_stands records stands fits = kept_stands (keeps records stands) others (alone_now coming goal.len was begins stands.alone) records stands fits
 
-      pub started_passes : Stands tells state old → GoesOn old new → (IsTrue tells → new.clock ≤ suc old.clock) → ((records : List Batch) → StandsFor tells records state old → Fits tells records next new) → Passes tells state after old new
+      pub started_passes : Stands tells state old → GoesOn old new → (IsTrue tells → new.clock ≤ suc old.clock)
+          → ((records : List Batch) → StandsFor tells records state old → Fits tells records next new) → Passes tells state after old new
       started_passes held goes one fits =
           let kept = keeps held.0 held.1 in
-          passes_once tells state after old new refl refl (omega (arith, acked_same kept)) (λ records stands. started_stands records stands (fits records stands)) goes (opened_then kept others)
+          passes_once tells state after old new refl refl (omega (arith, acked_same kept))
+          (λ records stands. started_stands records stands (fits records stands)) goes (opened_then kept others)
           (λ told k low high. first_or_last old new goes (one told) k low high)
 
-      pub started_in_order : ((records : List Batch) → StandsFor tells records state old → Fits tells records next new) → (acked_so_far rested_to failures : ℕ) → state.dead ≡ None → IsInOrder tells state old acked_so_far rested_to failures
+      pub started_in_order : ((records : List Batch) → StandsFor tells records state old → Fits tells records next new)
+          → (acked_so_far rested_to failures : ℕ) → state.dead ≡ None → IsInOrder tells state old acked_so_far rested_to failures
           → IsInOrder tells after new acked_so_far rested_to failures
       started_in_order fits acked_so_far rested_to failures lives order =
           let records = order.stands.0 in
@@ -246,12 +299,15 @@ module _ (tells : Bool) (state : State) (old new : DiskView) (earlier : List Wri
           kept_in_order (keeps records stands) whole (records, started_stands records stands (fits records stands)) acked_so_far rested_to failures lives order
 
 -- The queue holds what the current segment has not sent.
-pub holds_unsent : (tells : Bool) (records : List Batch) (state : State) (v : DiskView) (earlier : List Writer) (current : Writer) → state.segments ≡ earlier ++ current ∷ [] → StandsFor tells records state v
+pub holds_unsent : (tells : Bool) (records : List Batch) (state : State) (v : DiskView) (earlier : List Writer) (current : Writer)
+    → state.segments ≡ earlier ++ current ∷ [] → StandsFor tells records state v
     → HoldsPart state.queue current.sent (len state)
-holds_unsent tells records state v earlier current is stands = record { start = omega (arith, stands.queued, ap (sent_to_current 0) is, sent_to_last 0 earlier current); end = omega arith }
+holds_unsent tells records state v earlier current is stands = record
+    { start = omega (arith, stands.queued, ap (sent_to_current 0) is, sent_to_last 0 earlier current); end = omega arith }
 
 -- The current segment's writer fits.
-pub current_fits : (tells : Bool) (records : List Batch) (state : State) (v : DiskView) (earlier : List Writer) (current : Writer) → state.segments ≡ earlier ++ current ∷ [] → StandsFor tells records state v
+pub current_fits : (tells : Bool) (records : List Batch) (state : State) (v : DiskView) (earlier : List Writer) (current : Writer)
+    → state.segments ≡ earlier ++ current ∷ [] → StandsFor tells records state v
     → Fits tells records current v
 current_fits tells records state v earlier current is stands =
     all_last (λ (u : Writer). Fits tells records u v) earlier current (subst (AllByRecursion (λ (u : Writer). Fits tells records u v)) is stands.fit)

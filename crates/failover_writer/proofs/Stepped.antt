@@ -28,7 +28,8 @@ use Rattle.failover_writer.proofs.Polled.{count_same}
 -- ---- how it is answered
 
 -- The step has waited, after a poll that was pending, or else moved.
-waited_or_moved : (one other : Option Progress) → (((one ≡ Some Pending) ⊎ (other ≡ Some Pending)) × (moved_or_waited one other ≡ steps.Waited)) ⊎ (moved_or_waited one other ≡ steps.Moved)
+waited_or_moved : (one other : Option Progress) → (((one ≡ Some Pending) ⊎ (other ≡ Some Pending))
+    × (moved_or_waited one other ≡ steps.Waited)) ⊎ (moved_or_waited one other ≡ steps.Moved)
 waited_or_moved None None = inr refl
 waited_or_moved None (Some Pending) = inl (inr refl, refl)
 waited_or_moved None (Some Done) = inr refl
@@ -49,7 +50,8 @@ never_idle one other e = elim (waited_or_moved one other) [
   | inr is ↦ let clash : steps.Moved ≡ steps.Idle = sym is ∙ e in cc
 ]
 
-idle_then : {old new : State} {one other : Option Progress} {answer : Result Step JournalFault} → StepRule old one other new answer → answer ≡ Ok steps.Idle → IsIdle old
+idle_then : {old new : State} {one other : Option Progress} {answer : Result Step JournalFault} → StepRule old one other new answer
+    → answer ≡ Ok steps.Idle → IsIdle old
 idle_then (was_dead side count dead) e = absurd (cc)
 idle_then (idle lives rests none) e = record { lives = lives; rests = rests; no_work = none }
 idle_then (dies one other polled new side count up polls end) e = absurd (cc)
@@ -57,7 +59,8 @@ idle_then (goes one other polled started new up polls went released) e = absurd 
 idle_then (short one other polled up polls) e = absurd (cc)
 
 -- An idle journal is answered so, and stays as it is.
-idle_stays : {old new : State} {one other : Option Progress} {answer : Result Step JournalFault} → StepRule old one other new answer → IsIdle old → (answer ≡ Ok steps.Idle) × (new ≡ old)
+idle_stays : {old new : State} {one other : Option Progress} {answer : Result Step JournalFault} → StepRule old one other new answer
+    → IsIdle old → (answer ≡ Ok steps.Idle) × (new ≡ old)
 idle_stays (was_dead side count dead) rests = absurd (cc)
 idle_stays (idle lives none no_work) rests = (refl, refl)
 idle_stays (dies one other polled new side count up polls end) rests = absurd (rests.no_work (up.wants rests.rests))
@@ -65,7 +68,8 @@ idle_stays (goes one other polled started new up polls went released) rests = ab
 idle_stays (short one other polled up polls) rests = absurd (rests.no_work (up.wants rests.rests))
 
 -- A step is idle where there is nothing to do, and there alone.
-pub idle_of : (old new : State) (before after : DiskView) (answer : Result Step JournalFault) → StepsBy old new before after answer → (answer ≡ Ok steps.Idle) ↔ IsIdle old
+pub idle_of : (old new : State) (before after : DiskView) (answer : Result Step JournalFault) → StepsBy old new before after answer
+    → (answer ≡ Ok steps.Idle) ↔ IsIdle old
 idle_of old new before after answer by = (λ e. idle_then by.rule e, λ rests. (idle_stays by.rule rests).0)
 
 pending_fell : (before after : DiskView) (answer : Option Progress) → IsTold before after answer → answer ≡ Some Pending → PollsFell before after
@@ -74,7 +78,8 @@ pending_fell before after answer told e = subst (λ (o : Option Progress). IsTol
 failed_rose : (before after : DiskView) (answer : Option Progress) → IsTold before after answer → answer ≡ Some Failed → FaultsRose before after
 failed_rose before after answer told e = subst (λ (o : Option Progress). IsTold before after o) e told
 
-waited_then : {old new : State} {one other : Option Progress} {answer : Result Step JournalFault} → StepRule old one other new answer → answer ≡ Ok steps.Waited → (one ≡ Some Pending) ⊎ (other ≡ Some Pending)
+waited_then : {old new : State} {one other : Option Progress} {answer : Result Step JournalFault} → StepRule old one other new answer
+    → answer ≡ Ok steps.Waited → (one ≡ Some Pending) ⊎ (other ≡ Some Pending)
 waited_then (was_dead side count dead) e = absurd (cc)
 waited_then (idle lives rests none) e = absurd (cc)
 waited_then (dies one other polled new side count up polls end) e = absurd (cc)
@@ -85,13 +90,15 @@ waited_then (goes one other polled started new up polls went released) e = elim 
 waited_then (short one other polled up polls) e = absurd (cc)
 
 -- A step has waited only where polls left to stall fell.
-pub waited_of : (old new : State) (before after : DiskView) (answer : Result Step JournalFault) → StepsBy old new before after answer → answer ≡ Ok steps.Waited → PollsFell before after
+pub waited_of : (old new : State) (before after : DiskView) (answer : Result Step JournalFault) → StepsBy old new before after answer
+    → answer ≡ Ok steps.Waited → PollsFell before after
 waited_of old new before after answer by e = elim (waited_then by.rule e) [
   | inl is ↦ pending_fell before after by.one by.one_told is
   | inr is ↦ pending_fell before after by.other by.other_told is
 ]
 
-marked_then : {old new : State} {one other : Option Progress} {answer : Result Step JournalFault} → StepRule old one other new answer → IfErr answer (IsMarked new)
+marked_then : {old new : State} {one other : Option Progress} {answer : Result Step JournalFault} → StepRule old one other new answer
+    → IfErr answer (IsMarked new)
 marked_then (was_dead side count dead) = dead
 marked_then (idle lives rests none) = tt
 marked_then (dies one other polled new side count up polls end) = ap (λ (s : State). s.dead) end.new_is
@@ -99,10 +106,12 @@ marked_then (goes one other polled started new up polls went released) = tt
 marked_then (short one other polled up polls) = tt
 
 -- A step that ends with a mark leaves the journal with it.
-pub dead_of : (old new : State) (before after : DiskView) (answer : Result Step JournalFault) → StepsBy old new before after answer → IfErr answer (IsMarked new)
+pub dead_of : (old new : State) (before after : DiskView) (answer : Result Step JournalFault) → StepsBy old new before after answer
+    → IfErr answer (IsMarked new)
 dead_of old new before after answer by = marked_then by.rule
 
-dead_stays : {old new : State} {one other : Option Progress} {answer : Result Step JournalFault} → StepRule old one other new answer → old.dead ≢ None → new ≡ old
+dead_stays : {old new : State} {one other : Option Progress} {answer : Result Step JournalFault} → StepRule old one other new answer
+    → old.dead ≢ None → new ≡ old
 dead_stays (was_dead side count dead) marked = refl
 dead_stays (idle lives none no_work) marked = refl
 dead_stays (dies one other polled new side count up polls end) marked = absurd (marked up.lives)
@@ -110,14 +119,16 @@ dead_stays (goes one other polled started new up polls went released) marked = a
 dead_stays (short one other polled up polls) marked = absurd (marked up.lives)
 
 -- A dead or idle journal stays as it is.
-pub still_of : (old new : State) (before after : DiskView) (answer : Result Step JournalFault) → StepsBy old new before after answer → (old.dead ≢ None) ⊎ IsIdle old → new ≡ old
+pub still_of : (old new : State) (before after : DiskView) (answer : Result Step JournalFault) → StepsBy old new before after answer
+    → (old.dead ≢ None) ⊎ IsIdle old → new ≡ old
 still_of old new before after answer by (inl marked) = dead_stays by.rule marked
 still_of old new before after answer by (inr rests) = (idle_stays by.rule rests).1
 
 -- ---- harm
 
 -- No more are broken, or the poll has failed.
-first_harms : {ws : List Writer} {answer : Option Progress} {ws' : List Writer} → PollsFirst ws answer ws' → (count_by is_broken ws' ≤ count_by is_broken ws) ⊎ (answer ≡ Some Failed)
+first_harms : {ws : List Writer} {answer : Option Progress} {ws' : List Writer} → PollsFirst ws answer ws'
+    → (count_by is_broken ws' ≤ count_by is_broken ws) ⊎ (answer ≡ Some Failed)
 first_harms (stepping.none ws rest) = inl (omega arith)
 first_harms (stepping.polled front w back operation id answer rest phase) = go answer
   where
@@ -126,19 +137,28 @@ first_harms (stepping.polled front w back operation id answer rest phase) = go a
     go Done = inl (omega (arith, count_same front w (after_answer operation Done w) back (ap phase_is_broken phase) refl))
     go Failed = inr refl
 
-polls_harm : {old polled : State} {one other : Option Progress} → Polls old one other polled → (broken_count polled ≤ broken_count old) ⊎ ((one ≡ Some Failed) ⊎ (other ≡ Some Failed))
+polls_harm : {old polled : State} {one other : Option Progress} → Polls old one other polled → (broken_count polled ≤ broken_count old)
+    ⊎ ((one ≡ Some Failed) ⊎ (other ≡ Some Failed))
 polls_harm (nothing_begun none) = inl (omega arith)
 polls_harm {old} (asked earlier current one other earlier' current' are early late) = elim (first_harms early) [
   | inr failed ↦ inr (inl failed)
   | inl fewer ↦ elim (first_harms late) [
     | inr failed ↦ inr (inr failed)
     | inl fewer_late ↦
-        inl (omega (arith, fewer, fewer_late, count_push is_broken earlier current, count_push is_broken earlier' current', ap (λ (ws : List Writer). count_by is_broken ws) are))
+        inl (omega (
+          arith,
+          fewer,
+          fewer_late,
+          count_push is_broken earlier current,
+          count_push is_broken earlier' current',
+          ap (λ (ws : List Writer). count_by is_broken ws) are,
+        ))
   ]
 ]
 
 -- Where one is broken after the polls, one was before or the count of faults rose.
-broken_before : (old polled : State) (one other : Option Progress) (before after : DiskView) → Polls old one other polled → IsTold before after one → IsTold before after other → 1 ≤ broken_count polled → IsHarmed old ⊎ FaultsRose before after
+broken_before : (old polled : State) (one other : Option Progress) (before after : DiskView) → Polls old one other polled
+    → IsTold before after one → IsTold before after other → 1 ≤ broken_count polled → IsHarmed old ⊎ FaultsRose before after
 broken_before old polled one other before after polls one_told other_told broken = elim (polls_harm polls) [
   | inl fewer ↦ inl (inr (omega (arith, fewer, broken)))
   | inr (inl failed) ↦ inr (failed_rose before after one one_told failed)
@@ -156,19 +176,36 @@ whole_in_flight w operation id is = ap (λ (p : Phase). count_by is_broken (reco
 
 begins_whole : (old new : State) → BeginsNext old new → (broken_count new ≤ broken_count old) × (new.dead ≡ old.dead)
 begins_whole old new begins = (
-  omega (arith, ap (λ (s : State). broken_count s) begins.new_is, count_push is_broken old.segments begins.writer, whole_in_flight begins.writer Create begins.id begins.fresh.7),
+  omega (
+    arith,
+    ap (λ (s : State). broken_count s) begins.new_is,
+    count_push is_broken old.segments begins.writer,
+    whole_in_flight begins.writer Create begins.id begins.fresh.7,
+  ),
   ap (λ (s : State). s.dead) begins.new_is,
 )
 
 -- the current segment once its next operation is started
 abbrev current_then : (old new : State) → StartsNext old new → Writer
-current_then old new next = record next.current { sent = sent_with next.operation (len old) next.current.sent; place = next.place; waiting = 0; phase = InFlight next.operation next.id }
+current_then old new next = record next.current {
+  sent = sent_with next.operation (len old) next.current.sent;
+  place = next.place;
+  waiting = 0;
+  phase = InFlight next.operation next.id;
+}
 
 starts_whole : (old new : State) → StartsNext old new → (broken_count new ≤ broken_count old) × (new.dead ≡ old.dead)
 starts_whole old new next = (less, ap (λ (s : State). s.dead) next.new_is)
   where
     less : broken_count new ≤ broken_count old
-    less = omega (arith, ap (λ (s : State). broken_count s) next.new_is, ap (λ (ws : List Writer). count_by is_broken ws) next.segments_are, count_push is_broken next.earlier next.current, count_push is_broken next.earlier (current_then old new next), whole_in_flight (current_then old new next) next.operation next.id refl)
+    less = omega (
+      arith,
+      ap (λ (s : State). broken_count s) next.new_is,
+      ap (λ (ws : List Writer). count_by is_broken ws) next.segments_are,
+      count_push is_broken next.earlier next.current,
+      count_push is_broken next.earlier (current_then old new next),
+      whole_in_flight (current_then old new next) next.operation next.id refl,
+    )
 
 -- What is begun or started breaks nothing.
 goes_whole : {polled started : State} → ActsAfterPolls polled started → (broken_count started ≤ broken_count polled) × (started.dead ≡ polled.dead)
@@ -184,19 +221,27 @@ polls_alive (asked earlier current one other earlier' current' are early late) =
 
 -- One is broken where the monitor says to die.
 pub dying_broken : (state : State) → Verdict IsToDie state → 1 ≤ broken_count state
-dying_broken state verdict = omega (arith, ap (λ (ws : List Writer). count_by is_broken ws) verdict.segments_are, count_push is_broken verdict.earlier verdict.current, one verdict.current verdict.says.0)
+dying_broken state verdict = omega (
+  arith,
+  ap (λ (ws : List Writer). count_by is_broken ws) verdict.segments_are,
+  count_push is_broken verdict.earlier verdict.current,
+  one verdict.current verdict.says.0,
+)
   where
     one : (w : Writer) → is_broken w ≡ true → count_by is_broken (w ∷ []) ≡ 1
     one w is = ap (λ (p : Phase). count_by is_broken (record w { phase = p } ∷ [])) (broken_phase w.phase is)
 
-harmed_then : {old new : State} {one other : Option Progress} {answer : Result Step JournalFault} (before after : DiskView) → StepRule old one other new answer → IsTold before after one → IsTold before after other → IsHarmed new
+harmed_then : {old new : State} {one other : Option Progress} {answer : Result Step JournalFault} (before after : DiskView)
+    → StepRule old one other new answer → IsTold before after one → IsTold before after other → IsHarmed new
     → IsHarmed old ⊎ FaultsRose before after
 harmed_then before after (was_dead side count dead) one_told other_told harmed = inl harmed
 harmed_then before after (idle lives rests none) one_told other_told harmed = inl harmed
-harmed_then {old} before after (dies one other polled new side count up polls end) one_told other_told harmed = broken_before old polled one other before after polls one_told other_told (dying_broken polled end.verdict)
+harmed_then {old} before after (dies one other polled new side count up polls end) one_told other_told harmed = broken_before old polled one
+    other before after polls one_told other_told (dying_broken polled end.verdict)
 harmed_then {old} before after (goes one other polled started new up polls went released) one_told other_told harmed = elim harmed [
   | inl marked ↦ absurd (marked (ap (λ (s : State). s.dead) released.new_is ∙ (goes_whole went).1 ∙ (polls_alive polls).0 ∙ up.lives))
-  | inr broken ↦ broken_before old polled one other before after polls one_told other_told (omega (arith, broken, (goes_whole went).0, ap (λ (s : State). broken_count s) released.new_is))
+  | inr broken ↦ broken_before old polled one other before after polls one_told other_told
+      (omega (arith, broken, (goes_whole went).0, ap (λ (s : State). broken_count s) released.new_is))
 ]
 harmed_then {old} before after (short one other polled up polls) one_told other_told harmed = elim harmed [
   | inl marked ↦ absurd (marked ((polls_alive polls).0 ∙ up.lives))
@@ -204,7 +249,8 @@ harmed_then {old} before after (short one other polled up polls) one_told other_
 ]
 
 -- A step does harm only where the count of faults rose.
-pub harmed_of : (old new : State) (before after : DiskView) (answer : Result Step JournalFault) → StepsBy old new before after answer → IsHarmed new → IsHarmed old ⊎ FaultsRose before after
+pub harmed_of : (old new : State) (before after : DiskView) (answer : Result Step JournalFault) → StepsBy old new before after answer
+    → IsHarmed new → IsHarmed old ⊎ FaultsRose before after
 harmed_of old new before after answer by harmed = harmed_then before after by.rule by.one_told by.other_told harmed
 
 -- ---- a smooth run
@@ -213,7 +259,8 @@ harmed_of old new before after answer by harmed = harmed_then before after by.ru
 abbrev IsRough : DiskView → DiskView → Type 0
 IsRough before after = FaultsRose before after ⊎ PollsFell before after
 
-smooth_put : (front : List Writer) (old new : Writer) (back : List Writer) → AllByRecursion IsSmoothSegment (front ++ old ∷ back) → IsSmoothSegment new → AllByRecursion IsSmoothSegment (front ++ new ∷ back)
+smooth_put : (front : List Writer) (old new : Writer) (back : List Writer) → AllByRecursion IsSmoothSegment (front ++ old ∷ back)
+    → IsSmoothSegment new → AllByRecursion IsSmoothSegment (front ++ new ∷ back)
 smooth_put front old new back all here =
     all_append IsSmoothSegment front (new ∷ back) (all_front IsSmoothSegment front (old ∷ back) all) (here, (all_back IsSmoothSegment front (old ∷ back) all).1)
 
@@ -224,7 +271,8 @@ first_size : {ws : List Writer} {answer : Option Progress} {ws' : List Writer} �
 first_size (stepping.none ws rest) = refl
 first_size (stepping.polled front w back operation id answer rest phase) = size_put front w (after_answer operation answer w) back
 
-first_smooth : {ws : List Writer} {answer : Option Progress} {ws' : List Writer} (before after : DiskView) → PollsFirst ws answer ws' → IsTold before after answer → AllByRecursion IsSmoothSegment ws
+first_smooth : {ws : List Writer} {answer : Option Progress} {ws' : List Writer} (before after : DiskView) → PollsFirst ws answer ws'
+    → IsTold before after answer → AllByRecursion IsSmoothSegment ws
     → AllByRecursion IsSmoothSegment ws' ⊎ IsRough before after
 first_smooth before after (stepping.none ws rest) told all = inl all
 first_smooth before after (stepping.polled front w back operation id answer rest phase) told all = go answer told
@@ -235,7 +283,8 @@ first_smooth before after (stepping.polled front w back operation id answer rest
     go Failed rose = inr (inl rose)
 
 -- Polls that were all done leave it smooth.
-polls_smooth : {old polled : State} {one other : Option Progress} (before after : DiskView) → Polls old one other polled → IsTold before after one → IsTold before after other → IsSmooth old → IsSmooth polled ⊎ IsRough before after
+polls_smooth : {old polled : State} {one other : Option Progress} (before after : DiskView) → Polls old one other polled
+    → IsTold before after one → IsTold before after other → IsSmooth old → IsSmooth polled ⊎ IsRough before after
 polls_smooth before after (nothing_begun none) one_told other_told smooth = inl smooth
 polls_smooth {old} before after (asked earlier current one other earlier' current' are early late) one_told other_told smooth =
     let all : AllByRecursion IsSmoothSegment (earlier ++ current ∷ []) = subst (λ (ws : List Writer). AllByRecursion IsSmoothSegment ws) are smooth.segments in
@@ -247,13 +296,21 @@ polls_smooth {old} before after (asked earlier current one other earlier' curren
             inl (record {
               lives = smooth.lives;
               few =
-                  omega (arith, smooth.few, ap (λ (ws : List Writer). length ws) are, length-append earlier (current ∷ []), length-append earlier' (current' ∷ []), first_size early);
+                  omega (
+                    arith,
+                    smooth.few,
+                    ap (λ (ws : List Writer). length ws) are,
+                    length-append earlier (current ∷ []),
+                    length-append earlier' (current' ∷ []),
+                    first_size early,
+                  );
               segments = all_append IsSmoothSegment earlier' (current' ∷ []) smooth_early smooth_late;
             })
       ]
     ]
 
-smooth_current : (state : State) (earlier : List Writer) (current : Writer) → state.segments ≡ earlier ++ current ∷ [] → IsSmooth state → IsSmoothSegment current
+smooth_current : (state : State) (earlier : List Writer) (current : Writer) → state.segments ≡ earlier ++ current ∷ [] → IsSmooth state
+    → IsSmoothSegment current
 smooth_current state earlier current are smooth =
     (all_back IsSmoothSegment earlier (current ∷ []) (subst (λ (ws : List Writer). AllByRecursion IsSmoothSegment ws) are smooth.segments)).0
 
@@ -280,7 +337,8 @@ goes_smooth {polled} (first new none behind begins) least smooth =
     subst (λ (s : State). IsSmooth s) (sym begins.new_is) (record {
       lives = smooth.lives;
       few = omega (arith, length-append polled.segments (begins.writer ∷ []), ap (λ (ws : List Writer). length ws) none);
-      segments = all_append IsSmoothSegment polled.segments (begins.writer ∷ []) smooth.segments (flight_smooth begins.writer Create begins.id begins.fresh.6 begins.fresh.7, tt);
+      segments = all_append IsSmoothSegment polled.segments (begins.writer ∷ []) smooth.segments
+          (flight_smooth begins.writer Create begins.id begins.fresh.6 begins.fresh.7, tt);
     })
 goes_smooth (none_to_begin none rests) least smooth = smooth
 goes_smooth {polled} (switches new verdict begins) least smooth = absurd (never_switches polled least smooth verdict)
@@ -289,28 +347,34 @@ goes_smooth {polled} (starts new verdict behind next) least smooth =
     subst (λ (s : State). IsSmooth s) (sym next.new_is) (record {
       lives = smooth.lives;
       few = omega (arith, smooth.few, ap (λ (ws : List Writer). length ws) next.segments_are, size_put next.earlier next.current then []);
-      segments = smooth_put next.earlier next.current then [] (subst (λ (ws : List Writer). AllByRecursion IsSmoothSegment ws) next.segments_are smooth.segments) (flight_smooth then next.operation next.id refl refl);
+      segments = smooth_put next.earlier next.current then [] (subst (λ (ws : List Writer). AllByRecursion IsSmoothSegment ws)
+          next.segments_are smooth.segments) (flight_smooth then next.operation next.id refl refl);
     })
 goes_smooth (stays verdict rests) least smooth = smooth
 
 released_smooth : (old new : State) → Releases old new → IsSmooth old → IsSmooth new
-released_smooth old new released smooth = subst (λ (s : State). IsSmooth s) (sym released.new_is) (record { lives = smooth.lives; few = smooth.few; segments = smooth.segments })
+released_smooth old new released smooth = subst (λ (s : State). IsSmooth s) (sym released.new_is)
+    (record { lives = smooth.lives; few = smooth.few; segments = smooth.segments })
 
-smooth_then : {old new : State} {one other : Option Progress} {answer : Result Step JournalFault} (before after : DiskView) → StepRule old one other new answer → IsTold before after one → IsTold before after other → 1 ≤ old.threshold
+smooth_then : {old new : State} {one other : Option Progress} {answer : Result Step JournalFault} (before after : DiskView)
+    → StepRule old one other new answer → IsTold before after one → IsTold before after other → 1 ≤ old.threshold
     → IsSmooth old → IsSmooth new ⊎ IsRough before after
 smooth_then before after (was_dead side count dead) one_told other_told least smooth = inl smooth
 smooth_then before after (idle lives rests none) one_told other_told least smooth = inl smooth
-smooth_then before after (dies one other polled new side count up polls end) one_told other_told least smooth = elim (polls_smooth before after polls one_told other_told smooth) [
-  | inl polled_smooth ↦ absurd (never_dies polled polled_smooth end.verdict)
-  | inr rough ↦ inr rough
-]
-smooth_then before after (goes one other polled started new up polls went released) one_told other_told least smooth = elim (polls_smooth before after polls one_told other_told smooth) [
-  | inl polled_smooth ↦ inl (released_smooth started new released (goes_smooth went (omega (arith, least, (polls_alive polls).1)) polled_smooth))
-  | inr rough ↦ inr rough
-]
+smooth_then before after (dies one other polled new side count up polls end) one_told other_told least smooth = elim
+    (polls_smooth before after polls one_told other_told smooth) [
+      | inl polled_smooth ↦ absurd (never_dies polled polled_smooth end.verdict)
+      | inr rough ↦ inr rough
+    ]
+smooth_then before after (goes one other polled started new up polls went released) one_told other_told least smooth = elim
+    (polls_smooth before after polls one_told other_told smooth) [
+      | inl polled_smooth ↦ inl (released_smooth started new released (goes_smooth went (omega (arith, least, (polls_alive polls).1)) polled_smooth))
+      | inr rough ↦ inr rough
+    ]
 smooth_then before after (short one other polled up polls) one_told other_told least smooth = polls_smooth before after polls one_told other_told smooth
 
 -- A smooth journal stays so, but where a poll of the step was pending or has failed.
-pub smooth_of : (old new : State) (before after : DiskView) (answer : Result Step JournalFault) → StepsBy old new before after answer → 1 ≤ old.threshold → IsSmooth old
+pub smooth_of : (old new : State) (before after : DiskView) (answer : Result Step JournalFault) → StepsBy old new before after answer
+    → 1 ≤ old.threshold → IsSmooth old
     → IsSmooth new ⊎ (FaultsRose before after ⊎ PollsFell before after)
 smooth_of old new before after answer by least smooth = smooth_then before after by.rule by.one_told by.other_told least smooth

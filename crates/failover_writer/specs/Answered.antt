@@ -94,7 +94,8 @@ pub record IsSmooth (state : State) : Type 0 where
 -- Steps one after another, none of which ended with a fault.
 pub data StepsOn (first : State) (before : DiskView) : State → DiskView → Type 0 where
   none : StepsOn first before first before
-  one_more : (mid new : State) (v after : DiskView) (answer : Step) → StepsOn first before mid v → StepsBy mid new v after (Ok answer) → StepsOn first before new after
+  one_more : (mid new : State) (v after : DiskView) (answer : Step) → StepsOn first before mid v → StepsBy mid new v after (Ok answer)
+      → StepsOn first before new after
 
 -- Steps one after another, each of which moved.
 pub data MovesOn (first : State) (before : DiskView) : State → DiskView → Type 0 where

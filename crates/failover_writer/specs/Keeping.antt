@@ -49,7 +49,8 @@ pub record IsRunOver (wal first : ℕ) (records : List Batch) (acked : ℕ) (ope
 
 -- It is so in each image that no torn chunk deceives.
 abbrev pub KeepsRun : ℕ → ℕ → List Batch → ℕ → Files → Files → Type 0
-KeepsRun wal first records acked opening now = (dirs : Dirs) → IsImage now dirs → IsChanceFree IsChunkOf now dirs → IsRunOver wal first records acked opening dirs
+KeepsRun wal first records acked opening now = (dirs : Dirs) → IsImage now dirs → IsChanceFree IsChunkOf now dirs
+    → IsRunOver wal first records acked opening dirs
 
 -- The directories recover to the base followed by a prefix of the records, with all that are acked.
 abbrev pub RecoversWith : List Batch → List Batch → ℕ → Dirs → Type 0
@@ -107,4 +108,5 @@ pub record Passes (tells : Bool) (old new : State) (before after : DiskView) : T
   pub base : new.base ≡ old.base
   pub acked : acked old ≤ acked new
   pub others : (opening : Files) → IsTrue tells → OthersStay opening old (files before) → OthersStay opening new (files after)
-  pub moments : (records : List Batch) (opening : Files) → StandsFor tells records old before → IsTrue tells → OthersStay opening old (files before) → AtEachMoment before.clock after (StoodAt tells records opening old)
+  pub moments : (records : List Batch) (opening : Files) → StandsFor tells records old before → IsTrue tells
+      → OthersStay opening old (files before) → AtEachMoment before.clock after (StoodAt tells records opening old)

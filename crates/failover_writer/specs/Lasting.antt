@@ -15,7 +15,8 @@ pub record Lasts {Disk : Type 0} (tells : Bool) (view : Disk → DiskView) (old 
   pub setting : KeepsEnd old.state new.state
   pub acked : acked old.state ≤ acked new.state
   pub harmed : IsHarmed new.state → IsHarmed old.state ⊎ FaultsRose (view old.disk) (view new.disk)
-  pub smooth : 1 ≤ old.state.threshold → IsSmooth old.state → IsSmooth new.state ⊎ (FaultsRose (view old.disk) (view new.disk) ⊎ PollsFell (view old.disk) (view new.disk))
+  pub smooth : 1 ≤ old.state.threshold → IsSmooth old.state → IsSmooth new.state
+      ⊎ (FaultsRose (view old.disk) (view new.disk) ⊎ PollsFell (view old.disk) (view new.disk))
   pub keeps : KeepsRecords tells view old new
   pub passes : Passes tells old.state new.state (view old.disk) (view new.disk)
   pub goes_on : GoesOn (view old.disk) (view new.disk)
@@ -27,9 +28,12 @@ pub record Survives {Disk : Type 0} (tells : Bool) (view : Disk → DiskView) (o
   pub keeps_base : KeepsBases tells view old new
   pub recovers : (records base : List Batch) → StandsFor tells records old.state (view old.disk) → KeepsBase tells base old.state (view old.disk) → IsTrue tells
       → AtEachMoment (view old.disk).clock (view new.disk) (RecoversTo base records (acked old.state))
-  pub recovers_at_exit : (records base : List Batch) → StandsFor tells records old.state (view old.disk) → KeepsBase tells base old.state (view old.disk) → IsTrue tells
+  pub recovers_at_exit : (records base : List Batch) → StandsFor tells records old.state (view old.disk)
+      → KeepsBase tells base old.state (view old.disk) → IsTrue tells
       → RecoversTo base records (acked new.state) (files (view new.disk))
-  pub run : (records : List Batch) (opening : Files) → StandsFor tells records old.state (view old.disk) → IsOpenedOn opening old.state (files (view old.disk)) → IsTrue tells
+  pub run : (records : List Batch) (opening : Files) → StandsFor tells records old.state (view old.disk)
+      → IsOpenedOn opening old.state (files (view old.disk)) → IsTrue tells
       → AtEachMoment (view old.disk).clock (view new.disk) (KeepsRun old.state.wal old.state.base records (acked old.state) opening)
-  pub run_at_exit : (records : List Batch) (opening : Files) → StandsFor tells records old.state (view old.disk) → IsOpenedOn opening old.state (files (view old.disk)) → IsTrue tells
+  pub run_at_exit : (records : List Batch) (opening : Files) → StandsFor tells records old.state (view old.disk)
+      → IsOpenedOn opening old.state (files (view old.disk)) → IsTrue tells
       → KeepsRun old.state.wal old.state.base records (acked new.state) opening (files (view new.disk))

@@ -75,4 +75,5 @@ KeepsRecords tells view old new = (records : List Batch) → StandsFor tells rec
 
 -- It goes on to hold each list of records that it held, with this record after them.
 abbrev pub AddsRecord : {Disk : Type 0} → Bool → (Disk → DiskView) → Batch → JournalView Disk → JournalView Disk → Type 0
-AddsRecord tells view added old new = (records : List Batch) → StandsFor tells records old.state (view old.disk) → StandsFor tells (records ++ added ∷ []) new.state (view new.disk)
+AddsRecord tells view added old new = (records : List Batch) → StandsFor tells records old.state (view old.disk)
+    → StandsFor tells (records ++ added ∷ []) new.state (view new.disk)

@@ -50,13 +50,15 @@ IsAtRest state = NoneBusy state.segments × (HasWork state → ⊥)
 -- The first of the segments that is busy was polled, if one is, and its writer noted the answer.
 pub data PollsFirst : List Writer → Option Progress → List Writer → Type 0 where
   none : (writers : List Writer) → NoneBusy writers → PollsFirst writers None writers
-  polled : (front : List Writer) (w : Writer) (back : List Writer) (operation : Operation) (id : OpId) (answer : Progress) → NoneBusy front → w.phase ≡ InFlight operation id
+  polled : (front : List Writer) (w : Writer) (back : List Writer) (operation : Operation) (id : OpId) (answer : Progress) → NoneBusy front
+      → w.phase ≡ InFlight operation id
       → PollsFirst (front ++ w ∷ back) (Some answer) (front ++ after_answer operation answer w ∷ back)
 
 -- The first busy one of the earlier segments was polled, and then the current one where it is busy.
 pub data Polls (state : State) : Option Progress → Option Progress → State → Type 0 where
   nothing_begun : state.segments ≡ [] → Polls state None None state
-  asked : (earlier : List Writer) (current : Writer) (one other : Option Progress) (earlier' : List Writer) (current' : Writer) → state.segments ≡ earlier ++ current ∷ []
+  asked : (earlier : List Writer) (current : Writer) (one other : Option Progress) (earlier' : List Writer) (current' : Writer)
+      → state.segments ≡ earlier ++ current ∷ []
       → PollsFirst earlier one earlier' → PollsFirst (current ∷ []) other (current' ∷ [])
       → Polls state one other (record state { segments = earlier' ++ current' ∷ [] })
 
@@ -64,7 +66,13 @@ pub data Polls (state : State) : Option Progress → Option Progress → State �
 
 -- what the monitor is shown of this segment
 abbrev pub shown_to_monitor : State → Writer → MonitorView
-shown_to_monitor state current = record { opened = length state.segments; broken = is_broken current; waiting = current.waiting; threshold = state.threshold; behind = nat_lt (acked state) (len state) }
+shown_to_monitor state current = record {
+  opened = length state.segments;
+  broken = is_broken current;
+  waiting = current.waiting;
+  threshold = state.threshold;
+  behind = nat_lt (acked state) (len state);
+}
 
 -- This is said of what the monitor is shown of the current segment.
 pub record Verdict (Says : MonitorView → Type 0) (state : State) : Type 0 where
@@ -79,7 +87,8 @@ IsToStay view = (IsToDie view → ⊥) × (IsToSwitch view → ⊥)
 
 -- a new segment, of which the creation was started
 abbrev pub begun : State → OpId → Writer → Type 0
-begun state id w = (w.side ≡ side_at (length state.segments)) × (w.name ≡ record { wal = state.wal; index = length state.segments }) × (w.from ≡ acked state) × (w.sent ≡ acked state) × (w.written ≡ acked state)
+begun state id w = (w.side ≡ side_at (length state.segments)) × (w.name ≡ record { wal = state.wal; index = length state.segments })
+    × (w.from ≡ acked state) × (w.sent ≡ acked state) × (w.written ≡ acked state)
     × (w.synced ≡ acked state) × (w.waiting ≡ 0) × (w.phase ≡ InFlight Create id)
 
 -- The next segment is begun at the end of what is synced.
@@ -98,7 +107,10 @@ pub record StartsNext (old new : State) : Type 0 where
   pub place : ℕ
   pub segments_are : old.segments ≡ earlier ++ current ∷ []
   pub next : next_operation current.phase current.written (record { len = len old; want = old.want; acked = acked old }) ≡ Some operation
-  pub new_is : new ≡ record old { segments = earlier ++ record current { sent = sent_with operation (len old) current.sent; place = place; waiting = 0; phase = InFlight operation id } ∷ [] }
+  pub new_is : new ≡ record old {
+    segments = earlier ++ record current
+        { sent = sent_with operation (len old) current.sent; place = place; waiting = 0; phase = InFlight operation id } ∷ [];
+  }
 
 -- Records that no segment needs any more leave the queue, and nothing else changes.
 pub record Releases (old new : State) : Type 0 where
@@ -137,6 +149,8 @@ pub record Dies (old new : State) (side : Side) (faults : ℕ) : Type 0 where
 pub data StepRule (old : State) : Option Progress → Option Progress → State → Result Step JournalFault → Type 0 where
   was_dead : (side : Side) (count : ℕ) → old.dead ≡ Some (record { side = side; faults = count }) → StepRule old None None old (Err (faults.Dead side count))
   idle : old.dead ≡ None → NoneBusy old.segments → (HasWork old → ⊥) → StepRule old None None old (Ok steps.Idle)
-  dies : (one other : Option Progress) (polled new : State) (side : Side) (count : ℕ) → IsUp old → Polls old one other polled → Dies polled new side count → StepRule old one other new (Err (faults.Dead side count))
-  goes : (one other : Option Progress) (polled started new : State) → IsUp old → Polls old one other polled → ActsAfterPolls polled started → Releases started new → StepRule old one other new (Ok (moved_or_waited one other))
+  dies : (one other : Option Progress) (polled new : State) (side : Side) (count : ℕ) → IsUp old → Polls old one other polled
+      → Dies polled new side count → StepRule old one other new (Err (faults.Dead side count))
+  goes : (one other : Option Progress) (polled started new : State) → IsUp old → Polls old one other polled → ActsAfterPolls polled started
+      → Releases started new → StepRule old one other new (Ok (moved_or_waited one other))
   short : (one other : Option Progress) (polled : State) → IsUp old → Polls old one other polled → StepRule old one other polled (Err faults.NoMemory)

@@ -37,12 +37,17 @@ All-insert P xs i y within all py k d below = elim (place k i) [
 pub AllPairs-insert : {X : Type 0} (R : X → X → Type 0) (xs : List X) (i : ℕ) (y : X) → i ≤ length xs → AllPairs R xs
     → ((k : ℕ) (d : X) → k < i → R (get_or xs k d) y) → ((k : ℕ) (d : X) → i ≤ k → k < length xs → R y (get_or xs k d)) → AllPairs R (insert xs i y)
 AllPairs-insert R xs i y within pairs front back a b d lt below = elim (place b i) [
-  | inl b_lt ↦ same_of R _ _ _ _ (get_or-insert_below xs i y d a (omega arith) within) (get_or-insert_below xs i y d b b_lt within) (pairs a b d lt (omega arith))
-  | inr (inl b_is) ↦ same_of R _ _ _ _ (get_or-insert_below xs i y d a (omega (arith, b_is)) within) (here xs i y d within b b_is) (front a d (omega (arith, b_is)))
+  | inl b_lt ↦ same_of R _ _ _ _ (get_or-insert_below xs i y d a (omega arith) within) (get_or-insert_below xs i y d b b_lt within)
+      (pairs a b d lt (omega arith))
+  | inr (inl b_is) ↦ same_of R _ _ _ _ (get_or-insert_below xs i y d a (omega (arith, b_is)) within) (here xs i y d within b b_is)
+      (front a d (omega (arith, b_is)))
   | inr (inr b_gt) ↦ elim (place a i) [
-    | inl a_lt ↦ same_of R _ _ _ _ (get_or-insert_below xs i y d a a_lt within) (behind xs i y d within b b_gt) (pairs a (b - 1) d (omega arith) (omega (arith, length-insert xs i y)))
-    | inr (inl a_is) ↦ same_of R _ _ _ _ (here xs i y d within a a_is) (behind xs i y d within b b_gt) (back (b - 1) d (omega arith) (omega (arith, length-insert xs i y)))
-    | inr (inr a_gt) ↦ same_of R _ _ _ _ (behind xs i y d within a a_gt) (behind xs i y d within b b_gt) (pairs (a - 1) (b - 1) d (omega arith) (omega (arith, length-insert xs i y)))
+    | inl a_lt ↦ same_of R _ _ _ _ (get_or-insert_below xs i y d a a_lt within) (behind xs i y d within b b_gt)
+        (pairs a (b - 1) d (omega arith) (omega (arith, length-insert xs i y)))
+    | inr (inl a_is) ↦ same_of R _ _ _ _ (here xs i y d within a a_is) (behind xs i y d within b b_gt)
+        (back (b - 1) d (omega arith) (omega (arith, length-insert xs i y)))
+    | inr (inr a_gt) ↦ same_of R _ _ _ _ (behind xs i y d within a a_gt) (behind xs i y d within b b_gt)
+        (pairs (a - 1) (b - 1) d (omega arith) (omega (arith, length-insert xs i y)))
   ]
 ]
 

@@ -32,29 +32,36 @@ IsReadyFor Write written len phase = (phase ≡ Idle) × (written < len)
 created_next : (written : ℕ) (goal : Goal) (operation : Operation) → next_of_created written goal ≡ Some operation → IsReadyFor operation written goal.len Idle
 created_next written goal operation next = go (nat_lt goal.acked goal.want && not (nat_lt written goal.want)) (nat_lt written goal.len) refl next
   where
-    go : (sync more : Bool) → nat_lt written goal.len ≡ more → (if sync then Some Sync else (if more then Some Write else None)) ≡ Some operation → IsReadyFor operation written goal.len Idle
+    go : (sync more : Bool) → nat_lt written goal.len ≡ more → (if sync then Some Sync else (if more then Some Write else None)) ≡ Some
+        operation → IsReadyFor operation written goal.len Idle
     go true more is e = let same : Sync ≡ operation = cc in subst (λ (o : Operation). IsReadyFor o written goal.len Idle) same refl
-    go false true is e = let same : Write ≡ operation = cc in subst (λ (o : Operation). IsReadyFor o written goal.len Idle) same (refl, ltb-true written goal.len is)
+    go false true is e = let same : Write ≡ operation = cc in subst (λ (o : Operation). IsReadyFor o written goal.len Idle) same
+        (refl, ltb-true written goal.len is)
     go false false is e = cc
 
-next_ready : (phase : Phase) (written : ℕ) (goal : Goal) (operation : Operation) → next_operation phase written goal ≡ Some operation → IsReadyFor operation written goal.len phase
+next_ready : (phase : Phase) (written : ℕ) (goal : Goal) (operation : Operation) → next_operation phase written goal ≡ Some operation
+    → IsReadyFor operation written goal.len phase
 next_ready New written goal operation next = let same : Create ≡ operation = cc in subst (λ (o : Operation). IsReadyFor o written goal.len New) same refl
 next_ready (InFlight other id) written goal operation next = cc
 next_ready Idle written goal operation next = created_next written goal operation next
 next_ready Broken written goal operation next = cc
 
-flies_from : (old new : DiskView) (w : Writer) (operation : Operation) (id : OpId) → IsFree old (place_of_writer w) → Starts (record { place = place_of_writer w; act = act_of operation }) w.side id old new → Flies new (place_of_writer w) (act_of operation) id
+flies_from : (old new : DiskView) (w : Writer) (operation : Operation) (id : OpId) → IsFree old (place_of_writer w)
+    → Starts (record { place = place_of_writer w; act = act_of operation }) w.side id old new
+    → Flies new (place_of_writer w) (act_of operation) id
 flies_from old new w operation id free starts = record { here = starts.here; alone = λ q ne f is. free q f (sym (starts.others q ne) ∙ is) }
 
 -- the writer once its operation is in flight
 abbrev begun : Operation → OpId → Queue → ℕ → Writer → Writer
 begun operation id queue len w = record (sending operation queue len w) { waiting = 0; phase = InFlight operation id }
 
-module _ (tells : Bool) (w : Writer) (queue : Queue) (goal : Goal) (old new : DiskView) (id : OpId) (records : List Batch) (fits : Fits tells records w old) (is_queue : IsQueueOf records queue) (held : HoldsPart queue w.sent goal.len) where
+module _ (tells : Bool) (w : Writer) (queue : Queue) (goal : Goal) (old new : DiskView) (id : OpId) (records : List Batch)
+    (fits : Fits tells records w old) (is_queue : IsQueueOf records queue) (held : HoldsPart queue w.sent goal.len) where
   abbrev ordered : IsOrdered records w
   ordered = fits.ordered
 
-  in_phase : (phase : Phase) → w.phase ≡ phase → HasNumbers phase w × HasFlight phase (place_of_writer w) old × (IsTrue tells → HasFile phase records w (files old (place_of_writer w)))
+  in_phase : (phase : Phase) → w.phase ≡ phase → HasNumbers phase w × HasFlight phase (place_of_writer w) old
+      × (IsTrue tells → HasFile phase records w (files old (place_of_writer w)))
   in_phase phase is = (
     subst (λ (p : Phase). HasNumbers p w) is fits.numbers,
     subst (λ (p : Phase). HasFlight p (place_of_writer w) old) is fits.flight,
@@ -62,19 +69,31 @@ module _ (tells : Bool) (w : Writer) (queue : Queue) (goal : Goal) (old new : Di
   )
 
   -- The bytes of the segment once all records are sent.
-  completed : w.written ≡ w.sent → w.written < goal.len → segment_bytes w.log w.from goal.len records ≡ segment_bytes w.log w.from w.sent records ++ frames_of queue w goal.len
-  completed rests more = frames_complete records queue w goal.len is_queue held.start (omega (arith, ordered.from, ordered.synced, ordered.written)) (omega (arith, rests, more)) ordered.place
+  completed : w.written ≡ w.sent → w.written < goal.len → segment_bytes w.log w.from goal.len records ≡ segment_bytes w.log w.from w.sent
+      records ++ frames_of queue w goal.len
+  completed rests more = frames_complete records queue w goal.len is_queue held.start
+      (omega (arith, ordered.from, ordered.synced, ordered.written)) (omega (arith, rests, more)) ordered.place
 
-  pub begun_fits : (operation : Operation) → next_operation w.phase w.written goal ≡ Some operation → Starts (record { place = place_of_writer w; act = act_of operation }) w.side id old new
-      → (IsTrue tells → ChangesFile (place_of_writer w) (λ f g. g ≡ after_start (act_of operation) (frames_of queue w goal.len) f) old new) → Fits tells records (begun operation id queue goal.len w) new
+  pub begun_fits : (operation : Operation) → next_operation w.phase w.written goal ≡ Some operation
+      → Starts (record { place = place_of_writer w; act = act_of operation }) w.side id old new
+      → (IsTrue tells → ChangesFile (place_of_writer w) (λ f g. g ≡ after_start (act_of operation) (frames_of queue w goal.len) f) old new)
+      → Fits tells records (begun operation id queue goal.len w) new
   begun_fits operation next starts file = go operation (next_ready w.phase w.written goal operation next) starts file
     where
       go : (o : Operation) → IsReadyFor o w.written goal.len w.phase → Starts (record { place = place_of_writer w; act = act_of o }) w.side id old new
-          → (IsTrue tells → ChangesFile (place_of_writer w) (λ f g. g ≡ after_start (act_of o) (frames_of queue w goal.len) f) old new) → Fits tells records (begun o id queue goal.len w) new
+          → (IsTrue tells → ChangesFile (place_of_writer w) (λ f g. g ≡ after_start (act_of o) (frames_of queue w goal.len) f) old new)
+          → Fits tells records (begun o id queue goal.len w) new
       go Create is starts file =
           let was = in_phase New is in
           record {
-            ordered = record { log = ordered.log; from = ordered.from; synced = ordered.synced; written = ordered.written; sent = ordered.sent; place = ordered.place };
+            ordered = record {
+              log = ordered.log;
+              from = ordered.from;
+              synced = ordered.synced;
+              written = ordered.written;
+              sent = ordered.sent;
+              place = ordered.place;
+            };
             numbers = was.0;
             flight = flies_from old new w Create id was.1 starts;
             file = λ told. (file told).here;
@@ -82,7 +101,14 @@ module _ (tells : Bool) (w : Writer) (queue : Queue) (goal : Goal) (old new : Di
       go Sync is starts file =
           let was = in_phase Idle is in
           record {
-            ordered = record { log = ordered.log; from = ordered.from; synced = ordered.synced; written = ordered.written; sent = ordered.sent; place = ordered.place };
+            ordered = record {
+              log = ordered.log;
+              from = ordered.from;
+              synced = ordered.synced;
+              written = ordered.written;
+              sent = ordered.sent;
+              place = ordered.place;
+            };
             numbers = was.0;
             flight = flies_from old new w Sync id was.1 starts;
             file = λ told. (file told).here ∙ was.2 told;
@@ -105,10 +131,12 @@ module _ (tells : Bool) (w : Writer) (queue : Queue) (goal : Goal) (old new : Di
             file = λ told. (file told).here ∙ ap (after_start writing frames) (was.2 told) ∙ rw (← whole) refl;
           }
 
-  pub begun_moments : (operation : Operation) → GoesOn old new → next_operation w.phase w.written goal ≡ Some operation → Starts (record { place = place_of_writer w; act = act_of operation }) w.side id old new
+  pub begun_moments : (operation : Operation) → GoesOn old new → next_operation w.phase w.written goal ≡ Some operation
+      → Starts (record { place = place_of_writer w; act = act_of operation }) w.side id old new
       → (IsTrue tells → ChangesFile (place_of_writer w) (λ f g. g ≡ after_start (act_of operation) (frames_of queue w goal.len) f) old new) → IsTrue tells
       → AtEachMoment old.clock new (SegmentKept (place_of_writer w) w.log w.from w.synced records)
   begun_moments operation goes next starts file told =
-      two_moments (place_of_writer w) (λ f g. g ≡ after_start (act_of operation) (frames_of queue w goal.len) f) old new (SegmentKept (place_of_writer w) w.log w.from w.synced records) goes (file told)
+      two_moments (place_of_writer w) (λ f g. g ≡ after_start (act_of operation) (frames_of queue w goal.len) f) old new
+      (SegmentKept (place_of_writer w) w.log w.from w.synced records) goes (file told)
       (fits_kept tells records w old fits told)
       (fits_kept tells records (begun operation id queue goal.len w) new (begun_fits operation next starts file) told)

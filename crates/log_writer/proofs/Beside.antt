@@ -21,13 +21,16 @@ same_disk tells place old new same = record {
   file = λ told. ap (λ (g : Files). g place) (same_files old new same);
 }
 
-pub ended_elsewhere : (tells : Bool) (place : Place) (flight : Flight) (id : OpId) (Change : Option File → Option File → Type 0) (old new : DiskView) → old.in_flight id ≡ Some flight → Ends id old new
+pub ended_elsewhere : (tells : Bool) (place : Place) (flight : Flight) (id : OpId) (Change : Option File → Option File → Type 0)
+    (old new : DiskView) → old.in_flight id ≡ Some flight → Ends id old new
     → (IsTrue tells → ChangesFile flight.place Change old new) → place ≢ flight.place → SameFile tells place old new
-ended_elsewhere tells place flight id Change old new flies ends change elsewhere = record { still = still; no_more = no_more; file = λ told. (change told).others place elsewhere }
+ended_elsewhere tells place flight id Change old new flies ends change elsewhere =
+    record { still = still; no_more = no_more; file = λ told. (change told).others place elsewhere }
   where
     still : (q : OpId) (f : Flight) → f.place ≡ place → old.in_flight q ≡ Some f → new.in_flight q ≡ Some f
     still q f at is = elim (same_id q id) [
-      | inl e ↦ let one : Some f ≡ Some flight = sym is ∙ ap old.in_flight e ∙ flies in let same : f ≡ flight = cc in absurd (elsewhere (sym at ∙ ap (λ (g : Flight). g.place) same))
+      | inl e ↦ let one : Some f ≡ Some flight = sym is ∙ ap old.in_flight e
+          ∙ flies in let same : f ≡ flight = cc in absurd (elsewhere (sym at ∙ ap (λ (g : Flight). g.place) same))
       | inr ne ↦ ends.others q ne ∙ is
     ]
 
@@ -38,7 +41,8 @@ ended_elsewhere tells place flight id Change old new flies ends change elsewhere
     ]
 
 -- What holds before and after a moment passes.
-pub two_moments : (place : Place) (Change : Option File → Option File → Type 0) (old new : DiskView) (P : Files → Type 0) → GoesOn old new → ChangesFile place Change old new
+pub two_moments : (place : Place) (Change : Option File → Option File → Type 0) (old new : DiskView) (P : Files → Type 0) → GoesOn old new
+    → ChangesFile place Change old new
     → P (files old) → P (files new) → AtEachMoment old.clock new P
 two_moments place Change old new P goes change before after = moments_more old.clock old new P (moments_from old P before) goes change.clock after
 
@@ -49,7 +53,8 @@ one_moment old new P goes same before = moments_stay old.clock old new P (moment
 free_beside : (tells : Bool) (place : Place) (old new : DiskView) → SameFile tells place old new → IsFree old place → IsFree new place
 free_beside tells place old new same free id f is at = free id f (same.no_more id f at is) at
 
-flight_beside : (tells : Bool) (phase : Phase) (place : Place) (old new : DiskView) → SameFile tells place old new → HasFlight phase place old → HasFlight phase place new
+flight_beside : (tells : Bool) (phase : Phase) (place : Place) (old new : DiskView) → SameFile tells place old new
+    → HasFlight phase place old → HasFlight phase place new
 flight_beside tells New place old new same free = free_beside tells place old new same free
 flight_beside tells (InFlight operation id) place old new same flies = record {
   here = same.still id (record { place = place; act = act_of operation }) refl flies.here;
@@ -58,7 +63,8 @@ flight_beside tells (InFlight operation id) place old new same flies = record {
 flight_beside tells Idle place old new same free = free_beside tells place old new same free
 flight_beside tells Broken place old new same free = free_beside tells place old new same free
 
-pub fits_beside : (tells : Bool) (records : List Batch) (w : Writer) (old new : DiskView) → Fits tells records w old → SameFile tells (place_of_writer w) old new → Fits tells records w new
+pub fits_beside : (tells : Bool) (records : List Batch) (w : Writer) (old new : DiskView) → Fits tells records w old
+    → SameFile tells (place_of_writer w) old new → Fits tells records w new
 fits_beside tells records w old new fits same = record {
   ordered = fits.ordered;
   numbers = fits.numbers;

@@ -20,7 +20,8 @@ module _ (records : List Batch) (w : Writer) (ordered : IsOrdered records w) (sy
   fresh_kept : (f : Option File) → w.sent ≡ w.from → f ≡ Some fresh → IsKeptFile w.log w.from synced records f
   fresh_kept f none is =
       let first : synced ≡ w.from = omega (arith, begins, few, ordered.synced, ordered.written, none) in
-      let no_byte : length (segment_bytes w.log w.from synced records) ≡ 0 = ap (λ (n : ℕ). length (segment_bytes w.log w.from n records)) first ∙ ap length (no_bytes w.log w.from records) in
+      let no_byte : length (segment_bytes w.log w.from synced records) ≡ 0 = ap (λ (n : ℕ). length (segment_bytes w.log w.from n records))
+      first ∙ ap length (no_bytes w.log w.from records) in
       subst (IsKeptFile w.log w.from synced records) (sym is) (record {
         upto = w.from;
         begins = begins;
@@ -72,22 +73,39 @@ module _ (records : List Batch) (w : Writer) (ordered : IsOrdered records w) (sy
   phase_kept Broken f numbers (inr holds) = held_kept f holds
 
 -- A writer that fits has its file, with any number of the records that it has synced.
-pub fits_file : (tells : Bool) (records : List Batch) (w : Writer) (v : DiskView) (synced : ℕ) → Fits tells records w v → IsTrue tells → w.from ≤ synced → synced ≤ w.synced
+pub fits_file : (tells : Bool) (records : List Batch) (w : Writer) (v : DiskView) (synced : ℕ) → Fits tells records w v → IsTrue tells
+    → w.from ≤ synced → synced ≤ w.synced
     → IsKeptFile w.log w.from synced records (files v (place_of_writer w))
-fits_file tells records w v synced fits told begins few = phase_kept records w fits.ordered synced begins few w.phase (files v (place_of_writer w)) fits.numbers (fits.file told)
+fits_file tells records w v synced fits told begins few = phase_kept records w fits.ordered synced begins few w.phase
+    (files v (place_of_writer w)) fits.numbers (fits.file told)
 
 -- So its segment is kept.
-pub fits_kept_from : (tells : Bool) (records : List Batch) (w : Writer) (v : DiskView) (synced : ℕ) → Fits tells records w v → IsTrue tells → w.from ≤ synced → synced ≤ w.synced
+pub fits_kept_from : (tells : Bool) (records : List Batch) (w : Writer) (v : DiskView) (synced : ℕ) → Fits tells records w v → IsTrue tells
+    → w.from ≤ synced → synced ≤ w.synced
     → SegmentKept (place_of_writer w) w.log w.from synced records (files v)
 fits_kept_from tells records w v synced fits told begins few =
     file_kept w.side w.name w.log w.from synced records (files v) fits.ordered.log (fits_file tells records w v synced fits told begins few)
 
-pub fits_kept : (tells : Bool) (records : List Batch) (w : Writer) (v : DiskView) → Fits tells records w v → IsTrue tells → SegmentKept (place_of_writer w) w.log w.from w.synced records (files v)
+pub fits_kept : (tells : Bool) (records : List Batch) (w : Writer) (v : DiskView) → Fits tells records w v → IsTrue tells
+    → SegmentKept (place_of_writer w) w.log w.from w.synced records (files v)
 fits_kept tells records w v fits told = fits_kept_from tells records w v w.synced fits told fits.ordered.from (omega arith)
 
 -- A new writer fits where nothing was sent to its file.
-pub new_fits : (side : Side) (name : SegName) (log from : ℕ) → log ≡ name.wal % 4294967296 → (tells : Bool) (records : List Batch) (v : DiskView) → from ≤ length records → IsFree v (segment side name)
-    → (IsTrue tells → IsUnsent (files v (segment side name))) → Fits tells records (record { side = side; name = name; log = log; from = from; sent = from; written = from; synced = from; place = 0; waiting = 0; phase = New }) v
+pub new_fits : (side : Side) (name : SegName) (log from : ℕ) → log ≡ name.wal % 4294967296
+    → (tells : Bool) (records : List Batch) (v : DiskView) → from ≤ length records → IsFree v (segment side name)
+    → (IsTrue tells → IsUnsent (files v (segment side name))) → Fits tells records
+    (record {
+      side = side;
+      name = name;
+      log = log;
+      from = from;
+      sent = from;
+      written = from;
+      synced = from;
+      place = 0;
+      waiting = 0;
+      phase = New;
+    }) v
 new_fits side name log from log_is tells records v within free absent = record {
   ordered = record {
     log = log_is;
@@ -111,7 +129,8 @@ fits_grown tells records more w v fits = record {
     synced = ordered.synced;
     written = ordered.written;
     sent = omega (arith, ordered.sent, length-append records more);
-    place = ordered.place ∙ ap (λ (l : List ℕ). length l % 32768) (sym (same w.sent (omega (arith, ordered.from, ordered.synced, ordered.written)) ordered.sent));
+    place = ordered.place ∙ ap (λ (l : List ℕ). length l % 32768)
+        (sym (same w.sent (omega (arith, ordered.from, ordered.synced, ordered.written)) ordered.sent));
   };
   numbers = fits.numbers;
   flight = fits.flight;

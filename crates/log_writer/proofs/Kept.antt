@@ -18,7 +18,8 @@ use Rattle.log_writer.specs.Kept.{IsPrefixRead, IsKeptAs, SegmentKept, HasSynced
 use Rattle.log_writer.proofs.Parts.{part_front, no_bytes}
 
 -- A chunk stands wherever its bytes do.
-chunk_moved : (bytes others : List ℕ) (at log : ℕ) (kind : ChunkKind) (payload : List ℕ) → take (11 + length payload) (drop at bytes) ≡ take (11 + length payload) (drop at others)
+chunk_moved : (bytes others : List ℕ) (at log : ℕ) (kind : ChunkKind) (payload : List ℕ)
+    → take (11 + length payload) (drop at bytes) ≡ take (11 + length payload) (drop at others)
     → ChunkAt bytes at log kind payload → ChunkAt others at log kind payload
 chunk_moved bytes others at log kind payload same here =
     let size : length (chunk kind log payload) ≡ 11 + length payload = chunk_len kind log payload in
@@ -39,7 +40,8 @@ module _ (place : Place) (log from synced : ℕ) (records : List Batch) where
   sent_texts upto = texts (part from upto records)
 
   -- The records that were read, out of those sent.
-  first_of : (f : File) (within : ℕ) (read : List (List ℕ)) (kept : HasSynced log from synced records f) → length (segment_bytes log from synced records) ≤ within
+  first_of : (f : File) (within : ℕ) (read : List (List ℕ)) (kept : HasSynced log from synced records f)
+      → length (segment_bytes log from synced records) ≤ within
       → ReadsPrefix log within (sent_texts kept.upto) read → IsPrefixRead from synced records read
   unfolding segment_bytes
   first_of f within read kept covered first = elim (dec_le first.count n) [
@@ -76,7 +78,8 @@ module _ (place : Place) (log from synced : ℕ) (records : List Batch) where
           (omega (arith, covered, ap (λ (t : List (List ℕ)). length (laid log 0 t)) front))
 
   -- Of a file that begins with so many bytes of what was sent.
-  reads_first : (f : File) (content : List ℕ) (within : ℕ) (kept : HasSynced log from synced records f) → within ≤ length f.sent → take within content ≡ take within f.sent
+  reads_first : (f : File) (content : List ℕ) (within : ℕ) (kept : HasSynced log from synced records f) → within ≤ length f.sent
+      → take within content ≡ take within f.sent
       → length (segment_bytes log from synced records) ≤ within → ChunksStandIn f.sent log content → IsKeptAs log from synced records (Some content)
   unfolding segment_bytes
   reads_first f content within kept short front covered chunks found ends_at torn out =
@@ -86,11 +89,17 @@ module _ (place : Place) (log from synced : ℕ) (records : List Batch) where
       (subst (λ (l : List ℕ). ChunksStandIn l log content) kept.sent chunks) out)
 
   -- What of the file makes that its segment is kept.
-  kept_in : (f : File) (content : List ℕ) (created : Bool) → f.created ≡ created → HasSynced log from synced records f → (f.created ≡ true → IsFrontOf (take f.stable f.sent) content)
+  kept_in : (f : File) (content : List ℕ) (created : Bool) → f.created ≡ created → HasSynced log from synced records f
+      → (f.created ≡ true → IsFrontOf (take f.stable f.sent) content)
       → ChunksStandIn f.sent log content → IsKeptAs log from synced records (Some content)
-  kept_in f content true is kept begins chunks = reads_first f content f.stable kept (kept.stable is) (front_of f content (kept.stable is) (begins is)) (kept.covered is) chunks
+  kept_in f content true is kept begins chunks = reads_first f content f.stable kept (kept.stable is)
+      (front_of f content (kept.stable is) (begins is)) (kept.covered is) chunks
   kept_in f content false is kept begins chunks =
-      reads_first f content 0 kept (omega arith) refl (omega (arith, ap length (ap (λ (n : ℕ). segment_bytes log from n records) (kept.not_created is)), ap length (no_bytes log from records))) chunks
+      reads_first f content 0 kept (omega arith) refl (omega (
+        arith,
+        ap length (ap (λ (n : ℕ). segment_bytes log from n records) (kept.not_created is)),
+        ap length (no_bytes log from records),
+      )) chunks
 
 -- Where the file has what is synced, the segment is kept in each image.
 pub file_kept : (side : Side) (name : SegName) (log from synced : ℕ) (records : List Batch) (files : Files) → log ≡ log_of (segment side name)
@@ -100,7 +109,8 @@ file_kept side name log from synced records files log_is kept dirs image chance_
     place : Place
     place = segment side name
 
-    go : (f : Option File) (o : Option (List ℕ)) → files place ≡ f → dirs place ≡ o → IsKeptFile log from synced records f → IsImageOf place f o → IsKeptAs log from synced records o
+    go : (f : Option File) (o : Option (List ℕ)) → files place ≡ f → dirs place ≡ o → IsKeptFile log from synced records f
+        → IsImageOf place f o → IsKeptAs log from synced records o
     go None None f_is o_is k im = k
     go None (Some content) f_is o_is k im = absurd im
     go (Some f) None f_is o_is k im = gone f.created refl k im
@@ -111,4 +121,6 @@ file_kept side name log from synced records files log_is kept dirs image chance_
     go (Some f) (Some content) f_is o_is k im =
         kept_in place log from synced records f content f.created refl k im
         (λ at kind payload here. chunk_moved content f.sent at log kind payload
-        (chance_free place f content at (11 + length payload) f_is o_is (subst (λ (l : ℕ). IsChunkOf content at l (11 + length payload)) log_is (record { kind = kind; payload = payload; stands = here; size_is = refl }))) here)
+        (chance_free place f content at (11 + length payload) f_is o_is
+        (subst (λ (l : ℕ). IsChunkOf content at l (11 + length payload)) log_is
+        (record { kind = kind; payload = payload; stands = here; size_is = refl }))) here)

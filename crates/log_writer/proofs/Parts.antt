@@ -33,7 +33,8 @@ part_split from mid to records low high =
 
 -- The bytes of a longer part begin with those of a shorter one, and go on with the records after it.
 pub bytes_split : (log from mid to : ℕ) (records : List Batch) → from ≤ mid → mid ≤ to
-    → segment_bytes log from to records ≡ segment_bytes log from mid records ++ laid log (length (segment_bytes log from mid records)) (texts (part mid to records))
+    → segment_bytes log from to records ≡ segment_bytes log from mid records ++ laid log (length (segment_bytes log from mid records))
+    (texts (part mid to records))
 unfolding segment_bytes
 bytes_split log from mid to records low high =
     ap (λ (t : List Batch). laid log 0 (texts t)) (part_split from mid to records low high)
@@ -42,13 +43,16 @@ bytes_split log from mid to records low high =
     ∙ ap (λ (n : ℕ). segment_bytes log from mid records ++ laid log n (texts (part mid to records))) (omega arith)
 
 -- So they are its front.
-pub bytes_front : (log from mid to : ℕ) (records : List Batch) → from ≤ mid → mid ≤ to → take (length (segment_bytes log from mid records)) (segment_bytes log from to records) ≡ segment_bytes log from mid records
+pub bytes_front : (log from mid to : ℕ) (records : List Batch) → from ≤ mid → mid ≤ to
+    → take (length (segment_bytes log from mid records)) (segment_bytes log from to records) ≡ segment_bytes log from mid records
 bytes_front log from mid to records low high =
     let front : List ℕ = segment_bytes log from mid records in
-    ap (take (length front)) (bytes_split log from mid to records low high) ∙ take_at front (laid log (length front) (texts (part mid to records))) (length front) refl
+    ap (take (length front)) (bytes_split log from mid to records low high)
+    ∙ take_at front (laid log (length front) (texts (part mid to records))) (length front) refl
 
 -- So they are no fewer.
-pub bytes_shorter : (log from mid to : ℕ) (records : List Batch) → from ≤ mid → mid ≤ to → length (segment_bytes log from mid records) ≤ length (segment_bytes log from to records)
+pub bytes_shorter : (log from mid to : ℕ) (records : List Batch) → from ≤ mid → mid ≤ to
+    → length (segment_bytes log from mid records) ≤ length (segment_bytes log from to records)
 bytes_shorter log from mid to records low high =
     let more : List ℕ = laid log (length (segment_bytes log from mid records)) (texts (part mid to records)) in
     omega (arith, ap length (bytes_split log from mid to records low high), length-append (segment_bytes log from mid records) more)
@@ -59,7 +63,8 @@ unfolding segment_bytes
 no_bytes log from records = let none : from - from ≡ 0 = omega arith in ap (λ (n : ℕ). laid log 0 (texts (take n (drop from records)))) none
 
 -- Records after the last one sent change no byte.
-pub bytes_grown : (log from to : ℕ) (records more : List Batch) → from ≤ to → to ≤ length records → segment_bytes log from to (records ++ more) ≡ segment_bytes log from to records
+pub bytes_grown : (log from to : ℕ) (records more : List Batch) → from ≤ to → to ≤ length records
+    → segment_bytes log from to (records ++ more) ≡ segment_bytes log from to records
 unfolding segment_bytes
 bytes_grown log from to records more low high =
     let first : from ≤ length records = omega (arith, low, high) in

@@ -31,16 +31,38 @@ module _ (records : List Batch) (w : Writer) (ordered : IsOrdered records w) whe
   none_yet e = (omega (arith, e, ordered.from, ordered.synced, ordered.written), omega (arith, e, ordered.from, ordered.synced, ordered.written))
 
   done_ordered : (operation : Operation) → IsOrdered records (after_answer operation Done w)
-  done_ordered Create = record { log = ordered.log; from = ordered.from; synced = ordered.synced; written = ordered.written; sent = ordered.sent; place = ordered.place }
-  done_ordered Write = record { log = ordered.log; from = ordered.from; synced = omega (arith, ordered.synced, ordered.written); written = omega arith; sent = ordered.sent; place = ordered.place }
-  done_ordered Sync = record { log = ordered.log; from = omega (arith, ordered.from, ordered.synced); synced = omega arith; written = ordered.written; sent = ordered.sent; place = ordered.place }
+  done_ordered Create = record {
+    log = ordered.log;
+    from = ordered.from;
+    synced = ordered.synced;
+    written = ordered.written;
+    sent = ordered.sent;
+    place = ordered.place;
+  }
+  done_ordered Write = record {
+    log = ordered.log;
+    from = ordered.from;
+    synced = omega (arith, ordered.synced, ordered.written);
+    written = omega arith;
+    sent = ordered.sent;
+    place = ordered.place;
+  }
+  done_ordered Sync = record {
+    log = ordered.log;
+    from = omega (arith, ordered.from, ordered.synced);
+    synced = omega arith;
+    written = ordered.written;
+    sent = ordered.sent;
+    place = ordered.place;
+  }
 
   done_numbers : (operation : Operation) (id : OpId) → HasNumbers (InFlight operation id) w → HasNumbers Idle (after_answer operation Done w)
   done_numbers Create id e = (none_yet e).0 ∙ sym e
   done_numbers Write id e = refl
   done_numbers Sync id e = e
 
-  done_file : (operation : Operation) (id : OpId) (f g : Option File) → HasNumbers (InFlight operation id) w → HasFile (InFlight operation id) records w f → AfterDone (act_of operation) f g
+  done_file : (operation : Operation) (id : OpId) (f g : Option File) → HasNumbers (InFlight operation id) w
+      → HasFile (InFlight operation id) records w f → AfterDone (act_of operation) f g
       → HoldsRecords records (after_answer operation Done w) g
   done_file Create id f g e is after =
       let now = subst (λ (h : Option File). AfterDone creating h g) is after in
@@ -52,7 +74,8 @@ module _ (records : List Batch) (w : Writer) (ordered : IsOrdered records w) whe
   done_file Sync id f g e holds after =
       subst (λ (h : Option File). AfterDone syncing h g) holds after
 
-  failed_file : (operation : Operation) (id : OpId) (f g : Option File) → HasNumbers (InFlight operation id) w → HasFile (InFlight operation id) records w f → AfterFailed (act_of operation) f g
+  failed_file : (operation : Operation) (id : OpId) (f g : Option File) → HasNumbers (InFlight operation id) w
+      → HasFile (InFlight operation id) records w f → AfterFailed (act_of operation) f g
       → HasFile Broken records (after_answer operation Failed w) g
   failed_file Create id f g e is after = inl (e, subst (λ (h : Option File). AfterFailed creating h g) is after)
   failed_file Write id f g e holds after =
@@ -61,12 +84,14 @@ module _ (records : List Batch) (w : Writer) (ordered : IsOrdered records w) whe
   failed_file Sync id f g e holds after =
       inr (_, subst (λ (h : Option File). AfterFailed syncing h g) holds after)
 
-  waited_file : (operation : Operation) (id : OpId) (f : Option File) → HasFile (InFlight operation id) records w f → HasFile (InFlight operation id) records (after_answer operation Pending w) f
+  waited_file : (operation : Operation) (id : OpId) (f : Option File) → HasFile (InFlight operation id) records w f
+      → HasFile (InFlight operation id) records (after_answer operation Pending w) f
   waited_file Create id f is = is
   waited_file Write id f holds = holds
   waited_file Sync id f holds = holds
 
-  waited_numbers : (operation : Operation) (id : OpId) → HasNumbers (InFlight operation id) w → HasNumbers (InFlight operation id) (after_answer operation Pending w)
+  waited_numbers : (operation : Operation) (id : OpId) → HasNumbers (InFlight operation id) w
+      → HasNumbers (InFlight operation id) (after_answer operation Pending w)
   waited_numbers Create id e = e
   waited_numbers Write id e = tt
   waited_numbers Sync id e = e
@@ -90,14 +115,17 @@ module _ (tells : Bool) (w : Writer) (old new : DiskView) (operation : Operation
   file_now : (records : List Batch) → Fits tells records w old → IsTrue tells → HasFile (InFlight operation id) records w (files old (place_of_writer w))
   file_now records fits told = subst (λ (p : Phase). HasFile p records w (files old (place_of_writer w))) is (fits.file told)
 
-  pub polled_fits : (records : List Batch) (answer : Progress) → Fits tells records w old → Polled tells id old new answer → Fits tells records (after_answer operation answer w) new
+  pub polled_fits : (records : List Batch) (answer : Progress) → Fits tells records w old → Polled tells id old new answer
+      → Fits tells records (after_answer operation answer w) new
   polled_fits records Pending fits polled =
       fits_beside tells records (after_answer operation Pending w) old new
       (record {
         ordered = (same_order records w fits.ordered operation).0;
-        numbers = subst (λ (p : Phase). HasNumbers p (after_answer operation Pending w)) (sym is) (waited_numbers records w fits.ordered operation id (numbers_now records fits));
+        numbers = subst (λ (p : Phase). HasNumbers p (after_answer operation Pending w)) (sym is)
+            (waited_numbers records w fits.ordered operation id (numbers_now records fits));
         flight = fits.flight;
-        file = λ told. subst (λ (p : Phase). HasFile p records (after_answer operation Pending w) (files old (place_of_writer w))) (sym is) (waited_file records w fits.ordered operation id (files old (place_of_writer w)) (file_now records fits told));
+        file = λ told. subst (λ (p : Phase). HasFile p records (after_answer operation Pending w) (files old (place_of_writer w))) (sym is)
+            (waited_file records w fits.ordered operation id (files old (place_of_writer w)) (file_now records fits told));
       })
       (same_disk tells (place_of_writer w) old new polled.same)
   polled_fits records Done fits polled = record {
@@ -105,7 +133,8 @@ module _ (tells : Bool) (w : Writer) (old new : DiskView) (operation : Operation
     numbers = done_numbers records w fits.ordered operation id (numbers_now records fits);
     flight = free_after old new (place_of_writer w) (act_of operation) id (flies_now records fits) polled.ends;
     file = λ told.
-        done_file records w fits.ordered operation id (files old (place_of_writer w)) (files new (place_of_writer w)) (numbers_now records fits) (file_now records fits told)
+        done_file records w fits.ordered operation id (files old (place_of_writer w)) (files new (place_of_writer w))
+        (numbers_now records fits) (file_now records fits told)
         (polled.file told flight (flies_now records fits).here).here;
   }
   polled_fits records Failed fits polled = record {
@@ -113,7 +142,8 @@ module _ (tells : Bool) (w : Writer) (old new : DiskView) (operation : Operation
     numbers = tt;
     flight = free_after old new (place_of_writer w) (act_of operation) id (flies_now records fits) polled.ends;
     file = λ told.
-        failed_file records w fits.ordered operation id (files old (place_of_writer w)) (files new (place_of_writer w)) (numbers_now records fits) (file_now records fits told)
+        failed_file records w fits.ordered operation id (files old (place_of_writer w)) (files new (place_of_writer w))
+        (numbers_now records fits) (file_now records fits told)
         (polled.file told flight (flies_now records fits).here).here;
   }
 
@@ -128,16 +158,19 @@ module _ (tells : Bool) (w : Writer) (old new : DiskView) (operation : Operation
       by_operation Sync = omega (arith, fits.ordered.synced)
 
   -- the writer's segment, as it is known by what was synced before the call
-  same_segment : (records : List Batch) (answer : Progress) → SegmentKept (place_of_writer (after_answer operation answer w)) (after_answer operation answer w).log (after_answer operation answer w).from w.synced records (files new)
+  same_segment : (records : List Batch) (answer : Progress) → SegmentKept (place_of_writer (after_answer operation answer w))
+      (after_answer operation answer w).log (after_answer operation answer w).from w.synced records (files new)
       → SegmentKept (place_of_writer w) w.log w.from w.synced records (files new)
   same_segment records Pending kept = kept
   same_segment records Done kept = kept
   same_segment records Failed kept = kept
 
-  kept_after : (records : List Batch) (answer : Progress) → Fits tells records w old → Polled tells id old new answer → IsTrue tells → SegmentKept (place_of_writer w) w.log w.from w.synced records (files new)
+  kept_after : (records : List Batch) (answer : Progress) → Fits tells records w old → Polled tells id old new answer → IsTrue tells
+      → SegmentKept (place_of_writer w) w.log w.from w.synced records (files new)
   kept_after records answer fits polled told =
       same_segment records answer
-      (fits_kept_from tells records (after_answer operation answer w) new w.synced (polled_fits records answer fits polled) told (low answer) (synced_rises records answer fits))
+      (fits_kept_from tells records (after_answer operation answer w) new w.synced (polled_fits records answer fits polled) told
+      (low answer) (synced_rises records answer fits))
     where
       low : (given : Progress) → (after_answer operation given w).from ≤ w.synced
       low Pending = fits.ordered.from
@@ -145,25 +178,33 @@ module _ (tells : Bool) (w : Writer) (old new : DiskView) (operation : Operation
       low Failed = fits.ordered.from
 
   -- A fact on the files at each moment, from the two ends of the call.
-  each_moment : (records : List Batch) (answer : Progress) (P : Files → Type 0) → GoesOn old new → Fits tells records w old → Polled tells id old new answer → IsTrue tells → P (files old) → P (files new)
+  each_moment : (records : List Batch) (answer : Progress) (P : Files → Type 0) → GoesOn old new → Fits tells records w old
+      → Polled tells id old new answer → IsTrue tells → P (files old) → P (files new)
       → AtEachMoment old.clock new P
   each_moment records Pending P goes fits polled told before after = one_moment old new P goes polled.same before
-  each_moment records Done P goes fits polled told before after = two_moments (place_of_writer w) (AfterDone (act_of operation)) old new P goes (polled.file told flight (flies_now records fits).here) before after
-  each_moment records Failed P goes fits polled told before after = two_moments (place_of_writer w) (AfterFailed (act_of operation)) old new P goes (polled.file told flight (flies_now records fits).here) before after
+  each_moment records Done P goes fits polled told before after = two_moments (place_of_writer w) (AfterDone (act_of operation)) old new P
+      goes (polled.file told flight (flies_now records fits).here) before after
+  each_moment records Failed P goes fits polled told before after = two_moments (place_of_writer w) (AfterFailed (act_of operation)) old new
+      P goes (polled.file told flight (flies_now records fits).here) before after
 
   pub polled_moments : (records : List Batch) (answer : Progress) → GoesOn old new → Fits tells records w old → Polled tells id old new answer → IsTrue tells
       → AtEachMoment old.clock new (SegmentKept (place_of_writer w) w.log w.from w.synced records)
   polled_moments records answer goes fits polled told =
-      each_moment records answer (SegmentKept (place_of_writer w) w.log w.from w.synced records) goes fits polled told (fits_kept tells records w old fits told) (kept_after records answer fits polled told)
+      each_moment records answer (SegmentKept (place_of_writer w) w.log w.from w.synced records) goes fits polled told
+      (fits_kept tells records w old fits told) (kept_after records answer fits polled told)
 
-  pub polled_others : (records : List Batch) (answer : Progress) → Fits tells records w old → Polled tells id old new answer → (place : Place) → place ≢ place_of_writer w → SameFile tells place old new
+  pub polled_others : (records : List Batch) (answer : Progress) → Fits tells records w old → Polled tells id old new answer
+      → (place : Place) → place ≢ place_of_writer w → SameFile tells place old new
   polled_others records Pending fits polled place elsewhere = same_disk tells place old new polled.same
   polled_others records Done fits polled place elsewhere =
-      ended_elsewhere tells place flight id (AfterDone (act_of operation)) old new (flies_now records fits).here polled.ends (λ told. polled.file told flight (flies_now records fits).here) elsewhere
+      ended_elsewhere tells place flight id (AfterDone (act_of operation)) old new (flies_now records fits).here polled.ends
+      (λ told. polled.file told flight (flies_now records fits).here) elsewhere
   polled_others records Failed fits polled place elsewhere =
-      ended_elsewhere tells place flight id (AfterFailed (act_of operation)) old new (flies_now records fits).here polled.ends (λ told. polled.file told flight (flies_now records fits).here) elsewhere
+      ended_elsewhere tells place flight id (AfterFailed (act_of operation)) old new (flies_now records fits).here polled.ends
+      (λ told. polled.file told flight (flies_now records fits).here) elsewhere
 
-  pub polled_other_moments : (records : List Batch) (answer : Progress) → GoesOn old new → Fits tells records w old → Polled tells id old new answer → IsTrue tells
+  pub polled_other_moments : (records : List Batch) (answer : Progress) → GoesOn old new → Fits tells records w old
+      → Polled tells id old new answer → IsTrue tells
       → AtEachMoment old.clock new (OthersStay (place_of_writer w) (files old))
   polled_other_moments records answer goes fits polled told =
       each_moment records answer (OthersStay (place_of_writer w) (files old)) goes fits polled told (λ place elsewhere. refl)
@@ -171,7 +212,8 @@ module _ (tells : Bool) (w : Writer) (old new : DiskView) (operation : Operation
 
 -- ---- the polls left
 
-pub takes_poll : (tells : Bool) (id : OpId) (answer : Progress) (before after : DiskView) → ((side : Side) → ((answer ≡ Pending) × (side ≡ id.side) → ⊥) → after.polls_left side ≡ before.polls_left side)
+pub takes_poll : (tells : Bool) (id : OpId) (answer : Progress) (before after : DiskView)
+    → ((side : Side) → ((answer ≡ Pending) × (side ≡ id.side) → ⊥) → after.polls_left side ≡ before.polls_left side)
     → Polled tells id before after answer → TakesPoll id answer before after
 takes_poll tells id Pending before after stalls polled = record { its = polled.fell; others = λ side ne. stalls side (λ both. ne both.1) }
 takes_poll tells id Done before after stalls polled = record {

@@ -14,16 +14,24 @@ use Rattle.log_writer.specs.Steps.{IsQueueOf}
 use Rattle.log_writer.specs.Sending.{queue_part, frames_from, frames_of}
 use Rattle.log_writer.proofs.Parts.{laid_in_block, bytes_split}
 
-one_more : (queue : Queue) (from number : ℕ) (rec : Batch) → queue.start ≤ from → from ≤ number → IsRecordOf queue number rec → queue_part queue from (number + 1) ≡ queue_part queue from number ++ rec ∷ []
+one_more : (queue : Queue) (from number : ℕ) (rec : Batch) → queue.start ≤ from → from ≤ number → IsRecordOf queue number rec
+    → queue_part queue from (number + 1) ≡ queue_part queue from number ++ rec ∷ []
 one_more queue from number rec low le found =
     let n : ℕ = number - from in
     let rest : List Batch = drop (from - queue.start) queue.records in
     let more : number + 1 - queue.start - (from - queue.start) ≡ suc n = omega (arith, low, le) in
     let same : number - queue.start - (from - queue.start) ≡ n = omega (arith, low, le) in
     let place : from - queue.start + n ≡ number - queue.start = omega (arith, low, le) in
-    let within : n < length rest = omega (arith, slice_get_within queue.records (number - queue.start) rec found.1, length-drop (from - queue.start) queue.records, low, le) in
+    let within : n < length rest = omega (
+      arith,
+      slice_get_within queue.records (number - queue.start) rec found.1,
+      length-drop (from - queue.start) queue.records,
+      low,
+      le,
+    ) in
     let here : get_or rest n rec ≡ rec =
-    get_or-drop (from - queue.start) queue.records n rec ∙ ap (λ (i : ℕ). get_or queue.records i rec) place ∙ get_or_from_slice_get queue.records (number - queue.start) rec rec found.1 in
+    get_or-drop (from - queue.start) queue.records n rec ∙ ap (λ (i : ℕ). get_or queue.records i rec) place
+    ∙ get_or_from_slice_get queue.records (number - queue.start) rec rec found.1 in
     ap (λ (i : ℕ). take i rest) more ∙ take-suc rest n rec within
     ∙ ap (λ (b : Batch). take n rest ++ b ∷ []) here
     ∙ ap (λ (i : ℕ). take i rest ++ rec ∷ []) (sym same)
@@ -31,16 +39,20 @@ one_more queue from number rec low le found =
 -- The next record of the queue is framed after the others.
 pub framed_more : (queue : Queue) (standing : Standing) (from number : ℕ) (rec : Batch) → queue.start ≤ from → from ≤ number → IsRecordOf queue number rec
     → frames_from queue standing.log standing.place from (number + 1)
-    ≡ frames_from queue standing.log standing.place from number ++ framed standing.log ((standing.place + length (frames_from queue standing.log standing.place from number)) % 32768) (written rec)
+    ≡ frames_from queue standing.log standing.place from number ++ framed standing.log
+    ((standing.place + length (frames_from queue standing.log standing.place from number)) % 32768) (written rec)
 framed_more queue standing from number rec low le found =
     ap (λ (t : List Batch). laid standing.log standing.place (texts t)) (one_more queue from number rec low le found)
     ∙ ap (laid standing.log standing.place) (map-append written (queue_part queue from number) (rec ∷ []))
     ∙ laid-append standing.log standing.place (texts (queue_part queue from number)) (written rec ∷ [])
     ∙ ap (λ (t : List ℕ). frames_from queue standing.log standing.place from number ++ t)
-    (append-nil (framed standing.log (standing.place + length (frames_from queue standing.log standing.place from number)) (written rec)) ∙ sym (framed_in_block standing.log (standing.place + length (frames_from queue standing.log standing.place from number)) (written rec)))
+    (append-nil (framed standing.log (standing.place + length (frames_from queue standing.log standing.place from number)) (written rec))
+    ∙ sym (framed_in_block standing.log (standing.place + length (frames_from queue standing.log standing.place from number))
+    (written rec)))
 
 -- The part of a queue is the part of the records that it holds.
-queue_part_is : (records : List Batch) (queue : Queue) (from to : ℕ) → IsQueueOf records queue → queue.start ≤ from → from ≤ to → queue_part queue from to ≡ part from to records
+queue_part_is : (records : List Batch) (queue : Queue) (from to : ℕ) → IsQueueOf records queue → queue.start ≤ from → from ≤ to
+    → queue_part queue from to ≡ part from to records
 queue_part_is records queue from to is low le =
     let count : (to - queue.start) - (from - queue.start) ≡ to - from = omega (arith, low, le) in
     let place : queue.start + (from - queue.start) ≡ from = omega (arith, low) in
@@ -49,7 +61,8 @@ queue_part_is records queue from to is low le =
     ∙ ap (take (to - from)) (drop-drop (from - queue.start) queue.start records ∙ ap (λ (n : ℕ). drop n records) place)
 
 -- What a write sends completes the bytes of the segment.
-pub frames_complete : (records : List Batch) (queue : Queue) (w : Writer) (len : ℕ) → IsQueueOf records queue → queue.start ≤ w.sent → w.from ≤ w.sent → w.sent ≤ len
+pub frames_complete : (records : List Batch) (queue : Queue) (w : Writer) (len : ℕ) → IsQueueOf records queue → queue.start ≤ w.sent
+    → w.from ≤ w.sent → w.sent ≤ len
     → w.place ≡ length (segment_bytes w.log w.from w.sent records) % 32768
     → segment_bytes w.log w.from len records ≡ segment_bytes w.log w.from w.sent records ++ frames_of queue w len
 frames_complete records queue w len is low begins le place =
@@ -61,4 +74,5 @@ frames_complete records queue w len is low begins le place =
 
 -- Where there is none from one number to below another, none is framed.
 pub nothing_framed : (queue : Queue) (log place from to : ℕ) → to ≤ from → frames_from queue log place from to ≡ []
-nothing_framed queue log place from to le = let none : to - queue.start - (from - queue.start) ≡ 0 = omega (arith, le) in ap (λ (n : ℕ). laid log place (texts (take n (drop (from - queue.start) queue.records)))) none
+nothing_framed queue log place from to le = let none : to - queue.start - (from - queue.start) ≡ 0 = omega (arith, le) in ap
+    (λ (n : ℕ). laid log place (texts (take n (drop (from - queue.start) queue.records)))) none

@@ -22,12 +22,24 @@ use Rattle.log_writer.specs.Sending.{frames_of}
 
 -- a writer that has started nothing
 abbrev pub unstarted : Side → SegName → ℕ → ℕ → Writer
-unstarted side name log from = record { side = side; name = name; log = log; from = from; sent = from; written = from; synced = from; place = 0; waiting = 0; phase = New }
+unstarted side name log from = record {
+  side = side;
+  name = name;
+  log = log;
+  from = from;
+  sent = from;
+  written = from;
+  synced = from;
+  place = 0;
+  waiting = 0;
+  phase = New;
+}
 
 -- It fits any disk on which nothing is in flight on its file, and nothing was sent to it.
 abbrev pub FitsIfUnsent : Side → SegName → ℕ → Writer → Type 0
 FitsIfUnsent side name from w =
-    (tells : Bool) (records : List Batch) (v : DiskView) → from ≤ length records → IsFree v (segment side name) → (IsTrue tells → IsUnsent (files v (segment side name))) → Fits tells records w v
+    (tells : Bool) (records : List Batch) (v : DiskView) → from ≤ length records → IsFree v (segment side name)
+    → (IsTrue tells → IsUnsent (files v (segment side name))) → Fits tells records w v
 
 -- ---- what holds across a call
 
@@ -45,7 +57,8 @@ StaysFitting tells old new before after = (records : List Batch) → Fits tells 
 
 -- It does, where the queue holds the records of the run.
 abbrev pub StaysFittingQueue : Bool → Queue → Writer → Writer → DiskView → DiskView → Type 0
-StaysFittingQueue tells queue old new before after = (records : List Batch) → Fits tells records old before → IsQueueOf records queue → Fits tells records new after
+StaysFittingQueue tells queue old new before after = (records : List Batch) → Fits tells records old before → IsQueueOf records queue
+    → Fits tells records new after
 
 -- the segment of the writer is kept by these files, with what it has synced
 abbrev pub KeepsSynced : Writer → List Batch → Files → Type 0
@@ -53,7 +66,8 @@ KeepsSynced w records now = SegmentKept (place_of_writer w) w.log w.from w.synce
 
 -- At each moment of the call a crash leaves the segment, with what was synced before.
 abbrev pub KeptThroughout : Bool → Writer → DiskView → DiskView → Type 0
-KeptThroughout tells w before after = (records : List Batch) → Fits tells records w before → IsTrue tells → AtEachMoment before.clock after (KeepsSynced w records)
+KeptThroughout tells w before after = (records : List Batch) → Fits tells records w before → IsTrue tells
+    → AtEachMoment before.clock after (KeepsSynced w records)
 
 -- It does, where the queue holds the records of the run.
 abbrev pub QueueKept : Bool → Queue → Writer → DiskView → DiskView → Type 0
@@ -85,7 +99,8 @@ StartsOn act w before after id = Starts (record { place = place_of_writer w; act
 
 -- The writer's file changes as this act is started, with the frames of all records up to `len` where it is a write.
 abbrev pub SendsUpTo : Bool → Act → Queue → ℕ → Writer → DiskView → DiskView → Type 0
-SendsUpTo tells act queue len w before after = IsTrue tells → ChangesFile (place_of_writer w) (λ f g. g ≡ after_start act (frames_of queue w len) f) before after
+SendsUpTo tells act queue len w before after = IsTrue tells → ChangesFile (place_of_writer w)
+    (λ f g. g ≡ after_start act (frames_of queue w len) f) before after
 
 -- The next operation of the goal was started, and nothing where there is none.
 abbrev pub StartsForGoal : Goal → Writer → Writer → DiskView → DiskView → Bool → Type 0

@@ -16,7 +16,8 @@ FitsAsRecordsCome = (tells : Bool) (records more : List Batch) (w : Writer) (v :
 
 -- A writer that fits still does where nothing changed of its file.
 abbrev pub FitsBesideOtherOperations : Type 0
-FitsBesideOtherOperations = (tells : Bool) (records : List Batch) (w : Writer) (old new : DiskView) → Fits tells records w old → SameFile tells (place_of_writer w) old new → Fits tells records w new
+FitsBesideOtherOperations = (tells : Bool) (records : List Batch) (w : Writer) (old new : DiskView) → Fits tells records w old
+    → SameFile tells (place_of_writer w) old new → Fits tells records w new
 
 -- A writer that fits has its file, with any number of the records that it has synced.
 abbrev pub FittingHasItsFile : Type 0
@@ -27,9 +28,11 @@ FittingHasItsFile =
 -- A segment whose file has what is synced of it is kept, whatever stands at other places.
 abbrev pub SyncedFileIsKept : Type 0
 SyncedFileIsKept =
-    (side : Side) (name : SegName) (from synced : ℕ) (records : List Batch) (now : Files) → IsKeptFile (log_of (segment side name)) from synced records (now (segment side name))
+    (side : Side) (name : SegName) (from synced : ℕ) (records : List Batch) (now : Files)
+    → IsKeptFile (log_of (segment side name)) from synced records (now (segment side name))
     → SegmentKept (segment side name) (log_of (segment side name)) from synced records now
 
 -- A writer that fits keeps its segment, with all that it has synced.
 abbrev pub FittingKeepsItsSegment : Type 0
-FittingKeepsItsSegment = (tells : Bool) (records : List Batch) (w : Writer) (v : DiskView) → Fits tells records w v → IsTrue tells → KeepsSynced w records (files v)
+FittingKeepsItsSegment = (tells : Bool) (records : List Batch) (w : Writer) (v : DiskView) → Fits tells records w v → IsTrue tells
+    → KeepsSynced w records (files v)

@@ -11,14 +11,16 @@ unfolding chunk covered
 chunk_bytes kind log payload = omega arith
 
 -- the block of a place, as it is cut out where the file may end before it or in it
-pub block_cut : (bytes : List ℕ) (front m n : ℕ) → m ≡ min front (length bytes) → n ≡ min (length bytes - m) 32768 → take n (take (length bytes - m) (drop m bytes)) ≡ take 32768 (drop front bytes)
+pub block_cut : (bytes : List ℕ) (front m n : ℕ) → m ≡ min front (length bytes) → n ≡ min (length bytes - m) 32768
+    → take n (take (length bytes - m) (drop m bytes)) ≡ take 32768 (drop front bytes)
 block_cut bytes front m n e f =
     let back : drop m bytes ≡ drop front bytes = ap (λ (k : ℕ). drop k bytes) e ∙ drop_min front bytes in
     let len : n ≡ min 32768 (length (drop m bytes)) = omega (arith, length-drop m bytes) in
     ap (take n) (take_rest bytes m) ∙ ap (λ (k : ℕ). take k (drop m bytes)) len ∙ take_min 32768 (drop m bytes) ∙ ap (take 32768) back
 
 -- what stands in the block stands in the file
-same_bytes : (bytes block : List ℕ) (at n : ℕ) → block ≡ take 32768 (drop (at - at % 32768) bytes) → at % 32768 + n ≤ 32768 → take n (drop (at % 32768) block) ≡ take n (drop at bytes)
+same_bytes : (bytes block : List ℕ) (at n : ℕ) → block ≡ take 32768 (drop (at - at % 32768) bytes) → at % 32768 + n ≤ 32768
+    → take n (drop (at % 32768) block) ≡ take n (drop at bytes)
 same_bytes bytes block at n e fits =
     let p : ℕ = at % 32768 in
     let back : List ℕ = drop (at - p) bytes in
@@ -32,7 +34,8 @@ same_bytes bytes block at n e fits =
 
 -- the chunk that was found in the block, in the file
 pub found_chunk : (bytes block : List ℕ) (at log from to : ℕ) (kind : ChunkKind) → block ≡ take 32768 (drop (at - at % 32768) bytes)
-    → ChunkAt block (at % 32768) log kind (slice_range block from to) → (from ≡ at % 32768 + 11) × (from ≤ to) × (to ≤ length block) → IsChunkOf bytes at log (to - at % 32768)
+    → ChunkAt block (at % 32768) log kind (slice_range block from to) → (from ≡ at % 32768 + 11) × (from ≤ to) × (to ≤ length block)
+    → IsChunkOf bytes at log (to - at % 32768)
 found_chunk bytes block at log from to kind e h place =
     let payload : List ℕ = slice_range block from to in
     let long : length payload ≡ to - from = omega (arith, length-take (to - from) (drop from block), length-drop from block, place.2) in

@@ -7,9 +7,11 @@ use Rattle.mem_disk.specs.declared.parts.MemOp.{MemOp}
 use Rattle.mem_disk.specs.Mem.{side_eq, flight_if, flight_in, live_in, act_in_memory}
 use Rattle.mem_disk.specs.Finite.{side_eq_only, both_left, both_right}
 
-pub live_set : (ops : List MemOp) (i : ℕ) (x y : MemOp) → slice_get ops i ≡ Some x → x.live ≡ true → y.live ≡ false → live_in (slice_set ops i y) + 1 ≡ live_in ops
+pub live_set : (ops : List MemOp) (i : ℕ) (x y : MemOp) → slice_get ops i ≡ Some x → x.live ≡ true → y.live ≡ false
+    → live_in (slice_set ops i y) + 1 ≡ live_in ops
 live_set [] i x y e lives ends = cc
-live_set (o ∷ os) zero x y e lives ends = let same : o ≡ x = cc in let olive : o.live ≡ true = ap (λ (m : MemOp). m.live) same ∙ lives in rw (olive, ends) (omega arith)
+live_set (o ∷ os) zero x y e lives ends = let same : o ≡ x = cc in let olive : o.live ≡ true = ap (λ (m : MemOp). m.live) same
+    ∙ lives in rw (olive, ends) (omega arith)
 live_set (o ∷ os) (suc i) x y e lives ends = go o.live refl (live_set os i x y e lives ends)
   where
     go : (b : Bool) → o.live ≡ b → live_in (slice_set os i y) + 1 ≡ live_in os → live_in (o ∷ slice_set os i y) + 1 ≡ live_in (o ∷ os)
@@ -47,9 +49,11 @@ live_of ops id flies = go (slice_get ops id.number) refl
       at = e;
       live = both_left _ _ t;
       side = side_eq_only x.side id.side (both_right _ _ t);
-      flight = ap (flight_if id) e ∙ (let z : flight_if id (Some x) ≡ Some (record { place = segment x.side x.name; act = act_in_memory x.act }) = rw t refl in z);
+      flight = ap (flight_if id) e ∙ (let z : flight_if id (Some x) ≡ Some
+          (record { place = segment x.side x.name; act = act_in_memory x.act }) = rw t refl in z);
     }
-    on x e false t = let z : flight_if id (Some x) ≡ None = rw t refl in let none : IsSome {T = Flight} None = subst IsSome (ap (flight_if id) e ∙ z) flies in cc
+    on x e false t = let z : flight_if id (Some x) ≡ None = rw t refl in let none : IsSome {T = Flight} None = subst IsSome
+        (ap (flight_if id) e ∙ z) flies in cc
 
     go : (o : Option MemOp) → slice_get ops id.number ≡ o → (x : MemOp) × Live ops id x
     go None e = let none : IsSome {T = Flight} None = subst (λ (o : Option MemOp). IsSome (flight_if id o)) e flies in cc

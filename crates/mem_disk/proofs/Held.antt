@@ -18,14 +18,18 @@ is_at_other side name q ne = go (is_at side name q) refl
     go true e = absurd (ne (is_at_only side name q e))
     go false e = refl
 
-pub held_here : (side : Side) (name : SegName) (m : MemFile) (ms : List MemFile) → IsFor side name m → files_held (m ∷ ms) (segment side name) ≡ Some (file_of m)
+pub held_here : (side : Side) (name : SegName) (m : MemFile) (ms : List MemFile) → IsFor side name m
+    → files_held (m ∷ ms) (segment side name) ≡ Some (file_of m)
 held_here side name m ms is =
-    let at : is_at m.side m.name (segment side name) ≡ true = subst (λ (s : Side). is_at s m.name (segment side name) ≡ true) (sym is.0) (subst (λ (n : SegName). is_at side n (segment side name) ≡ true) (sym is.1) (is_at_self side name)) in
+    let at : is_at m.side m.name (segment side name) ≡ true = subst (λ (s : Side). is_at s m.name (segment side name) ≡ true) (sym is.0)
+    (subst (λ (n : SegName). is_at side n (segment side name) ≡ true) (sym is.1) (is_at_self side name)) in
     rw at refl
 
-pub held_other : (side : Side) (name : SegName) (m : MemFile) (ms : List MemFile) → IsFor side name m → (q : Place) → q ≢ segment side name → files_held (m ∷ ms) q ≡ files_held ms q
+pub held_other : (side : Side) (name : SegName) (m : MemFile) (ms : List MemFile) → IsFor side name m → (q : Place) → q ≢ segment side name
+    → files_held (m ∷ ms) q ≡ files_held ms q
 held_other side name m ms is q ne =
-    let at : is_at m.side m.name q ≡ false = subst (λ (s : Side). is_at s m.name q ≡ false) (sym is.0) (subst (λ (n : SegName). is_at side n q ≡ false) (sym is.1) (is_at_other side name q ne)) in
+    let at : is_at m.side m.name q ≡ false = subst (λ (s : Side). is_at s m.name q ≡ false) (sym is.0)
+    (subst (λ (n : SegName). is_at side n q ≡ false) (sym is.1) (is_at_other side name q ne)) in
     rw at refl
 
 pub held_skip : (m : MemFile) (ms : List MemFile) (q : Place) → is_at m.side m.name q ≡ false → files_held (m ∷ ms) q ≡ files_held ms q
@@ -38,7 +42,8 @@ unsuc_option : (o : Option ℕ) (i : ℕ) → option_map suc o ≡ Some i → (j
 unsuc_option None i e = cc
 unsuc_option (Some j) i e = (j, refl, cc)
 
-pub set_others_same : (side : Side) (name : SegName) (f m : MemFile) (fs ms : List MemFile) (q : Place) → files_held ms q ≡ files_held fs q → files_held (f ∷ ms) q ≡ files_held (f ∷ fs) q
+pub set_others_same : (side : Side) (name : SegName) (f m : MemFile) (fs ms : List MemFile) (q : Place) → files_held ms q ≡ files_held fs q
+    → files_held (f ∷ ms) q ≡ files_held (f ∷ fs) q
 set_others_same side name f m fs ms q e = ap (λ (o : Option File). cond (is_at f.side f.name q) (Some (file_of f)) o) e
 
 -- a file of the same segment stands before the same files
@@ -46,9 +51,14 @@ pub before_all_same : (f m : MemFile) (fs : List MemFile) → f.side ≡ m.side 
 before_all_same f m [] s n h = tt
 before_all_same f m (x ∷ fs) s n h = ((λ e. subst (λ (k : SegName). IsBefore k x.name) n (h.0 (s ∙ e))), before_all_same f m fs s n h.1)
 
-before_all_set : (side : Side) (name : SegName) (f : MemFile) (fs : List MemFile) (j : ℕ) (m : MemFile) → ((d : MemFile) → IsFor side name (slice_index_or fs j d)) → IsFor side name m → IsBeforeAll f fs → IsBeforeAll f (slice_set fs j m)
+before_all_set : (side : Side) (name : SegName) (f : MemFile) (fs : List MemFile) (j : ℕ) (m : MemFile)
+    → ((d : MemFile) → IsFor side name (slice_index_or fs j d)) → IsFor side name m → IsBeforeAll f fs → IsBeforeAll f (slice_set fs j m)
 before_all_set side name f [] j m was is h = h
-before_all_set side name f (x ∷ xs) zero m was is h = ((λ e. subst (λ (k : SegName). IsBefore f.name k) ((was x).1 ∙ sym is.1) (h.0 (e ∙ is.0 ∙ sym (was x).0))), h.1)
+before_all_set side name f (x ∷ xs) zero m was is h = (
+  (λ e. subst (λ (k : SegName). IsBefore f.name k) ((was x).1 ∙ sym is.1)
+      (h.0 (e ∙ is.0 ∙ sym (was x).0))),
+  h.1,
+)
 before_all_set side name f (x ∷ xs) (suc j) m was is h = (h.0, before_all_set side name f xs j m was is h.1)
 
 module _ (side : Side) (name : SegName) where
@@ -65,7 +75,8 @@ module _ (side : Side) (name : SegName) where
         ordered_close (m ∷ fs) (before_all_same f m fs (for.0 ∙ sym is.0) (for.1 ∙ sym is.1) ascend.0, ascend.1);
   }
 
-  found_later : (f : MemFile) (fs : List MemFile) (j : ℕ) → is_at f.side f.name (segment side name) ≡ false → FoundAt side name fs j → FoundAt side name (f ∷ fs) (suc j)
+  found_later : (f : MemFile) (fs : List MemFile) (j : ℕ) → is_at f.side f.name (segment side name) ≡ false → FoundAt side name fs j
+      → FoundAt side name (f ∷ fs) (suc j)
   found_later f fs j at h = record {
     below = omega (arith, h.below);
     is_for = h.is_for;
@@ -74,15 +85,20 @@ module _ (side : Side) (name : SegName) where
     set_others = λ m is q ne. set_others_same side name f m fs (slice_set fs j m) q (h.set_others m is q ne);
     set_ordered = λ m is up.
         let ascend = ordered_open (f ∷ fs) up in
-        ordered_close (f ∷ slice_set fs j m) (before_all_set side name f fs j m h.is_for is ascend.0, ordered_open (slice_set fs j m) (h.set_ordered m is (ordered_close fs ascend.1)));
+        ordered_close (f ∷ slice_set fs j m) (
+          before_all_set side name f fs j m h.is_for is ascend.0,
+          ordered_open (slice_set fs j m) (h.set_ordered m is (ordered_close fs ascend.1)),
+        );
   }
 
   pub found : (fs : List MemFile) (i : ℕ) → index_at (segment side name) fs ≡ Some i → FoundAt side name fs i
   found [] i e = cc
   found (f ∷ fs) i e = go (is_at f.side f.name (segment side name)) refl (found fs)
     where
-      go : (b : Bool) → is_at f.side f.name (segment side name) ≡ b → ((j : ℕ) → index_at (segment side name) fs ≡ Some j → FoundAt side name fs j) → FoundAt side name (f ∷ fs) i
-      go true at deeper = let z : Some 0 ≡ Some i = rw at at e in let i_is : 0 ≡ i = cc in subst (λ (k : ℕ). FoundAt side name (f ∷ fs) k) i_is (found_first f fs at)
+      go : (b : Bool) → is_at f.side f.name (segment side name) ≡ b
+          → ((j : ℕ) → index_at (segment side name) fs ≡ Some j → FoundAt side name fs j) → FoundAt side name (f ∷ fs) i
+      go true at deeper = let z : Some 0 ≡ Some i = rw at at e in let i_is : 0 ≡ i = cc in subst (λ (k : ℕ). FoundAt side name (f ∷ fs) k)
+          i_is (found_first f fs at)
       go false at deeper =
           let z = rw at at e in
           let j = unsuc_option (index_at (segment side name) fs) i z in
@@ -96,7 +112,9 @@ module _ (side : Side) (name : SegName) where
       none_suc None h = refl
       none_suc (Some j) h = cc
 
-      go : (b : Bool) → is_at f.side f.name (segment side name) ≡ b → (index_at (segment side name) fs ≡ None → files_held fs (segment side name) ≡ None) → files_held (f ∷ fs) (segment side name) ≡ None
+      go : (b : Bool) → is_at f.side f.name (segment side name) ≡ b
+          → (index_at (segment side name) fs ≡ None → files_held fs (segment side name) ≡ None)
+          → files_held (f ∷ fs) (segment side name) ≡ None
       go true at deeper = let z : ◌≡◌ {A = Option ℕ} (Some 0) None = rw at at e in cc
       go false at deeper = held_skip f fs (segment side name) at ∙ deeper (none_suc _ (rw at at e))
 
@@ -105,7 +123,8 @@ pub found_some : (side : Side) (name : SegName) (fs : List MemFile) (o : Option 
 found_some side name fs None e = tt
 found_some side name fs (Some i) e = found side name fs i (sym e)
 
-pub found_none : (side : Side) (name : SegName) (fs : List MemFile) (o : Option ℕ) → o ≡ index_at (segment side name) fs → IfNone o (files_held fs (segment side name) ≡ None)
+pub found_none : (side : Side) (name : SegName) (fs : List MemFile) (o : Option ℕ) → o ≡ index_at (segment side name) fs
+    → IfNone o (files_held fs (segment side name) ≡ None)
 found_none side name fs None e = absent side name fs (sym e)
 found_none side name fs (Some i) e = tt
 
@@ -129,12 +148,15 @@ pub held_fresh : (fs : List MemFile) (p : Place) (f : File) → files_held fs p 
 held_fresh fs p f e not_yet = let m = held_made fs p f e in m.1 ∙ fresh_of m.0 (ap (λ (g : File). g.created) (sym m.1) ∙ not_yet)
 
 module _ (side : Side) (name : SegName) (fs : List MemFile) where
-  pub still_fresh : (f : File) → files_held fs (segment side name) ≡ Some f → IsUncreated (files_held fs (segment side name)) → ChangesAt (segment side name) (λ f g. g ≡ Some fresh) (files_held fs) (files_held fs)
+  pub still_fresh : (f : File) → files_held fs (segment side name) ≡ Some f → IsUncreated (files_held fs (segment side name))
+      → ChangesAt (segment side name) (λ f g. g ≡ Some fresh) (files_held fs) (files_held fs)
   still_fresh f e not_yet = record {
     here = e ∙ ap Some (held_fresh fs (segment side name) f e (subst IsUncreated e not_yet));
     others = λ q ne. refl;
   }
 
-pub still_fresh_at : (side : Side) (name : SegName) (fs : List MemFile) (i : ℕ) → FoundAt side name fs i → IsUncreated (files_held fs (segment side name)) → ChangesAt (segment side name) (λ f g. g ≡ Some fresh) (files_held fs) (files_held fs)
+pub still_fresh_at : (side : Side) (name : SegName) (fs : List MemFile) (i : ℕ) → FoundAt side name fs i
+    → IsUncreated (files_held fs (segment side name)) → ChangesAt (segment side name) (λ f g. g ≡ Some fresh) (files_held fs)
+    (files_held fs)
 still_fresh_at side name [] i at not_yet = absurd (let h = at.below in omega arith)
 still_fresh_at side name (f ∷ fs) i at not_yet = still_fresh side name (f ∷ fs) (file_of (slice_index_or (f ∷ fs) i f)) (at.here f) not_yet

@@ -46,7 +46,8 @@ before_all_absent : (m : MemFile) (ms : List MemFile) → IsBeforeAll m ms → f
 before_all_absent m [] h = refl
 before_all_absent m (x ∷ xs) h = go (is_at x.side x.name (segment m.side m.name)) refl (before_all_absent m xs h.1)
   where
-    go : (b : Bool) → is_at x.side x.name (segment m.side m.name) ≡ b → files_held xs (segment m.side m.name) ≡ None → files_held (x ∷ xs) (segment m.side m.name) ≡ None
+    go : (b : Bool) → is_at x.side x.name (segment m.side m.name) ≡ b → files_held xs (segment m.side m.name) ≡ None
+        → files_held (x ∷ xs) (segment m.side m.name) ≡ None
     go true at deeper =
         let e : segment m.side m.name ≡ segment x.side x.name = is_at_only x.side x.name (segment m.side m.name) at in
         let s : m.side ≡ x.side = cc in
@@ -89,7 +90,8 @@ has_first side m ms item e is =
     let made : m.created ≡ true = both_left _ _ e in
     let rest : (side_eq m.side side && is_named m.name) ≡ true = both_right m.created _ e in
     let s : m.side ≡ side = side_eq_only m.side side (both_left _ _ rest) in
-    let at : is_at m.side m.name (segment side m.name) ≡ true = subst (λ (t : Side). is_at m.side m.name (segment t m.name) ≡ true) s (is_at_self m.side m.name) in
+    let at : is_at m.side m.name (segment side m.name) ≡ true = subst (λ (t : Side). is_at m.side m.name (segment t m.name) ≡ true) s
+    (is_at_self m.side m.name) in
     let here : files_held (m ∷ ms) (segment side m.name) ≡ Some (file_of m) = rw at refl in
     subst (Has (m ∷ ms) side) is (named_true m.name (both_right (side_eq m.side side) _ rest), (file_of m, here, made_of m made, reads_of m made))
 
@@ -105,7 +107,8 @@ listed_has side (m ∷ ms) up item at = go (is_listed side m) refl (listed_has s
     go false e deeper = has_more side m ms item up.0 (deeper (subst (λ (l : List Listed). Contains l item) (list_no side m ms e) at))
 
 -- a file at the place of the item is the one that it lists
-first_listed : (side : Side) (m : MemFile) (item : Listed) (f : File) → segment side item.name ≡ segment m.side m.name → file_of m ≡ f → f.created ≡ true → length f.reads ≡ item.len → IsSegmentName item.name
+first_listed : (side : Side) (m : MemFile) (item : Listed) (f : File) → segment side item.name ≡ segment m.side m.name → file_of m ≡ f
+    → f.created ≡ true → length f.reads ≡ item.len → IsSegmentName item.name
     → (is_listed side m ≡ true) × (item_of m ≡ item)
 first_listed side m item f place is created len named =
     let s : side ≡ m.side = cc in
@@ -129,9 +132,12 @@ has_listed side (m ∷ ms) item h = go (is_at m.side m.name (segment side item.n
     rest : is_at m.side m.name (segment side item.name) ≡ false → Has ms side item
     rest at = (h.0, (h.1.0, sym (held_skip m ms (segment side item.name) at) ∙ h.1.1, h.1.2, h.1.3))
 
-    go : (b : Bool) → is_at m.side m.name (segment side item.name) ≡ b → (c : Bool) → is_listed side m ≡ c → (Has ms side item → Contains (listed_of side ms) item) → Contains (listed_of side (m ∷ ms)) item
-    go true at c e deeper = let h = first at in subst (λ (l : List Listed). Contains l item) (sym (list_yes side m ms h.0)) (subst (Contains (item_of m ∷ listed_of side ms)) h.1 (Contains-head (item_of m) (listed_of side ms)))
-    go false at true e deeper = subst (λ (l : List Listed). Contains l item) (sym (list_yes side m ms e)) (Contains-later (item_of m) item (listed_of side ms) (deeper (rest at)))
+    go : (b : Bool) → is_at m.side m.name (segment side item.name) ≡ b → (c : Bool) → is_listed side m ≡ c
+        → (Has ms side item → Contains (listed_of side ms) item) → Contains (listed_of side (m ∷ ms)) item
+    go true at c e deeper = let h = first at in subst (λ (l : List Listed). Contains l item) (sym (list_yes side m ms h.0))
+        (subst (Contains (item_of m ∷ listed_of side ms)) h.1 (Contains-head (item_of m) (listed_of side ms)))
+    go false at true e deeper = subst (λ (l : List Listed). Contains l item) (sym (list_yes side m ms e))
+        (Contains-later (item_of m) item (listed_of side ms) (deeper (rest at)))
     go false at false e deeper = subst (λ (l : List Listed). Contains l item) (sym (list_no side m ms e)) (deeper (rest at))
 
 pub listing_of : (side : Side) (fs : List MemFile) → AreInOrder fs → IsListing (files_held fs) side (listed_of side fs)
@@ -145,7 +151,8 @@ before_all_listed side m (x ∷ xs) s h = go (is_listed side x) refl (before_all
     go : (b : Bool) → is_listed side x ≡ b → All (λ b. IsBefore m.name b.name) (listed_of side xs) → All (λ b. IsBefore m.name b.name) (listed_of side (x ∷ xs))
     go true e deeper =
         let t : x.side ≡ side = side_eq_only x.side side (both_left _ _ (both_right x.created _ e)) in
-        subst (All (λ b. IsBefore m.name b.name)) (sym (list_yes side x xs e)) (All-cons (λ b. IsBefore m.name b.name) (item_of x) (listed_of side xs) (h.0 (s ∙ sym t)) deeper)
+        subst (All (λ b. IsBefore m.name b.name)) (sym (list_yes side x xs e))
+        (All-cons (λ b. IsBefore m.name b.name) (item_of x) (listed_of side xs) (h.0 (s ∙ sym t)) deeper)
     go false e deeper = subst (All (λ b. IsBefore m.name b.name)) (sym (list_no side x xs e)) deeper
 
 listing_ascends : (side : Side) (fs : List MemFile) → Ascend fs → IsAscending (listed_of side fs)
@@ -155,7 +162,8 @@ listing_ascends side (m ∷ ms) up = go (is_listed side m) refl (listing_ascends
     go : (b : Bool) → is_listed side m ≡ b → IsAscending (listed_of side ms) → IsAscending (listed_of side (m ∷ ms))
     go true e deeper =
         let s : m.side ≡ side = side_eq_only m.side side (both_left _ _ (both_right m.created _ e)) in
-        subst IsAscending (sym (list_yes side m ms e)) (AllPairs-cons (λ a b. IsBefore a.name b.name) (item_of m) (listed_of side ms) (before_all_listed side m ms s up.0) deeper)
+        subst IsAscending (sym (list_yes side m ms e)) (AllPairs-cons (λ a b. IsBefore a.name b.name) (item_of m) (listed_of side ms)
+        (before_all_listed side m ms s up.0) deeper)
     go false e deeper = subst IsAscending (sym (list_no side m ms e)) deeper
 
 pub listing_up : (side : Side) (fs : List MemFile) → AreInOrder fs → IsAscending (listed_of side fs)
@@ -168,7 +176,8 @@ listing_named side (m ∷ ms) = go (is_listed side m) refl (listing_named side m
     go : (b : Bool) → is_listed side m ≡ b → AreSegmentNames (listed_of side ms) → AreSegmentNames (listed_of side (m ∷ ms))
     go true e deeper =
         let n : is_named m.name ≡ true = both_right (side_eq m.side side) _ (both_right m.created _ e) in
-        subst AreSegmentNames (sym (list_yes side m ms e)) (All-cons (λ item. IsSegmentName item.name) (item_of m) (listed_of side ms) (named_true m.name n) deeper)
+        subst AreSegmentNames (sym (list_yes side m ms e)) (All-cons (λ item. IsSegmentName item.name) (item_of m) (listed_of side ms)
+        (named_true m.name n) deeper)
     go false e deeper = subst AreSegmentNames (sym (list_no side m ms e)) deeper
 
 pub if_ok_of : {E : Type 0} (P : List Listed → Type 0) (r : Result (List Listed) E) (names : List Listed) → IfOk r (λ got. got ≡ names) → P names → IfOk r P

@@ -22,11 +22,14 @@ put_here : (m : MemFile) (fs : List MemFile) → files_held fs (segment m.side m
 put_here m [] none = held_here m.side m.name m [] (refl, refl)
 put_here m (x ∷ xs) none = go (goes_before m.side m.name x) refl (is_at x.side x.name (segment m.side m.name)) refl (put_here m xs)
   where
-    go : (b : Bool) → goes_before m.side m.name x ≡ b → (c : Bool) → is_at x.side x.name (segment m.side m.name) ≡ c → (files_held xs (segment m.side m.name) ≡ None → files_held (put m xs) (segment m.side m.name) ≡ Some (file_of m))
+    go : (b : Bool) → goes_before m.side m.name x ≡ b → (c : Bool) → is_at x.side x.name (segment m.side m.name) ≡ c
+        → (files_held xs (segment m.side m.name) ≡ None → files_held (put m xs) (segment m.side m.name) ≡ Some (file_of m))
         → files_held (put m (x ∷ xs)) (segment m.side m.name) ≡ Some (file_of m)
-    go true e c at deeper = ap (λ (l : List MemFile). files_held l (segment m.side m.name)) (put_front m x xs e) ∙ held_here m.side m.name m (x ∷ xs) (refl, refl)
+    go true e c at deeper = ap (λ (l : List MemFile). files_held l (segment m.side m.name)) (put_front m x xs e)
+        ∙ held_here m.side m.name m (x ∷ xs) (refl, refl)
     go false e true at deeper = let z : Some (file_of x) ≡ None = rw at at none in cc
-    go false e false at deeper = ap (λ (l : List MemFile). files_held l (segment m.side m.name)) (put_behind m x xs e) ∙ held_skip x (put m xs) (segment m.side m.name) at ∙ deeper (rw at at none)
+    go false e false at deeper = ap (λ (l : List MemFile). files_held l (segment m.side m.name)) (put_behind m x xs e)
+        ∙ held_skip x (put m xs) (segment m.side m.name) at ∙ deeper (rw at at none)
 
 put_others : (m : MemFile) (fs : List MemFile) (q : Place) → q ≢ segment m.side m.name → files_held (put m fs) q ≡ files_held fs q
 put_others m [] q ne = held_other m.side m.name m [] (refl, refl) q ne
@@ -36,7 +39,8 @@ put_others m (x ∷ xs) q ne = go (goes_before m.side m.name x) refl (put_others
     go true e deeper = ap (λ (l : List MemFile). files_held l q) (put_front m x xs e) ∙ held_other m.side m.name m (x ∷ xs) (refl, refl) q ne
     go false e deeper = ap (λ (l : List MemFile). files_held l q) (put_behind m x xs e) ∙ set_others_same m.side m.name x m xs (put m xs) q deeper
 
-pub put_changes : (m : MemFile) (fs : List MemFile) → files_held fs (segment m.side m.name) ≡ None → ChangesAt (segment m.side m.name) (λ f g. g ≡ Some (file_of m)) (files_held fs) (files_held (put m fs))
+pub put_changes : (m : MemFile) (fs : List MemFile) → files_held fs (segment m.side m.name) ≡ None
+    → ChangesAt (segment m.side m.name) (λ f g. g ≡ Some (file_of m)) (files_held fs) (files_held (put m fs))
 put_changes m fs none = record { here = put_here m fs none; others = put_others m fs }
 
 -- the order is kept
@@ -67,7 +71,8 @@ passed_before x m e s =
     before_true x.name m.name (not_false _ (rw sides at e))
 
 -- the first that is not passed stands after it
-stopped_behind : (x m : MemFile) → goes_before m.side m.name x ≡ true → is_at x.side x.name (segment m.side m.name) ≡ false → (m.side ≡ x.side) × IsBefore m.name x.name
+stopped_behind : (x m : MemFile) → goes_before m.side m.name x ≡ true → is_at x.side x.name (segment m.side m.name) ≡ false
+    → (m.side ≡ x.side) × IsBefore m.name x.name
 stopped_behind x m e at =
     let s : x.side ≡ m.side = side_eq_only x.side m.side (both_left _ _ e) in
     let later : is_before x.name m.name ≡ false = not_true _ (both_right (side_eq x.side m.side) _ e) in
@@ -75,16 +80,19 @@ stopped_behind x m e at =
   where
     differ : x.side ≡ m.side → x.name ≢ m.name
     differ s n =
-        let here : is_at x.side x.name (segment m.side m.name) ≡ true = subst (λ (t : Side). is_at x.side x.name (segment t m.name) ≡ true) s (subst (λ (k : SegName). is_at x.side x.name (segment x.side k) ≡ true) n (is_at_self x.side x.name)) in
+        let here : is_at x.side x.name (segment m.side m.name) ≡ true = subst (λ (t : Side). is_at x.side x.name (segment t m.name) ≡ true)
+        s (subst (λ (k : SegName). is_at x.side x.name (segment x.side k) ≡ true) n (is_at_self x.side x.name)) in
         let clash : true ≡ false = sym here ∙ at in cc
 
 put_ascend : (m : MemFile) (fs : List MemFile) → files_held fs (segment m.side m.name) ≡ None → Ascend fs → Ascend (put m fs)
 put_ascend m [] none up = (tt, tt)
 put_ascend m (x ∷ xs) none up = go (goes_before m.side m.name x) refl (is_at x.side x.name (segment m.side m.name)) refl (put_ascend m xs)
   where
-    go : (b : Bool) → goes_before m.side m.name x ≡ b → (c : Bool) → is_at x.side x.name (segment m.side m.name) ≡ c → (files_held xs (segment m.side m.name) ≡ None → Ascend xs → Ascend (put m xs)) → Ascend (put m (x ∷ xs))
+    go : (b : Bool) → goes_before m.side m.name x ≡ b → (c : Bool) → is_at x.side x.name (segment m.side m.name) ≡ c
+        → (files_held xs (segment m.side m.name) ≡ None → Ascend xs → Ascend (put m xs)) → Ascend (put m (x ∷ xs))
     go b e true at deeper = let z : Some (file_of x) ≡ None = rw at at none in cc
-    go true e false at deeper = let p = stopped_behind x m e at in subst Ascend (sym (put_front m x xs e)) (((λ s. p.1), before_all_trans m x xs p.0 p.1 up.0), up)
+    go true e false at deeper = let p = stopped_behind x m e at in subst Ascend (sym (put_front m x xs e))
+        (((λ s. p.1), before_all_trans m x xs p.0 p.1 up.0), up)
     go false e false at deeper = subst Ascend (sym (put_behind m x xs e)) (before_all_put x m xs (passed_before x m e) up.0, deeper (rw at at none) up.1)
 
 pub put_ordered : (m : MemFile) (fs : List MemFile) → files_held fs (segment m.side m.name) ≡ None → AreInOrder fs → AreInOrder (put m fs)

@@ -73,7 +73,8 @@ still_some (u ∷ log) now p is = still_some log now p (go (is_at u.side u.name 
     go b at None h = elim (is_at u.side u.name p) as (λ x. IsSome (cond x (was_of u None) None) → IsSome {T = File} None) [ true ↦ λ e. e | false ↦ λ e. e ] h
     go b at (Some f) h = refl
 
-pub finite_mem : (k : ℕ) (fs : List MemFile) (ops : List MemOp) (log : List Undo) (faults polls : Side → ℕ) (calls : List Call) → IsFiniteFiles ((mem_view fs ops log faults polls calls).history k)
+pub finite_mem : (k : ℕ) (fs : List MemFile) (ops : List MemOp) (log : List Undo) (faults polls : Side → ℕ) (calls : List Call)
+    → IsFiniteFiles ((mem_view fs ops log faults polls calls).history k)
 unfolding mem_view
 finite_mem k fs ops log faults polls calls = (places_of fs, λ p is. held_in fs p (still_some (drop k log) (files_held fs) p is))
 
@@ -85,10 +86,12 @@ abbrev IsSoundSegment : File → Type 0
 IsSoundSegment f = IsSoundFile f × (f.created ≡ false → f.sent ≡ [])
 
 sound_of : (m : MemFile) → IsSoundSegment (file_of m)
-sound_of m = elim m.created as (λ b. IsSoundSegment (if b then record { sent = m.sent.items; done = m.done; stable = m.stable; created = true; leaving = false; reads = take m.done m.sent.items } else fresh)) [
-  | true ↦ (record { stable = m.ordered; done = m.within; reads = ([], sym (append-nil (take m.done m.sent.items))) }, λ e. cc)
-  | false ↦ (record { stable = omega arith; done = omega arith; reads = ([], refl) }, λ e. refl)
-]
+sound_of m = elim m.created as (λ b. IsSoundSegment (if b then record
+    { sent = m.sent.items; done = m.done; stable = m.stable; created = true; leaving = false; reads = take m.done m.sent.items } else
+    fresh)) [
+      | true ↦ (record { stable = m.ordered; done = m.within; reads = ([], sym (append-nil (take m.done m.sent.items))) }, λ e. cc)
+      | false ↦ (record { stable = omega arith; done = omega arith; reads = ([], refl) }, λ e. refl)
+    ]
 
 sound_held : (fs : List MemFile) (p : Place) (f : File) → files_held fs p ≡ Some f → IsSoundSegment f
 sound_held [] p f is = cc
@@ -107,6 +110,7 @@ sound_at : (fs : List MemFile) (p : Place) (f : File) → files_held fs p ≡ So
 sound_at fs (segment s n) f is = sound_held fs (segment s n) f is
 sound_at fs (table n) f is = let clash : None ≡ Some f = sym (no_table fs n) ∙ is in cc
 
-pub sound_mem : (fs : List MemFile) (ops : List MemOp) (log : List Undo) (faults polls : Side → ℕ) (calls : List Call) (p : Place) (f : File) → files (mem_view fs ops log faults polls calls) p ≡ Some f → IsSound p f
+pub sound_mem : (fs : List MemFile) (ops : List MemOp) (log : List Undo) (faults polls : Side → ℕ) (calls : List Call) (p : Place)
+    (f : File) → files (mem_view fs ops log faults polls calls) p ≡ Some f → IsSound p f
 unfolding mem_view
 sound_mem fs ops log faults polls calls p f is = sound_at fs p f (subst (λ (l : List Undo). all_undone l (files_held fs) p ≡ Some f) (drop_all log) is)

@@ -21,7 +21,14 @@ is_at side name (table upto) = false
 
 -- a file that is not created yet is empty, whatever stands in its other fields
 abbrev pub file_of : MemFile → File
-file_of f = if f.created then record { sent = f.sent.items; done = f.done; stable = f.stable; created = true; leaving = false; reads = take f.done f.sent.items } else fresh
+file_of f = if f.created then record {
+  sent = f.sent.items;
+  done = f.done;
+  stable = f.stable;
+  created = true;
+  leaving = false;
+  reads = take f.done f.sent.items;
+} else fresh
 
 -- the files, each at its place
 abbrev pub files_held : List MemFile → Files
@@ -57,7 +64,14 @@ undo_at side name (Some f) = record { side = side; name = name; there = true; se
 abbrev pub was_of : Undo → Option File → Option File
 was_of u None = None
 was_of u (Some f) =
-    if u.there then Some (if u.created then record { sent = take u.sent f.sent; done = u.done; stable = u.stable; created = true; leaving = false; reads = take u.done (take u.sent f.sent) } else fresh)
+    if u.there then Some (if u.created then record {
+      sent = take u.sent f.sent;
+      done = u.done;
+      stable = u.stable;
+      created = true;
+      leaving = false;
+      reads = take u.done (take u.sent f.sent);
+    } else fresh)
     else None
 
 -- one change taken back
@@ -72,7 +86,14 @@ all_undone (u ∷ us) files = undone u (all_undone us files)
 -- what the disk means
 unfoldable pub mem_view : List MemFile → List MemOp → List Undo → (Side → ℕ) → (Side → ℕ) → List Call → DiskView
 mem_view files ops log faults polls calls =
-    record { faults = faults; polls_left = polls; in_flight = flight_in ops; clock = length log; history = λ k. all_undone (drop k log) (files_held files); calls = calls }
+    record {
+      faults = faults;
+      polls_left = polls;
+      in_flight = flight_in ops;
+      clock = length log;
+      history = λ k. all_undone (drop k log) (files_held files);
+      calls = calls;
+    }
 
 -- how many operations are in flight
 abbrev pub live_in : List MemOp → ℕ

@@ -19,7 +19,8 @@ AreChunksSent bytes sent log = (at : ℕ) → IsSentAt bytes sent log at
 -- each whole chunk of its log, in what the picks leave of the file, was sent to its place
 abbrev pub IsFileSent : List FilePick → MemFile → Type 0
 IsFileSent picks f =
-    (bytes : List ℕ) → picked (Some (file_of f)) (tail_of picks (segment f.side f.name)) ≡ Some bytes → AreChunksSent bytes (file_of f).sent (log_of (segment f.side f.name))
+    (bytes : List ℕ) → picked (Some (file_of f)) (tail_of picks (segment f.side f.name)) ≡ Some bytes
+    → AreChunksSent bytes (file_of f).sent (log_of (segment f.side f.name))
 
 -- that of each file
 abbrev pub AreFilesSent : List FilePick → List MemFile → Type 0

@@ -24,13 +24,15 @@ abbrev pub IsFlag : Bool → List Batch → Type 0
 IsFlag true front = front ≡ []
 IsFlag false front = front ≢ []
 
-may_follow : (is_first : Bool) (front : List Batch) (expected : ℕ) (batch : Batch) → IsFlag is_first front → Follows is_first expected batch.first → MayFollow expected front batch
+may_follow : (is_first : Bool) (front : List Batch) (expected : ℕ) (batch : Batch) → IsFlag is_first front
+    → Follows is_first expected batch.first → MayFollow expected front batch
 may_follow true [] expected batch flag follows = follows
 may_follow true (a ∷ front) expected batch flag follows = absurd cc
 may_follow false [] expected batch flag follows = absurd (flag refl)
 may_follow false (a ∷ front) expected batch flag follows = follows
 
-follows_back : (is_first : Bool) (front : List Batch) (expected : ℕ) (batch : Batch) → IsFlag is_first front → MayFollow expected front batch → Follows is_first expected batch.first
+follows_back : (is_first : Bool) (front : List Batch) (expected : ℕ) (batch : Batch) → IsFlag is_first front
+    → MayFollow expected front batch → Follows is_first expected batch.first
 follows_back true [] expected batch flag may = may
 follows_back true (a ∷ front) expected batch flag may = absurd cc
 follows_back false [] expected batch flag may = absurd (flag refl)
@@ -40,7 +42,8 @@ begun : (front : List Batch) (batch : Batch) → front ++ batch ∷ [] ≢ []
 begun [] batch e = absurd cc
 begun (a ∷ front) batch e = absurd cc
 
-pub expected_more : (first : ℕ) (before : List (List Batch)) (front : List Batch) (batch : Batch) → expected_after first before (front ++ batch ∷ []) ≡ end_of batch
+pub expected_more : (first : ℕ) (before : List (List Batch)) (front : List Batch) (batch : Batch)
+    → expected_after first before (front ++ batch ∷ []) ≡ end_of batch
 unfolding end_after
 expected_more first before front batch = end_append (greatest_end first (all_of before)) front (batch ∷ [])
 
@@ -149,7 +152,8 @@ module _ (first : ℕ) (before : List SegmentRead) (segment : SegmentRead) (kept
   front_more = take_more segment.batches i batch below ∙ ap (λ b. take i segment.batches ++ b ∷ []) (sym is)
 
   cut_here : segment.batches ≡ take i segment.batches ++ batch ∷ drop (i + 1) segment.batches
-  cut_here = sym (ap (λ xs. take i segment.batches ++ xs) (sym (drop_more segment.batches i batch below ∙ ap (λ b. b ∷ drop (i + 1) segment.batches) (sym is))) ∙ take-append-drop i segment.batches)
+  cut_here = sym (ap (λ xs. take i segment.batches ++ xs) (sym (drop_more segment.batches i batch below
+      ∙ ap (λ b. b ∷ drop (i + 1) segment.batches) (sym is))) ∙ take-append-drop i segment.batches)
 
   pub up_to_more : (new : Kept) (done : Unit {0}) → Steps kept new expected is_first segment.index batch (Ok done)
       → IsUpTo first (batches_in before) (take (i + 1) segment.batches) new (end_of batch) false
@@ -160,9 +164,11 @@ module _ (first : ℕ) (before : List SegmentRead) (segment : SegmentRead) (kept
   pub up_to_refused : (new : Kept) (fault : MergeFault) → Steps kept new expected is_first segment.index batch (Err fault)
       → (later : List SegmentRead) → MemoryOrRefusal (IsRowRefused first (before ++ segment ∷ later)) fault
   up_to_refused new (faults.Gap k e f) s later =
-      rw (s.0, s.1, s.2) (gap_here first before (take i segment.batches) kept batch expected is_first up numbered segment (drop (i + 1) segment.batches) cut_here later s.3)
+      rw (s.0, s.1, s.2) (gap_here first before (take i segment.batches) kept batch expected is_first up numbered segment
+      (drop (i + 1) segment.batches) cut_here later s.3)
   up_to_refused new (faults.Conflict k f) s later =
-      rw (s.0, s.1) (conflict_here first before (take i segment.batches) kept batch expected is_first up numbered segment (drop (i + 1) segment.batches) cut_here later s.2)
+      rw (s.0, s.1) (conflict_here first before (take i segment.batches) kept batch expected is_first up numbered segment
+      (drop (i + 1) segment.batches) cut_here later s.2)
   up_to_refused new faults.NoMemory s later = tt
 
 -- the whole segment
@@ -185,7 +191,8 @@ module _ (segments : List SegmentRead) (i : ℕ) (segment : SegmentRead) (below 
   row_more = take_more segments i segment below ∙ ap (λ x. take i segments ++ x ∷ []) (sym is)
 
   pub whole_row : take i segments ++ segment ∷ drop (i + 1) segments ≡ segments
-  whole_row = ap (λ xs. take i segments ++ xs) (sym (drop_more segments i segment below ∙ ap (λ b. b ∷ drop (i + 1) segments) (sym is))) ∙ take-append-drop i segments
+  whole_row = ap (λ xs. take i segments ++ xs) (sym (drop_more segments i segment below ∙ ap (λ b. b ∷ drop (i + 1) segments) (sym is)))
+      ∙ take-append-drop i segments
 
 -- ---- what holds is answered
 
@@ -194,25 +201,29 @@ abbrev pub Answers : ℕ → List SegmentRead → Result (List Batch) MergeFault
 Answers first segments (Ok merged) = Merged first (batches_in segments) merged
 Answers first segments (Err fault) = MemoryOrRefusal (IsRowRefused first segments) fault
 
-pub why_refused : (first : ℕ) (segments : List SegmentRead) (result : Result (List Batch) MergeFault) → Answers first segments result → IfErr result (MemoryOrRefusal (IsRowRefused first segments))
+pub why_refused : (first : ℕ) (segments : List SegmentRead) (result : Result (List Batch) MergeFault) → Answers first segments result
+    → IfErr result (MemoryOrRefusal (IsRowRefused first segments))
 why_refused first segments (Ok kept) a = tt
 why_refused first segments (Err fault) a = a
 
-pub only_merged : (first : ℕ) (segments : List SegmentRead) (result : Result (List Batch) MergeFault) → Answers first segments result → (merged : List Batch) → Merged first (batches_in segments) merged
+pub only_merged : (first : ℕ) (segments : List SegmentRead) (result : Result (List Batch) MergeFault) → Answers first segments result
+    → (merged : List Batch) → Merged first (batches_in segments) merged
     → MergedOrMemory result merged
 only_merged first segments (Ok kept) a whole m = one_merged first (batches_in segments) kept whole a m
 only_merged first segments (Err (faults.Gap i e f)) a whole m = merged_or_wrong first segments whole i e a.batch m a.wrong
 only_merged first segments (Err (faults.Conflict i f)) a whole m = merged_or_wrong first segments whole i a.expected a.batch m a.wrong
 only_merged first segments (Err faults.NoMemory) a whole m = tt
 
-pub only_gap : (first : ℕ) (segments : List SegmentRead) (result : Result (List Batch) MergeFault) → Answers first segments result → (i e f : ℕ) → IsGap first segments i e f
+pub only_gap : (first : ℕ) (segments : List SegmentRead) (result : Result (List Batch) MergeFault) → Answers first segments result
+    → (i e f : ℕ) → IsGap first segments i e f
     → RefusedOrMemory result (faults.Gap i e f)
 only_gap first segments (Ok kept) a i e f g = merged_or_wrong first segments kept i e g.batch a g.wrong
 only_gap first segments (Err (faults.Gap i' e' f')) a i e f g = one_gap first segments i' e' f' i e f a g
 only_gap first segments (Err (faults.Conflict i' f')) a i e f g = absurd (gap_or_conflict first segments i e f i' f' g a)
 only_gap first segments (Err faults.NoMemory) a i e f g = tt
 
-pub only_conflict : (first : ℕ) (segments : List SegmentRead) (result : Result (List Batch) MergeFault) → Answers first segments result → (i f : ℕ) → IsConflict first segments i f
+pub only_conflict : (first : ℕ) (segments : List SegmentRead) (result : Result (List Batch) MergeFault) → Answers first segments result
+    → (i f : ℕ) → IsConflict first segments i f
     → RefusedOrMemory result (faults.Conflict i f)
 only_conflict first segments (Ok kept) a i f g = merged_or_wrong first segments kept i g.expected g.batch a g.wrong
 only_conflict first segments (Err (faults.Gap i' e' f')) a i f g = absurd (gap_or_conflict first segments i' e' f' i f a g)

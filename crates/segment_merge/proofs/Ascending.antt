@@ -6,7 +6,8 @@ use Rattle.segment_merge.specs.Merging.{IsAscending}
 use Rattle.segment_merge.specs.Keeping.{AreKept}
 use Rattle.segment_merge.proofs.Contiguous.{end_append}
 
-pub ascending_push : (from : ℕ) (batches : List Batch) (batch : Batch) → IsAscending from batches → end_after from batches ≤ batch.first → 0 < count_of batch.entries
+pub ascending_push : (from : ℕ) (batches : List Batch) (batch : Batch) → IsAscending from batches → end_after from batches ≤ batch.first
+    → 0 < count_of batch.entries
     → IsAscending from (batches ++ batch ∷ [])
 unfolding IsAscending end_after
 ascending_push from [] batch up below some = (below, some, tt)

@@ -39,7 +39,8 @@ two_cases : (m n : ℕ) → (m < n) ⊎ (n ≤ m)
 two_cases m n = grind arith
 
 -- a number below the last end is below the end of some batch
-below_some : (from n : ℕ) (batches : List Batch) → IsAscending from batches → from ≤ n → n < end_after from batches → (batch : Batch) × Contains batches batch × (n < end_of batch)
+below_some : (from n : ℕ) (batches : List Batch) → IsAscending from batches → from ≤ n → n < end_after from batches → (batch : Batch)
+    × Contains batches batch × (n < end_of batch)
 unfolding IsAscending end_after
 below_some from n [] up le less = absurd (omega (arith, le, less))
 below_some from n (b ∷ batches) up le less = elim (two_cases n (end_of b)) [
@@ -72,7 +73,8 @@ accepted_push all batch a new before x after e = of (places all batch [] before 
     of (later mid is) = a before x mid is
 
 -- batches in the order of their numbers are accepted
-ascending_cut : (from : ℕ) (before : List Batch) (batch : Batch) (after : List Batch) → IsAscending from (before ++ batch ∷ after) → IsAscending from before × (end_after from before ≤ batch.first)
+ascending_cut : (from : ℕ) (before : List Batch) (batch : Batch) (after : List Batch) → IsAscending from (before ++ batch ∷ after)
+    → IsAscending from before × (end_after from before ≤ batch.first)
 unfolding IsAscending end_after
 ascending_cut from [] batch after up = (tt, up.0)
 ascending_cut from (b ∷ before) batch after up = let rest = ascending_cut (end_of b) before batch after up.2 in ((up.0, up.1, rest.0), rest.1)
@@ -83,7 +85,12 @@ ascending_accepted batches up before batch after e =
 
 -- what is kept is what it is itself merged to
 pub keeps_own : (all : List Batch) (kept : Kept) → KeepsLenient all kept → KeepsLenient kept.batches kept
-keeps_own all kept k = record { ascending = k.ascending; same = λ batch. (λ h. h, λ h. h); accepted = ascending_accepted kept.batches k.ascending; next_is = k.next_is }
+keeps_own all kept k = record {
+  ascending = k.ascending;
+  same = λ batch. (λ h. h, λ h. h);
+  accepted = ascending_accepted kept.batches k.ascending;
+  next_is = k.next_is;
+}
 
 -- ---- the steps of the pass
 
@@ -148,16 +155,21 @@ module _ (before : List SegmentRead) (segment : SegmentRead) (kept : Kept) (i : 
   front_more = take_more segment.batches i batch below ∙ ap (λ b. take i segment.batches ++ b ∷ []) (sym is)
 
   cut_here : segment.batches ≡ take i segment.batches ++ batch ∷ drop (i + 1) segment.batches
-  cut_here = sym (ap (λ xs. take i segment.batches ++ xs) (sym (drop_more segment.batches i batch below ∙ ap (λ b. b ∷ drop (i + 1) segment.batches) (sym is))) ∙ take-append-drop i segment.batches)
+  cut_here = sym (ap (λ xs. take i segment.batches ++ xs) (sym (drop_more segment.batches i batch below
+      ∙ ap (λ b. b ∷ drop (i + 1) segment.batches) (sym is))) ∙ take-append-drop i segment.batches)
 
   all_more : all_of (batches_in before) ++ take (i + 1) segment.batches ≡ (all_of (batches_in before) ++ take i segment.batches) ++ batch ∷ []
   all_more = ap (λ xs. all_of (batches_in before) ++ xs) front_more ∙ sym (append_assoc (all_of (batches_in before)) (take i segment.batches) (batch ∷ []))
 
-  pub keeps_more : (new : Kept) (done : Unit {0}) → LenientSteps kept new segment.index batch (Ok done) → KeepsLenient (all_of (batches_in before) ++ take (i + 1) segment.batches) new
-  keeps_more new done (inl a) = subst (λ xs. KeepsLenient xs new) (sym all_more) (appended (all_of (batches_in before) ++ take i segment.batches) kept batch k new numbered.some a)
-  keeps_more new done (inr s) = subst (λ xs. KeepsLenient xs new) (sym all_more) (skipped (all_of (batches_in before) ++ take i segment.batches) kept batch k new s)
+  pub keeps_more : (new : Kept) (done : Unit {0}) → LenientSteps kept new segment.index batch (Ok done)
+      → KeepsLenient (all_of (batches_in before) ++ take (i + 1) segment.batches) new
+  keeps_more new done (inl a) = subst (λ xs. KeepsLenient xs new) (sym all_more)
+      (appended (all_of (batches_in before) ++ take i segment.batches) kept batch k new numbered.some a)
+  keeps_more new done (inr s) = subst (λ xs. KeepsLenient xs new) (sym all_more)
+      (skipped (all_of (batches_in before) ++ take i segment.batches) kept batch k new s)
 
-  pub keeps_refused : (new : Kept) (fault : MergeFault) → LenientSteps kept new segment.index batch (Err fault) → (after : List SegmentRead) → MemoryOrRefusal (IsRowLenientlyRefused (before ++ segment ∷ after)) fault
+  pub keeps_refused : (new : Kept) (fault : MergeFault) → LenientSteps kept new segment.index batch (Err fault) → (after : List SegmentRead)
+      → MemoryOrRefusal (IsRowLenientlyRefused (before ++ segment ∷ after)) fault
   keeps_refused new (faults.Gap j e f) s after = s
   keeps_refused new (faults.Conflict j f) s after = record {
     before = before;
@@ -179,7 +191,8 @@ module _ (before : List SegmentRead) (segment : SegmentRead) (kept : Kept) (i : 
 pub keeps_all : (before : List SegmentRead) (segment : SegmentRead) (kept : Kept) → KeepsLenient (all_of (batches_in before) ++ segment.batches) kept
     → KeepsLenient (all_of (batches_in (before ++ segment ∷ []))) kept
 keeps_all before segment kept k =
-    subst (λ xs. KeepsLenient xs kept) (sym (ap all_of (map-append (λ (s : SegmentRead). s.batches) before (segment ∷ [])) ∙ all_with (batches_in before) segment.batches)) k
+    subst (λ xs. KeepsLenient xs kept) (sym (ap all_of (map-append (λ (s : SegmentRead). s.batches) before (segment ∷ []))
+    ∙ all_with (batches_in before) segment.batches)) k
 
 pub begun : (before : List SegmentRead) (kept : Kept) → KeepsLenient (all_of (batches_in before)) kept → KeepsLenient (all_of (batches_in before) ++ []) kept
 begun before kept k = subst (λ xs. KeepsLenient xs kept) (sym (append-nil (all_of (batches_in before)))) k

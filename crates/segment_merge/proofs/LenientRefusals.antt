@@ -30,9 +30,11 @@ none_accepted segments i f w mid rest a =
 row_is : (segments row : List SegmentRead) (i f : ℕ) (w : IsLenientConflict segments i f) (after : List SegmentRead) → row ≡ w.before ++ w.segment ∷ after
     → all_of (batches_in row) ≡ all_of (batches_in w.before) ++ ((w.front ++ w.batch ∷ w.back) ++ all_of (batches_in after))
 row_is segments row i f w after is =
-    ap all_of (cut_row row w.before w.segment after (w.front ++ w.batch ∷ w.back) is w.cut) ∙ flat_map-append (λ s. s) (batches_in w.before) ((w.front ++ w.batch ∷ w.back) ∷ batches_in after)
+    ap all_of (cut_row row w.before w.segment after (w.front ++ w.batch ∷ w.back) is w.cut)
+    ∙ flat_map-append (λ s. s) (batches_in w.before) ((w.front ++ w.batch ∷ w.back) ∷ batches_in after)
 
-pub merged_or_conflict : (segments : List SegmentRead) (merged : List Batch) (i f : ℕ) → MergedLenient (batches_in segments) merged → IsLenientConflict segments i f → ⊥
+pub merged_or_conflict : (segments : List SegmentRead) (merged : List Batch) (i f : ℕ) → MergedLenient (batches_in segments) merged
+    → IsLenientConflict segments i f → ⊥
 merged_or_conflict segments merged i f m w =
     none_accepted segments i f w w.back (all_of (batches_in w.after)) (subst (λ xs. IsAccepted xs) (row_is segments segments i f w w.after w.row) m.accepted)
 
@@ -42,16 +44,19 @@ module _ (segments : List SegmentRead) (i f i' f' : ℕ) where
       none_accepted segments i f w w.back (all_of (batches_in mid))
       (subst (λ xs. IsAccepted xs) (row_is segments v.before i f w mid is) (accepted_front (all_of (batches_in v.before)) v.front v.right))
 
-  batch_sooner : (w : IsLenientConflict segments i f) (v : IsLenientConflict segments i' f') (mid : List Batch) → w.before ≡ v.before → v.front ≡ w.front ++ w.batch ∷ mid → ⊥
+  batch_sooner : (w : IsLenientConflict segments i f) (v : IsLenientConflict segments i' f') (mid : List Batch) → w.before ≡ v.before
+      → v.front ≡ w.front ++ w.batch ∷ mid → ⊥
   batch_sooner w v mid same is =
       none_accepted segments i f w mid []
       (subst (λ xs. IsAccepted (all_of (batches_in w.before) ++ xs)) (is ∙ sym (append-nil (w.front ++ w.batch ∷ mid)))
       (subst (λ b. IsAccepted (all_of (batches_in b) ++ v.front)) (sym same) v.right))
 
-pub one_conflict : (segments : List SegmentRead) (i f i' f' : ℕ) → IsLenientConflict segments i f → IsLenientConflict segments i' f' → faults.Conflict i f ≡ faults.Conflict i' f'
+pub one_conflict : (segments : List SegmentRead) (i f i' f' : ℕ) → IsLenientConflict segments i f → IsLenientConflict segments i' f'
+    → faults.Conflict i f ≡ faults.Conflict i' f'
 one_conflict segments i f i' f' w v = of_rows (places w.before w.segment w.after v.before v.segment v.after (sym w.row ∙ v.row))
   where
-    of_batches : w.before ≡ v.before → w.segment ≡ v.segment → Places w.front w.batch w.back v.front v.batch v.back → faults.Conflict i f ≡ faults.Conflict i' f'
+    of_batches : w.before ≡ v.before → w.segment ≡ v.segment → Places w.front w.batch w.back v.front v.batch v.back
+        → faults.Conflict i f ≡ faults.Conflict i' f'
     of_batches same segs (sooner mid is) = absurd (batch_sooner segments i f i' f' w v mid same is)
     of_batches same segs (one fronts batches backs) =
         let index : i ≡ i' = w.index_is ∙ ap (λ (s : SegmentRead). s.index) segs ∙ sym v.index_is in
@@ -61,17 +66,20 @@ one_conflict segments i f i' f' w v = of_rows (places w.before w.segment w.after
 
     of_rows : Places w.before w.segment w.after v.before v.segment v.after → faults.Conflict i f ≡ faults.Conflict i' f'
     of_rows (sooner mid is) = absurd (row_sooner segments i f i' f' w v mid is)
-    of_rows (one befores segs afters) = of_batches befores segs (places w.front w.batch w.back v.front v.batch v.back (sym w.cut ∙ ap (λ (s : SegmentRead). s.batches) segs ∙ v.cut))
+    of_rows (one befores segs afters) = of_batches befores segs
+        (places w.front w.batch w.back v.front v.batch v.back (sym w.cut ∙ ap (λ (s : SegmentRead). s.batches) segs ∙ v.cut))
     of_rows (later mid is) = absurd (row_sooner segments i' f' i f v w mid is)
 
-pub one_refusal : (segments : List SegmentRead) (one other : MergeFault) → IsRowLenientlyRefused segments one → IsRowLenientlyRefused segments other → one ≡ other
+pub one_refusal : (segments : List SegmentRead) (one other : MergeFault) → IsRowLenientlyRefused segments one
+    → IsRowLenientlyRefused segments other → one ≡ other
 one_refusal segments (faults.Conflict i f) (faults.Conflict i' f') a g = one_conflict segments i f i' f' a g
 one_refusal segments (faults.Conflict i f) (faults.Gap i' e' f') a g = absurd g
 one_refusal segments (faults.Conflict i f) faults.NoMemory a g = absurd g
 one_refusal segments (faults.Gap i e f) other a g = absurd a
 one_refusal segments faults.NoMemory other a g = absurd a
 
-pub merged_or_refused : (segments : List SegmentRead) (merged : List Batch) (fault : MergeFault) → MergedLenient (batches_in segments) merged → IsRowLenientlyRefused segments fault → ⊥
+pub merged_or_refused : (segments : List SegmentRead) (merged : List Batch) (fault : MergeFault)
+    → MergedLenient (batches_in segments) merged → IsRowLenientlyRefused segments fault → ⊥
 merged_or_refused segments merged (faults.Conflict i f) m r = merged_or_conflict segments merged i f m r
 merged_or_refused segments merged (faults.Gap i e f) m r = r
 merged_or_refused segments merged faults.NoMemory m r = r
@@ -83,10 +91,12 @@ abbrev pub Answers : List SegmentRead → Result (List Batch) MergeFault → Typ
 Answers segments (Ok merged) = MergedLenient (batches_in segments) merged
 Answers segments (Err fault) = MemoryOrRefusal (IsRowLenientlyRefused segments) fault
 
-pub is_merged : (segments : List SegmentRead) (kept : Kept) → KeepsLenient (all_of (batches_in segments)) kept → MergedLenient (batches_in segments) kept.batches
+pub is_merged : (segments : List SegmentRead) (kept : Kept) → KeepsLenient (all_of (batches_in segments)) kept
+    → MergedLenient (batches_in segments) kept.batches
 is_merged segments kept k = record { ascending = k.ascending; same = k.same; accepted = k.accepted }
 
-pub why_refused : (segments : List SegmentRead) (result : Result (List Batch) MergeFault) → Answers segments result → IfErr result (MemoryOrRefusal (IsRowLenientlyRefused segments))
+pub why_refused : (segments : List SegmentRead) (result : Result (List Batch) MergeFault) → Answers segments result
+    → IfErr result (MemoryOrRefusal (IsRowLenientlyRefused segments))
 why_refused segments (Ok kept) a = tt
 why_refused segments (Err fault) a = a
 
@@ -96,14 +106,16 @@ never_gap segments (Err (faults.Gap i e f)) a = a
 never_gap segments (Err (faults.Conflict i f)) a = tt
 never_gap segments (Err faults.NoMemory) a = tt
 
-pub only_merged : (segments : List SegmentRead) (result : Result (List Batch) MergeFault) → Answers segments result → (merged : List Batch) → MergedLenient (batches_in segments) merged
+pub only_merged : (segments : List SegmentRead) (result : Result (List Batch) MergeFault) → Answers segments result → (merged : List Batch)
+    → MergedLenient (batches_in segments) merged
     → MergedOrMemory result merged
 only_merged segments (Ok kept) a whole m = one_lenient (batches_in segments) kept whole a m
 only_merged segments (Err (faults.Gap i e f)) a whole m = a
 only_merged segments (Err (faults.Conflict i f)) a whole m = merged_or_conflict segments whole i f m a
 only_merged segments (Err faults.NoMemory) a whole m = tt
 
-pub only_conflict : (segments : List SegmentRead) (result : Result (List Batch) MergeFault) → Answers segments result → (i f : ℕ) → IsLenientConflict segments i f
+pub only_conflict : (segments : List SegmentRead) (result : Result (List Batch) MergeFault) → Answers segments result → (i f : ℕ)
+    → IsLenientConflict segments i f
     → RefusedOrMemory result (faults.Conflict i f)
 only_conflict segments (Ok kept) a i f g = merged_or_conflict segments kept i f a g
 only_conflict segments (Err (faults.Gap i' e' f')) a i f g = absurd a

@@ -16,24 +16,29 @@ use Rattle.segment_merge.proofs.LenientRefusals.{Answers}
 
 -- ---- the loop through a row
 
-pub row_begun : (before : List SegmentRead) (kept : Kept) → KeepsLenient (all_of (batches_in before)) kept → KeepsLenient (all_of (batches_in (before ++ []))) kept
+pub row_begun : (before : List SegmentRead) (kept : Kept) → KeepsLenient (all_of (batches_in before)) kept
+    → KeepsLenient (all_of (batches_in (before ++ []))) kept
 row_begun before kept k = subst (λ (s : List SegmentRead). KeepsLenient (all_of (batches_in s)) kept) (sym (append-nil before)) k
 
 module _ (before row : List SegmentRead) (i : ℕ) (segment : SegmentRead) (below : i < length row) (is : segment ≡ get_or row i segment) where
-  pub row_goes_on : (kept : Kept) (done : Unit {0}) → LenientAnswers (before ++ take i row) segment kept (Ok done) → KeepsLenient (all_of (batches_in (before ++ take (i + 1) row))) kept
+  pub row_goes_on : (kept : Kept) (done : Unit {0}) → LenientAnswers (before ++ take i row) segment kept (Ok done)
+      → KeepsLenient (all_of (batches_in (before ++ take (i + 1) row))) kept
   row_goes_on kept done k =
       subst (λ (s : List SegmentRead). KeepsLenient (all_of (batches_in s)) kept)
       (append_assoc before (take i row) (segment ∷ []) ∙ ap (λ (s : List SegmentRead). before ++ s) (sym (row_more row i segment below is))) k
 
-  pub row_refused : (kept : Kept) (fault : MergeFault) → LenientAnswers (before ++ take i row) segment kept (Err fault) → MemoryOrRefusal (IsRowLenientlyRefused (before ++ row)) fault
+  pub row_refused : (kept : Kept) (fault : MergeFault) → LenientAnswers (before ++ take i row) segment kept (Err fault)
+      → MemoryOrRefusal (IsRowLenientlyRefused (before ++ row)) fault
   row_refused kept fault k =
       subst (λ (s : List SegmentRead). MemoryOrRefusal (IsRowLenientlyRefused s) fault)
-      (append_assoc before (take i row) (segment ∷ drop (i + 1) row) ∙ ap (λ (s : List SegmentRead). before ++ s) (whole_row row i segment below is)) (k (drop (i + 1) row))
+      (append_assoc before (take i row) (segment ∷ drop (i + 1) row)
+      ∙ ap (λ (s : List SegmentRead). before ++ s) (whole_row row i segment below is)) (k (drop (i + 1) row))
 
 -- ---- from row to row
 
 -- what was merged of a row is kept of it, whatever row it was
-pub keeps_before : (before : List SegmentRead) (kept : Kept) → KeepsLenient kept.batches kept → AreMergedOf before kept.batches → KeepsLenient (all_of (batches_in before)) kept
+pub keeps_before : (before : List SegmentRead) (kept : Kept) → KeepsLenient kept.batches kept → AreMergedOf before kept.batches
+    → KeepsLenient (all_of (batches_in before)) kept
 keeps_before before kept own m = record { ascending = m.ascending; same = m.same; accepted = m.accepted; next_is = own.next_is }
 
 -- the row that is one segment with the batches kept

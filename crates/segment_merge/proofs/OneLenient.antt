@@ -15,14 +15,16 @@ low_of from (a ∷ batches) b up h = elim (within_cases a batches b h) [
   | inr later ↦ omega (arith, up.0, low_of (end_of a) batches b up.2 later)
 ]
 
-tail_only : (a b : Batch) (ps qs : List Batch) → 0 < count_of a.entries → IsAscending (end_of a) ps → a ≡ b → ((x : Batch) → Contains (a ∷ ps) x → Contains (b ∷ qs) x)
+tail_only : (a b : Batch) (ps qs : List Batch) → 0 < count_of a.entries → IsAscending (end_of a) ps → a ≡ b
+    → ((x : Batch) → Contains (a ∷ ps) x → Contains (b ∷ qs) x)
     → (x : Batch) → Contains ps x → Contains qs x
 tail_only a b ps qs some up e sub x h = elim (within_cases b qs x (sub x (within_tail a ps x h))) [
   | inl is ↦ absurd (omega (arith, some, low_of (end_of a) ps x up h, ap (λ (y : Batch). y.first) (e ∙ is)))
   | inr later ↦ later
 ]
 
-same_ascending : (m n : ℕ) (ps qs : List Batch) → IsAscending m ps → IsAscending n qs → ((x : Batch) → Contains ps x → Contains qs x) → ((x : Batch) → Contains qs x → Contains ps x) → ps ≡ qs
+same_ascending : (m n : ℕ) (ps qs : List Batch) → IsAscending m ps → IsAscending n qs → ((x : Batch) → Contains ps x → Contains qs x)
+    → ((x : Batch) → Contains qs x → Contains ps x) → ps ≡ qs
 unfolding IsAscending
 same_ascending m n [] [] up uq pq qp = refl
 same_ascending m n [] (b ∷ qs) up uq pq qp = absurd (none_within b (qp b (within_head b qs)))
@@ -35,7 +37,8 @@ same_ascending m n (a ∷ ps) (b ∷ qs) up uq pq qp =
         | inr behind ↦ absurd (omega (arith, up.1, uq.1, low_of (end_of b) qs a uq.2 later, low_of (end_of a) ps b up.2 behind))
       ]
     ] in
-    ap (λ l. a ∷ l) (same_ascending (end_of a) (end_of b) ps qs up.2 uq.2 (tail_only a b ps qs up.1 up.2 e pq) (tail_only b a qs ps uq.1 uq.2 (sym e) qp)) ∙ ap (λ x. x ∷ qs) e
+    ap (λ l. a ∷ l) (same_ascending (end_of a) (end_of b) ps qs up.2 uq.2 (tail_only a b ps qs up.1 up.2 e pq)
+    (tail_only b a qs ps uq.1 uq.2 (sym e) qp)) ∙ ap (λ x. x ∷ qs) e
 
 -- There is at most one list that is merged with gaps.
 pub one_lenient : (segments : List (List Batch)) (a b : List Batch) → MergedLenient segments a → MergedLenient segments b → a ≡ b

@@ -7,7 +7,8 @@ pub data Places {X : Type 0} (xs : List X) (x : X) (ys xs' : List X) (x' : X) (y
   one : xs ≡ xs' → x ≡ x' → ys ≡ ys' → Places xs x ys xs' x' ys'
   later : (mid : List X) → xs ≡ xs' ++ x' ∷ mid → Places xs x ys xs' x' ys'
 
-places_more : {X : Type 0} (a a' : X) (xs : List X) (x : X) (ys xs' : List X) (x' : X) (ys' : List X) → a ≡ a' → Places xs x ys xs' x' ys' → Places (a ∷ xs) x ys (a' ∷ xs') x' ys'
+places_more : {X : Type 0} (a a' : X) (xs : List X) (x : X) (ys xs' : List X) (x' : X) (ys' : List X) → a ≡ a' → Places xs x ys xs' x' ys'
+    → Places (a ∷ xs) x ys (a' ∷ xs') x' ys'
 places_more a a' xs x ys xs' x' ys' e (sooner mid is) = sooner mid (ap (λ b. b ∷ xs') (sym e) ∙ ap (λ l. a ∷ l) is)
 places_more a a' xs x ys xs' x' ys' e (one p q r) = one (ap (λ b. b ∷ xs) e ∙ ap (λ l. a' ∷ l) p) q r
 places_more a a' xs x ys xs' x' ys' e (later mid is) = later mid (ap (λ b. b ∷ xs) e ∙ ap (λ l. a' ∷ l) is)

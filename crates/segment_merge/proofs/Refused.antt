@@ -19,7 +19,8 @@ use Rattle.segment_merge.proofs.Pass.{all_with, joined_back, follows_only, MayFo
 within_row : (before : List (List Batch)) (front back : List Batch) (after : List (List Batch)) (b : Batch) → Contains (all_of (before ++ front ∷ [])) b
     → Contains (all_of (before ++ (front ++ back) ∷ after)) b
 within_row before front back after b h =
-    let row : all_of (before ++ (front ++ back) ∷ after) ≡ all_of before ++ ((front ++ back) ++ all_of after) = flat_map-append (λ s. s) before ((front ++ back) ∷ after) in
+    let row : all_of (before ++ (front ++ back) ∷ after) ≡ all_of before ++ ((front ++ back) ++ all_of after) = flat_map-append
+    (λ s. s) before ((front ++ back) ∷ after) in
     subst (λ xs. Contains xs b) (sym row) (elim (Contains-append_cases (all_of before) front b (subst (λ xs. Contains xs b) (all_with before front) h)) [
       | inl old ↦ Contains-append_left (all_of before) ((front ++ back) ++ all_of after) b old
       | inr here ↦ Contains-append_right (all_of before) ((front ++ back) ++ all_of after) b
@@ -40,14 +41,16 @@ begins_some bound [] batch b = b.1.1
 begins_some bound (a ∷ front) batch b = (contiguous_back a.first (a ∷ front) (batch ∷ []) b.1).1
 
 -- In a row that merges, a cut that merges may be moved after the next batch.
-pub grows : (first : ℕ) (before : List (List Batch)) (front : List Batch) (batch : Batch) (back : List Batch) (after : List (List Batch)) (merged kept : List Batch)
+pub grows : (first : ℕ) (before : List (List Batch)) (front : List Batch) (batch : Batch) (back : List Batch) (after : List (List Batch))
+    (merged kept : List Batch)
     → Merged first (before ++ (front ++ batch ∷ back) ∷ after) merged → Merged first (before ++ front ∷ []) kept
     → (more : List Batch) × Merged first (before ++ (front ++ batch ∷ []) ∷ []) more
 grows first before front batch back after merged kept whole cut =
     elim (Contains-append_cases kept rest.0 batch (subst (λ xs. Contains xs batch) rest.1 there)) [
       | inl old ↦ (kept, skipped first before front kept batch cut may some old)
       | inr new ↦
-          let low = (place_within (end_after first kept) rest.0 batch (contiguous_back first kept rest.0 (subst (λ xs. IsContiguous first xs) rest.1 whole.contiguous)) new).low in
+          let low = (place_within (end_after first kept) rest.0 batch
+          (contiguous_back first kept rest.0 (subst (λ xs. IsContiguous first xs) rest.1 whole.contiguous)) new).low in
           let up = at_most_next first before front kept batch cut may in
           (kept ++ batch ∷ [], appended first before front kept batch cut may some (omega (arith, low, up)))
     ]
@@ -55,7 +58,8 @@ grows first before front batch back after merged kept whole cut =
     begins : BeginsBy (greatest_end first (all_of before)) (front ++ batch ∷ [])
     begins = begins_cut (greatest_end first (all_of before)) (front ++ batch ∷ []) back
         (subst (λ s. BeginsBy (greatest_end first (all_of before)) s) (sym (append_assoc front (batch ∷ []) back))
-        (head_joined (greatest_end first (all_of before)) (front ++ batch ∷ back) after (joined_back first before ((front ++ batch ∷ back) ∷ after) whole.joined)))
+        (head_joined (greatest_end first (all_of before)) (front ++ batch ∷ back) after
+        (joined_back first before ((front ++ batch ∷ back) ∷ after) whole.joined)))
 
     may : MayFollow (expected_after first before front) front batch
     may = follows_only (greatest_end first (all_of before)) front batch begins
@@ -64,7 +68,8 @@ grows first before front batch back after merged kept whole cut =
     some = begins_some (greatest_end first (all_of before)) front batch begins
 
     rest : (rest : List Batch) × (merged ≡ kept ++ rest)
-    rest = is_front first kept merged cut.contiguous whole.contiguous (λ b h. (whole.same b).1 (within_row before front (batch ∷ back) after b ((cut.same b).0 h)))
+    rest = is_front first kept merged cut.contiguous whole.contiguous
+        (λ b h. (whole.same b).1 (within_row before front (batch ∷ back) after b ((cut.same b).0 h)))
 
     there : Contains merged batch
     there = (whole.same batch).1 (subst (λ xs. Contains xs batch)
@@ -74,13 +79,15 @@ grows first before front batch back after merged kept whole cut =
         (Contains-append_right front (batch ∷ back) batch (within_head batch back)))))
 
 -- the row, with the segment of a batch cut at it
-pub cut_row : (segments before : List SegmentRead) (segment : SegmentRead) (after : List SegmentRead) (split : List Batch) → segments ≡ before ++ segment ∷ after → segment.batches ≡ split
+pub cut_row : (segments before : List SegmentRead) (segment : SegmentRead) (after : List SegmentRead) (split : List Batch)
+    → segments ≡ before ++ segment ∷ after → segment.batches ≡ split
     → batches_in segments ≡ batches_in before ++ split ∷ batches_in after
 cut_row segments before segment after split row cut =
     ap batches_in row ∙ map-append (λ (s : SegmentRead). s.batches) before (segment ∷ after) ∙ ap (λ b. batches_in before ++ b ∷ batches_in after) cut
 
 -- A row that merges has no first wrong batch.
-pub merged_or_wrong : (first : ℕ) (segments : List SegmentRead) (merged : List Batch) (index expected : ℕ) (batch : Batch) → Merged first (batches_in segments) merged
+pub merged_or_wrong : (first : ℕ) (segments : List SegmentRead) (merged : List Batch) (index expected : ℕ) (batch : Batch)
+    → Merged first (batches_in segments) merged
     → IsFirstWrong first segments index expected batch → ⊥
 merged_or_wrong first segments merged index expected batch m w =
     let is = cut_row segments w.before w.segment w.after (w.front ++ batch ∷ w.back) w.row w.cut in

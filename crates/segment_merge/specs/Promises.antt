@@ -18,7 +18,8 @@ HasKept kept batch = Contains kept.batches batch
 
 -- Whatever segments are merged so far, the segment is merged after them or refused there.
 abbrev pub MergesSegment : SegmentRead → Kept → Kept → Result (Unit {0}) MergeFault → Type 0
-MergesSegment segment old new result = (first : ℕ) (before : List SegmentRead) → KeepsMerged first (batches_in before) old → SegmentAnswers first before segment new result
+MergesSegment segment old new result = (first : ℕ) (before : List SegmentRead) → KeepsMerged first (batches_in before) old
+    → SegmentAnswers first before segment new result
 
 -- Whatever the row merges to is answered, unless memory ran out.
 abbrev pub FindsMerged : ℕ → List SegmentRead → Result (List Batch) MergeFault → Type 0
@@ -36,7 +37,8 @@ RefusesConflict first row result = (index number : ℕ) → IsConflict first row
 
 -- Whatever segments are merged so far, the segment is merged after them or refused there.
 abbrev pub MergesSegmentLeniently : SegmentRead → Kept → Kept → Result (Unit {0}) MergeFault → Type 0
-MergesSegmentLeniently segment old new result = (before : List SegmentRead) → KeepsLenient (all_of (batches_in before)) old → LenientAnswers before segment new result
+MergesSegmentLeniently segment old new result = (before : List SegmentRead) → KeepsLenient (all_of (batches_in before)) old
+    → LenientAnswers before segment new result
 
 -- Whatever segments are merged so far, the row is merged after them or refused there.
 abbrev pub MergesRowLeniently : List SegmentRead → Kept → Kept → Result (Unit {0}) MergeFault → Type 0
@@ -48,16 +50,19 @@ AddsRow so_far row result = (before : List SegmentRead) → AreMergedOf before s
 
 -- Whatever they and the row merge to is answered, unless memory ran out.
 abbrev pub FindsMergedWithRow : List Batch → List SegmentRead → Result (List Batch) MergeFault → Type 0
-FindsMergedWithRow so_far row result = (before : List SegmentRead) (merged : List Batch) → AreMergedOf before so_far → AreMergedOf (before ++ row) merged → MergedOrMemory result merged
+FindsMergedWithRow so_far row result = (before : List SegmentRead) (merged : List Batch) → AreMergedOf before so_far
+    → AreMergedOf (before ++ row) merged → MergedOrMemory result merged
 
 -- A fault is one for which they and the row are refused, or out of memory.
 abbrev pub RefusesWithRow : List Batch → List SegmentRead → Result (List Batch) MergeFault → Type 0
-RefusesWithRow so_far row result = (before : List SegmentRead) → AreMergedOf before so_far → IfErr result (MemoryOrRefusal (IsRowLenientlyRefused (before ++ row)))
+RefusesWithRow so_far row result = (before : List SegmentRead) → AreMergedOf before so_far
+    → IfErr result (MemoryOrRefusal (IsRowLenientlyRefused (before ++ row)))
 
 -- A conflict of them and the row is answered, unless memory ran out.
 abbrev pub RefusesConflictWithRow : List Batch → List SegmentRead → Result (List Batch) MergeFault → Type 0
 RefusesConflictWithRow so_far row result =
-    (before : List SegmentRead) (index number : ℕ) → AreMergedOf before so_far → IsLenientConflict (before ++ row) index number → RefusedOrMemory result (faults.Conflict index number)
+    (before : List SegmentRead) (index number : ℕ) → AreMergedOf before so_far → IsLenientConflict (before ++ row) index number
+    → RefusedOrMemory result (faults.Conflict index number)
 
 -- Whatever the row merges to is answered, unless memory ran out.
 abbrev pub FindsLenientlyMerged : List SegmentRead → Result (List Batch) MergeFault → Type 0

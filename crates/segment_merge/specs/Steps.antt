@@ -32,7 +32,8 @@ pub record IsSkipped (old new : Kept) (batch : Batch) : Type 0 where
 -- It is out of order in its segment, or it doesn't begin at the number that is next and equals no kept batch.
 pub record IsDenied (old : Kept) (expected : ℕ) (is_first : Bool) (batch : Batch) : Type 0 where
   pub within : batch.first ≤ expected
-  pub wrong : (Follows is_first expected batch.first → ⊥) ⊎ ((Follows is_first expected batch.first) × (batch.first ≢ old.next) × (Contains old.batches batch → ⊥))
+  pub wrong : (Follows is_first expected batch.first → ⊥) ⊎ ((Follows is_first expected batch.first) × (batch.first ≢ old.next)
+      × (Contains old.batches batch → ⊥))
 
 -- What a step answers.
 abbrev pub Steps : Kept → Kept → ℕ → Bool → ℕ → Batch → Result (Unit {0}) MergeFault → Type 0

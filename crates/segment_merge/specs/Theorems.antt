@@ -14,11 +14,13 @@ MergesToOneList = (first : ℕ) (segments : List (List Batch)) (one other : List
 
 -- A row has at most one refusal.
 abbrev pub IsRefusedForOneFault : Type 0
-IsRefusedForOneFault = (first : ℕ) (segments : List SegmentRead) (one other : MergeFault) → IsRowRefused first segments one → IsRowRefused first segments other → one ≡ other
+IsRefusedForOneFault = (first : ℕ) (segments : List SegmentRead) (one other : MergeFault) → IsRowRefused first segments one
+    → IsRowRefused first segments other → one ≡ other
 
 -- No row is merged and refused.
 abbrev pub IsNotMergedAndRefused : Type 0
-IsNotMergedAndRefused = (first : ℕ) (segments : List SegmentRead) (merged : List Batch) (fault : MergeFault) → Merged first (batches_in segments) merged → IsRowRefused first segments fault → ⊥
+IsNotMergedAndRefused = (first : ℕ) (segments : List SegmentRead) (merged : List Batch) (fault : MergeFault)
+    → Merged first (batches_in segments) merged → IsRowRefused first segments fault → ⊥
 
 -- ---- where gaps are accepted
 
@@ -28,8 +30,10 @@ MergesLenientlyToOneList = (segments : List (List Batch)) (one other : List Batc
 
 -- A row has at most one refusal.
 abbrev pub IsLenientlyRefusedForOneFault : Type 0
-IsLenientlyRefusedForOneFault = (segments : List SegmentRead) (one other : MergeFault) → IsRowLenientlyRefused segments one → IsRowLenientlyRefused segments other → one ≡ other
+IsLenientlyRefusedForOneFault = (segments : List SegmentRead) (one other : MergeFault) → IsRowLenientlyRefused segments one
+    → IsRowLenientlyRefused segments other → one ≡ other
 
 -- No row is merged and refused.
 abbrev pub IsNotLenientlyMergedAndRefused : Type 0
-IsNotLenientlyMergedAndRefused = (segments : List SegmentRead) (merged : List Batch) (fault : MergeFault) → MergedLenient (batches_in segments) merged → IsRowLenientlyRefused segments fault → ⊥
+IsNotLenientlyMergedAndRefused = (segments : List SegmentRead) (merged : List Batch) (fault : MergeFault)
+    → MergedLenient (batches_in segments) merged → IsRowLenientlyRefused segments fault → ⊥

@@ -19,11 +19,13 @@ no_bytes = refl
 first_and_last : printed (0 ∷ 255 ∷ []) ≡ codes "\\x00\\xff"
 first_and_last = refl
 
-a_batch : batch_lines (record { first = 10; entries = Set (codes "a") (codes "1") ∷ Delete (codes "b") ∷ Note (codes "x") ∷ [] }) ≡ codes "batch 10 2\nset a 1\ndel b\nnote x\n"
+a_batch : batch_lines (record { first = 10; entries = Set (codes "a") (codes "1") ∷ Delete (codes "b") ∷ Note (codes "x") ∷ [] }) ≡ codes
+    "batch 10 2\nset a 1\ndel b\nnote x\n"
 unfolding digits
 a_batch = refl
 
-a_segment : segment_line (record { side = Primary; name = record { wal = 1; index = 0 }; len = 40; ends_at = 34; torn = true }) 1 ≡ codes "segment 000001.log primary bytes 40 records 1 ends 34 torn\n"
+a_segment : segment_line (record { side = Primary; name = record { wal = 1; index = 0 }; len = 40; ends_at = 34; torn = true }) 1 ≡ codes
+    "segment 000001.log primary bytes 40 records 1 ends 34 torn\n"
 unfolding digits
 a_segment = refl
 

@@ -22,10 +22,12 @@ Pairs = List (Bor (List ℕ) × Bor (List ℕ))
 abbrev cmp : Bor (List ℕ) → Bor (List ℕ) → Ordering
 cmp x y = slice_cmp nat_cmp x.now y.now
 
-before_each : (key : Bor (List ℕ)) (es : Pairs) → AllByRecursion (λ y. cmp key y ≡ Less) (keys_of es) → (other : Held) → Contains (map shown es) other → IsKeyBefore key.now other.key
+before_each : (key : Bor (List ℕ)) (es : Pairs) → AllByRecursion (λ y. cmp key y ≡ Less) (keys_of es) → (other : Held)
+    → Contains (map shown es) other → IsKeyBefore key.now other.key
 before_each key [] all other has = absurd (omega (arith, has.1))
 before_each key (e ∷ es) all other has =
-    ⊎_elim (λ (is : shown e ≡ other). subst (λ (h : Held). IsKeyBefore key.now h.key) is all.0) (λ (later : Contains (map shown es) other). before_each key es all.1 other later) (within_cases (shown e) (map shown es) other has)
+    ⊎_elim (λ (is : shown e ≡ other). subst (λ (h : Held). IsKeyBefore key.now h.key) is all.0)
+    (λ (later : Contains (map shown es) other). before_each key es all.1 other later) (within_cases (shown e) (map shown es) other has)
 
 pub ascends : (es : Pairs) → IsStrictlySortedBy cmp (keys_of es) → Ascends (map shown es)
 unfolding IsStrictlySortedBy Ascends
@@ -40,7 +42,8 @@ found key es = option_map (λ (v : Bor (List ℕ)). v.now) (lookup (λ (k : Bor 
 -- a key is found at itself
 found_here : (e : Bor (List ℕ) × Bor (List ℕ)) (es : Pairs) (key : List ℕ) → e.0.now ≡ key → found key (e ∷ es) ≡ Some e.1.now
 found_here e es key is =
-    let here : is_eq (slice_cmp nat_cmp key e.0.now) ≡ true = ap (λ (k : List ℕ). is_eq (slice_cmp nat_cmp key k)) is ∙ ap is_eq (tied_itself nat_list_cmp_total key) in
+    let here : is_eq (slice_cmp nat_cmp key e.0.now) ≡ true = ap (λ (k : List ℕ). is_eq (slice_cmp nat_cmp key k)) is
+    ∙ ap is_eq (tied_itself nat_list_cmp_total key) in
     rw here refl
 
 -- and passes a key that stands before it
@@ -55,13 +58,16 @@ tells [] up key value has = absurd (omega (arith, has.1))
 tells (e ∷ es) up key value has =
     let held : Held = record { key = key; value = value } in
     ⊎_elim (λ (is : shown e ≡ held). found_here e es key (ap (λ (h : Held). h.key) is) ∙ ap (λ (h : Held). Some h.value) is)
-    (λ (later : Contains (map shown es) held). found_later e es key (up.0 held later) ∙ tells es up.1 key value later) (within_cases (shown e) (map shown es) held has)
+    (λ (later : Contains (map shown es) held). found_later e es key (up.0 held later) ∙ tells es up.1 key value later)
+    (within_cases (shown e) (map shown es) held has)
 
 told : (es : Pairs) (key value : List ℕ) → found key es ≡ Some value → Contains (map shown es) (record { key = key; value = value })
 told [] key value is = absurd cc
 told (e ∷ es) key value is = go (is_eq (slice_cmp nat_cmp key e.0.now)) refl (told es key value)
   where
-    go : (b : Bool) → is_eq (slice_cmp nat_cmp key e.0.now) ≡ b → (found key es ≡ Some value → Contains (map shown es) (record { key = key; value = value })) → Contains (map shown (e ∷ es)) (record { key = key; value = value })
+    go : (b : Bool) → is_eq (slice_cmp nat_cmp key e.0.now) ≡ b
+        → (found key es ≡ Some value → Contains (map shown es) (record { key = key; value = value }))
+        → Contains (map shown (e ∷ es)) (record { key = key; value = value })
     go true here later =
         let same : key ≡ e.0.now = same_text key e.0.now (sym (sym (is_eq-slice_cmp key e.0.now) ∙ here)) in
         let first : Some e.1.now ≡ Some value = sym (found_here e es key (sym same)) ∙ is in
@@ -72,5 +78,6 @@ told (e ∷ es) key value is = go (is_eq (slice_cmp nat_cmp key e.0.now)) refl (
         let past : found key es ≡ found key (e ∷ es) = rw apart refl in
         within_tail (shown e) (map shown es) (record { key = key; value = value }) (later (past ∙ is))
 
-pub same : (es : Pairs) → IsStrictlySortedBy cmp (keys_of es) → (key value : List ℕ) → Contains (map shown es) (record { key = key; value = value }) ↔ (found key es ≡ Some value)
+pub same : (es : Pairs) → IsStrictlySortedBy cmp (keys_of es) → (key value : List ℕ)
+    → Contains (map shown es) (record { key = key; value = value }) ↔ (found key es ≡ Some value)
 same es sorted key value = (tells es (ascends es sorted) key value, told es key value)

@@ -35,7 +35,8 @@ torn_word false = codes "clean"
 -- `segment NAME SIDE bytes LEN records R ends E T`
 abbrev pub segment_line : SegmentLine → ℕ → List ℕ
 segment_line segment records =
-    codes "segment " ++ seg_text segment.name ++ codes " " ++ side_word segment.side ++ codes " bytes " ++ decimal segment.len ++ codes " records " ++ decimal records
+    codes "segment " ++ seg_text segment.name ++ codes " " ++ side_word segment.side ++ codes " bytes " ++ decimal segment.len ++ codes
+    " records " ++ decimal records
     ++ codes " ends " ++ decimal segment.ends_at ++ codes " " ++ torn_word segment.torn ++ 10 ∷ []
 
 -- `end batches B next N`

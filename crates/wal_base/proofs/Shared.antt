@@ -2,7 +2,8 @@
 use Rattle.std.proofs.Common.{◌≡◌, ℕ, ◌+◌, ◌-◌, ◌≤◌, List, length, take, drop, slice_range, arith, ap, sym, ◌∙◌, length-take}
 use Rattle.std.proofs.lemmas.List.{take-take, drop-drop, drop-take}
 
-pub part_of_part : (bytes : List ℕ) (start end from to : ℕ) → from ≤ to → to ≤ length (slice_range bytes start end) → slice_range bytes (start + from) (start + to) ≡ slice_range (slice_range bytes start end) from to
+pub part_of_part : (bytes : List ℕ) (start end from to : ℕ) → from ≤ to → to ≤ length (slice_range bytes start end)
+    → slice_range bytes (start + from) (start + to) ≡ slice_range (slice_range bytes start end) from to
 part_of_part bytes start end from to order within =
     let rest : List ℕ = drop start bytes in
     let inside : to ≤ end - start = omega (arith, length-take (end - start) rest, within) in

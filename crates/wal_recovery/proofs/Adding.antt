@@ -49,20 +49,23 @@ rises_ascend low (s ∷ []) h k d lt = absurd (omega (arith, lt))
 rises_ascend low (s ∷ t ∷ row) h zero d lt = let up : suc s.index ≤ t.index = h.1.0 in omega (arith, up)
 rises_ascend low (s ∷ t ∷ row) h (suc k) d lt =
     let e : suc k + 1 ≡ suc (k + 1) = omega arith in
-    subst (λ (n : ℕ). (get_or (t ∷ row) k d).index < (get_or (s ∷ t ∷ row) n d).index) (sym e) (rises_ascend (suc s.index) (t ∷ row) h.1 k d (omega (arith, lt)))
+    subst (λ (n : ℕ). (get_or (t ∷ row) k d).index < (get_or (s ∷ t ∷ row) n d).index) (sym e)
+    (rises_ascend (suc s.index) (t ∷ row) h.1 k d (omega (arith, lt)))
 
 module _ (tells : Bool) (files : Files) where
   pub adds_none : (old : List SegReport) → AddsSegments tells files [] old old
   adds_none old = record { own = []; reports = sym (append-nil old); as_many = refl; numbered = All-nil IsNumberedReport; holds = λ told listed. tt }
 
-  pub adds_more : (front : List Found) (f : Found) (index : ℕ) (old mid new : List SegReport) (row longer : List SegmentRead) → AddsSegments tells files front old mid → AddsSegment tells files f index mid new row longer
+  pub adds_more : (front : List Found) (f : Found) (index : ℕ) (old mid new : List SegReport) (row longer : List SegmentRead)
+      → AddsSegments tells files front old mid → AddsSegment tells files f index mid new row longer
       → AddsSegments tells files (front ++ f ∷ []) old new
   adds_more front f index old mid new row longer a b = record {
     own = a.own ++ b.report ∷ [];
     reports = b.reports ∙ ap (λ (l : List SegReport). l ++ b.report ∷ []) a.reports ∙ append_assoc old a.own (b.report ∷ []);
     as_many = length_push a.own b.report ∙ ap (λ (n : ℕ). n + 1) a.as_many ∙ sym (length_push front f);
     numbered = All-push IsNumberedReport a.own b.report a.numbered b.numbered;
-    holds = λ told listed. zip_push _ front a.own f b.report (a.holds told (listed_front files front f listed)) (b.holds told (listed_last files front f listed));
+    holds = λ told listed. zip_push _ front a.own f b.report (a.holds told (listed_front files front f listed))
+        (b.holds told (listed_last files front f listed));
   }
 
   by_index_push : (segments : List Stored) (row : List (List Batch)) (s : Stored) (batches : List Batch) → length row ≡ length segments
@@ -70,7 +73,8 @@ module _ (tells : Bool) (files : Files) where
   by_index_push [] [] s batches e = refl
   by_index_push [] (b ∷ row) s batches e = absurd (omega (arith, e))
   by_index_push (q ∷ segments) [] s batches e = absurd (omega (arith, e))
-  by_index_push (q ∷ segments) (b ∷ row) s batches e = ap (λ (l : List SegmentRead). record { index = q.index; batches = b } ∷ l) (by_index_push segments row s batches (omega (arith, e)))
+  by_index_push (q ∷ segments) (b ∷ row) s batches e = ap (λ (l : List SegmentRead). record { index = q.index; batches = b } ∷ l)
+      (by_index_push segments row s batches (omega (arith, e)))
 
   pub counted_length : (own : List SegReport) → length (counted_in own) ≡ length own
   counted_length [] = refl
@@ -84,13 +88,15 @@ module _ (tells : Bool) (files : Files) where
   unfolding adds_none
   wal_none old = record { added = adds_none old; rows = refl }
 
-  pub wal_more : (front : List Found) (f : Found) (old mid new : List SegReport) (row longer : List SegmentRead) → GathersWal tells files front old mid row → AddsSegment tells files f f.name.index mid new row longer
+  pub wal_more : (front : List Found) (f : Found) (old mid new : List SegReport) (row longer : List SegmentRead)
+      → GathersWal tells files front old mid row → AddsSegment tells files f f.name.index mid new row longer
       → GathersWal tells files (front ++ f ∷ []) old new longer
   unfolding adds_more
   wal_more front f old mid new row longer a b = record {
     added = adds_more front f f.name.index old mid new row longer a.added b;
     rows =
-        let many : length (counted_in a.added.own) ≡ length (map (stored_in files) front) = counted_length a.added.own ∙ a.added.as_many ∙ sym (stored_length front) in
+        let many : length (counted_in a.added.own) ≡ length (map (stored_in files) front) = counted_length a.added.own ∙ a.added.as_many
+        ∙ sym (stored_length front) in
         b.rows ∙ ap (λ (l : List SegmentRead). l ++ read_as f.name.index b.report ∷ []) a.rows
         ∙ sym (by_index_push (map (stored_in files) front) (counted_in a.added.own) (stored_in files f) (taking_numbers b.report.batches) many)
         ∙ ap (λ (l : List Stored). by_index l (counted_in a.added.own ++ taking_numbers b.report.batches ∷ [])) (sym (mapped_push (stored_in files) front f))
@@ -105,25 +111,32 @@ module _ (tells : Bool) (files : Files) where
   index_rises low (s ∷ segments) [] by = tt
   index_rises low (s ∷ segments) (b ∷ row) by = (by.0, index_rises (suc s.index) segments row by.1)
 
-  index_numbered : (segments : List Stored) (own : List SegReport) → AllByRecursion IsNumberedReport own → AllByRecursion IsNumberedSegment (by_index segments (counted_in own))
+  index_numbered : (segments : List Stored) (own : List SegReport) → AllByRecursion IsNumberedReport own
+      → AllByRecursion IsNumberedSegment (by_index segments (counted_in own))
   index_numbered [] own h = tt
   index_numbered (s ∷ segments) [] h = tt
   index_numbered (s ∷ segments) (r ∷ own) h = (h.0, index_numbered segments own h.1)
 
-  pub wal_row : (segments : List Found) (old new : List SegReport) (row : List SegmentRead) → AreByIndex 0 (map (stored_in files) segments) → GathersWal tells files segments old new row → IsRow row
+  pub wal_row : (segments : List Found) (old new : List SegReport) (row : List SegmentRead) → AreByIndex 0 (map (stored_in files) segments)
+      → GathersWal tells files segments old new row → IsRow row
   wal_row segments old new row by g = subst IsRow (sym g.rows) (record {
-    indexes = rises_ascend 0 (by_index (map (stored_in files) segments) (counted_in g.added.own)) (index_rises 0 (map (stored_in files) segments) (counted_in g.added.own) by);
+    indexes = rises_ascend 0 (by_index (map (stored_in files) segments) (counted_in g.added.own))
+        (index_rises 0 (map (stored_in files) segments) (counted_in g.added.own) by);
     numbered = All-from_recursion IsNumberedSegment (by_index (map (stored_in files) segments) (counted_in g.added.own))
         (index_numbered (map (stored_in files) segments) g.added.own (recursion_from_All IsNumberedReport g.added.own g.added.numbered));
   })
 
   -- ---- the segment at a place of a list
 
-  pub wal_step : (before : Files) → before ≡ files → (segments : List Found) (i : ℕ) (d : Found) (old mid new : List SegReport) (row longer : List SegmentRead) → i < length segments → GathersWal tells files (take i segments) old mid row
-      → AddsSegment tells before (get_or segments i d) (get_or segments i d).name.index mid new row longer → GathersWal tells files (take (i + 1) segments) old new longer
+  pub wal_step : (before : Files) → before ≡ files → (segments : List Found) (i : ℕ) (d : Found) (old mid new : List SegReport)
+      (row longer : List SegmentRead) → i < length segments → GathersWal tells files (take i segments) old mid row
+      → AddsSegment tells before (get_or segments i d) (get_or segments i d).name.index mid new row longer
+      → GathersWal tells files (take (i + 1) segments) old new longer
   wal_step before same segments i d old mid new row longer lt a added =
-      let b : AddsSegment tells files (get_or segments i d) (get_or segments i d).name.index mid new row longer = subst (λ (fs : Files). AddsSegment tells fs (get_or segments i d) (get_or segments i d).name.index mid new row longer) same added in
-      subst (λ (l : List Found). GathersWal tells files l old new longer) (sym (take_more segments i d lt)) (wal_more (take i segments) (get_or segments i d) old mid new row longer a b)
+      let b : AddsSegment tells files (get_or segments i d) (get_or segments i d).name.index mid new row longer = subst
+      (λ (fs : Files). AddsSegment tells fs (get_or segments i d) (get_or segments i d).name.index mid new row longer) same added in
+      subst (λ (l : List Found). GathersWal tells files l old new longer) (sym (take_more segments i d lt))
+      (wal_more (take i segments) (get_or segments i d) old mid new row longer a b)
 
   listed_prefix : (xs ys : List Found) → AreAsListed files (xs ++ ys) → AreAsListed files xs
   listed_prefix xs ys listed k d lt =
@@ -133,7 +146,8 @@ module _ (tells : Bool) (files : Files) where
   cut_at : (segments : List Found) (i : ℕ) (d : Found) → i < length segments → segments ≡ take i segments ++ get_or segments i d ∷ drop (i + 1) segments
   cut_at segments i d lt = sym (ap (λ (l : List Found). take i segments ++ l) (sym (drop_more segments i d lt)) ∙ take-append-drop i segments)
 
-  bad_here : (segments : List Found) (i : ℕ) (d : Found) (old mid : List SegReport) (fault : RecoverFault) → i < length segments → AddsSegments tells files (take i segments) old mid → IsTrue tells → AreAsListed files segments
+  bad_here : (segments : List Found) (i : ℕ) (d : Found) (old mid : List SegReport) (fault : RecoverFault) → i < length segments
+      → AddsSegments tells files (take i segments) old mid → IsTrue tells → AreAsListed files segments
       → IsBadIn (get_or segments i d) (bytes_at files (place_listed (get_or segments i d))) fault → IsFirstBadOf files segments fault
   bad_here segments i d old mid fault lt a told listed bad = record {
     before = take i segments;
@@ -141,20 +155,28 @@ module _ (tells : Bool) (files : Files) where
     after = drop (i + 1) segments;
     cut = cut_at segments i d lt;
     reports = a.own;
-    right = a.holds told (listed_prefix (take i segments) (get_or segments i d ∷ drop (i + 1) segments) (subst (AreAsListed files) (cut_at segments i d lt) listed));
+    right = a.holds told (listed_prefix (take i segments) (get_or segments i d ∷ drop (i + 1) segments)
+        (subst (AreAsListed files) (cut_at segments i d lt) listed));
     bad = bad;
   }
 
   -- a segment that is refused is the first that is
-  pub first_bad : (before : Files) → before ≡ files → (segments : List Found) (i : ℕ) (d : Found) (old mid : List SegReport) (fault : RecoverFault) → i < length segments → AddsSegments tells files (take i segments) old mid → IsTrue tells → AreAsListed files segments
-      → (IsAsListed before (get_or segments i d) → DiskMemoryOr (IsBadIn (get_or segments i d) (bytes_at before (place_listed (get_or segments i d)))) fault) → DiskMemoryOr (IsFirstBadOf files segments) fault
-  first_bad before same segments i d old mid fault lt a told listed bad_before = go fault (bad (listed i d lt)) (bad_here segments i d old mid fault lt a told listed)
+  pub first_bad : (before : Files) → before ≡ files → (segments : List Found) (i : ℕ) (d : Found) (old mid : List SegReport)
+      (fault : RecoverFault) → i < length segments → AddsSegments tells files (take i segments) old mid → IsTrue tells
+      → AreAsListed files segments
+      → (IsAsListed before (get_or segments i d) → DiskMemoryOr
+      (IsBadIn (get_or segments i d) (bytes_at before (place_listed (get_or segments i d)))) fault)
+      → DiskMemoryOr (IsFirstBadOf files segments) fault
+  first_bad before same segments i d old mid fault lt a told listed bad_before = go fault (bad (listed i d lt))
+      (bad_here segments i d old mid fault lt a told listed)
     where
       bad : IsAsListed files (get_or segments i d) → DiskMemoryOr (IsBadIn (get_or segments i d) (bytes_at files (place_listed (get_or segments i d)))) fault
-      bad = subst (λ (fs : Files). IsAsListed fs (get_or segments i d) → DiskMemoryOr (IsBadIn (get_or segments i d) (bytes_at fs (place_listed (get_or segments i d)))) fault) same bad_before
+      bad = subst (λ (fs : Files). IsAsListed fs (get_or segments i d)
+          → DiskMemoryOr (IsBadIn (get_or segments i d) (bytes_at fs (place_listed (get_or segments i d)))) fault) same bad_before
 
       go : (f : RecoverFault) → DiskMemoryOr (IsBadIn (get_or segments i d) (bytes_at files (place_listed (get_or segments i d)))) f
-          → (IsBadIn (get_or segments i d) (bytes_at files (place_listed (get_or segments i d))) f → IsFirstBadOf files segments f) → DiskMemoryOr (IsFirstBadOf files segments) f
+          → (IsBadIn (get_or segments i d) (bytes_at files (place_listed (get_or segments i d))) f → IsFirstBadOf files segments f)
+          → DiskMemoryOr (IsFirstBadOf files segments) f
       go (faults.Disk side) h k = tt
       go (faults.DuplicateSegment wal index) h k = k h
       go (faults.BadBatch wal index place fault_) h k = k h

@@ -43,7 +43,8 @@ twice_refused mode dirs faults.NoMemory r = tt
 
 module _ (mode : Mode) (dirs : Dirs) (tells : Bool) (told : IsTrue tells) where
   pub only_recovered : (result : Result Recovered RecoverFault) → IfOk result (λ (found : Recovered). IsTrue tells → RecoversBy mode dirs found.batches)
-      → IfErr result (λ (fault : RecoverFault). IsTrue tells → DiskMemoryOr (IsRefusedBy mode dirs) fault) → (merged : List Batch) → RecoversBy mode dirs merged → OkOrFailed result merged
+      → IfErr result (λ (fault : RecoverFault). IsTrue tells → DiskMemoryOr (IsRefusedBy mode dirs) fault) → (merged : List Batch)
+      → RecoversBy mode dirs merged → OkOrFailed result merged
   only_recovered (Ok found) is why merged h = once mode dirs found.batches merged (is told) h
   only_recovered (Err (faults.Disk side)) is why merged h = tt
   only_recovered (Err (faults.DuplicateSegment w i)) is why merged h = not_both mode dirs merged (faults.DuplicateSegment w i) h (why told)
@@ -53,7 +54,8 @@ module _ (mode : Mode) (dirs : Dirs) (tells : Bool) (told : IsTrue tells) where
   only_recovered (Err faults.NoMemory) is why merged h = tt
 
   pub only_refused : (result : Result Recovered RecoverFault) → IfOk result (λ (found : Recovered). IsTrue tells → RecoversBy mode dirs found.batches)
-      → IfErr result (λ (fault : RecoverFault). IsTrue tells → DiskMemoryOr (IsRefusedBy mode dirs) fault) → (fault : RecoverFault) → IsRefusedBy mode dirs fault → ErrOrFailed result fault
+      → IfErr result (λ (fault : RecoverFault). IsTrue tells → DiskMemoryOr (IsRefusedBy mode dirs) fault) → (fault : RecoverFault)
+      → IsRefusedBy mode dirs fault → ErrOrFailed result fault
   only_refused (Ok found) is why fault r = not_both mode dirs found.batches fault (is told) r
   only_refused (Err (faults.Disk side)) is why fault r = tt
   only_refused (Err (faults.DuplicateSegment w i)) is why fault r = one_reason mode dirs (faults.DuplicateSegment w i) fault (why told) r
@@ -66,10 +68,12 @@ module _ (mode : Mode) (dirs : Dirs) (tells : Bool) (told : IsTrue tells) where
 
 module _ (old mid : DiskView) (same : SameDisk old mid) where
   pub row_behind : (row segments : List Found) → row ≡ segments → IsRowOf (files old) segments → IsRowOf (files mid) row
-  row_behind row segments is listed = subst (λ (fs : Files). IsRowOf fs row) (sym (same_files old mid same)) (subst (λ (r : List Found). IsRowOf (files old) r) (sym is) listed)
+  row_behind row segments is listed = subst (λ (fs : Files). IsRowOf fs row) (sym (same_files old mid same))
+      (subst (λ (r : List Found). IsRowOf (files old) r) (sym is) listed)
 
   module _ (mode arm : Mode) (is : mode ≡ arm) (tells : Bool) (result : Result Recovered RecoverFault) where
-    pub recovered_before : IfOk result (λ (found : Recovered). IsTrue tells → RecoversBy arm (dirs_as_read (files mid)) found.batches) → IfOk result (λ (found : Recovered). IsTrue tells → RecoversBy mode (dirs_as_read (files old)) found.batches)
+    pub recovered_before : IfOk result (λ (found : Recovered). IsTrue tells → RecoversBy arm (dirs_as_read (files mid)) found.batches)
+        → IfOk result (λ (found : Recovered). IsTrue tells → RecoversBy mode (dirs_as_read (files old)) found.batches)
     recovered_before h =
         subst (λ (m : Mode). IfOk result (λ (found : Recovered). IsTrue tells → RecoversBy m (dirs_as_read (files old)) found.batches)) (sym is)
         (subst (λ (fs : Files). IfOk result (λ (found : Recovered). IsTrue tells → RecoversBy arm (dirs_as_read fs) found.batches)) (same_files old mid same) h)
@@ -78,8 +82,11 @@ module _ (old mid : DiskView) (same : SameDisk old mid) where
         → IfErr result (λ (fault : RecoverFault). IsTrue tells → DiskMemoryOr (IsRefusedBy mode (dirs_as_read (files old))) fault)
     refused_before h =
         subst (λ (m : Mode). IfErr result (λ (fault : RecoverFault). IsTrue tells → DiskMemoryOr (IsRefusedBy m (dirs_as_read (files old))) fault)) (sym is)
-        (subst (λ (fs : Files). IfErr result (λ (fault : RecoverFault). IsTrue tells → DiskMemoryOr (IsRefusedBy arm (dirs_as_read fs)) fault)) (same_files old mid same) h)
+        (subst (λ (fs : Files). IfErr result (λ (fault : RecoverFault). IsTrue tells
+        → DiskMemoryOr (IsRefusedBy arm (dirs_as_read fs)) fault)) (same_files old mid same) h)
 
-  pub reported_before : (tells : Bool) (result : Result Recovered RecoverFault) → IfOk result (λ (found : Recovered). IsTrue tells → AreReports (dirs_as_read (files mid)) found.segments)
+  pub reported_before : (tells : Bool) (result : Result Recovered RecoverFault)
+      → IfOk result (λ (found : Recovered). IsTrue tells → AreReports (dirs_as_read (files mid)) found.segments)
       → IfOk result (λ (found : Recovered). IsTrue tells → AreReports (dirs_as_read (files old)) found.segments)
-  reported_before tells result h = subst (λ (fs : Files). IfOk result (λ (found : Recovered). IsTrue tells → AreReports (dirs_as_read fs) found.segments)) (same_files old mid same) h
+  reported_before tells result h = subst (λ (fs : Files). IfOk result
+      (λ (found : Recovered). IsTrue tells → AreReports (dirs_as_read fs) found.segments)) (same_files old mid same) h

@@ -22,7 +22,8 @@ use Rattle.wal_recovery.specs.Asking.{AsksOnce, ListsBoth, length_in_row, ReadsO
 abbrev bytes_here : Side → SegName → Found → ℕ
 bytes_here side name f = if side_eq side f.side && name_eq name f.name then f.len else 0
 
-bytes_append : (side : Side) (name : SegName) (front back : List Found) → length_in_row side name (front ++ back) ≡ length_in_row side name front + length_in_row side name back
+bytes_append : (side : Side) (name : SegName) (front back : List Found)
+    → length_in_row side name (front ++ back) ≡ length_in_row side name front + length_in_row side name back
 bytes_append side name front back = sum_by-append (bytes_here side name) front back
 
 -- ---- calls that list nothing
@@ -67,7 +68,8 @@ reads_one f len old new is le = record {
   makes = is;
   lists = λ side. refl;
   listed = λ side name. refl;
-  asked = λ side name. sum_less (if side_eq side f.side && name_eq name f.name then len else 0) (bytes_here side name f) (if_less (side_eq side f.side && name_eq name f.name) len f.len le);
+  asked = λ side name. sum_less (if side_eq side f.side && name_eq name f.name then len else 0) (bytes_here side name f)
+      (if_less (side_eq side f.side && name_eq name f.name) len f.len le);
 }
 
 pub starts_one : (id : OpId) (old new : DiskView) → new.calls ≡ was_started id ∷ old.calls → ReadsOnly [] old new
@@ -83,10 +85,12 @@ abbrev lengths : Side → SegName → List Listed → List Listed → ℕ
 lengths Primary name ones others = length_among name ones
 lengths Secondary name ones others = length_among name others
 
-among_cons : (name : SegName) (item : Listed) (items : List Listed) → length_among name (item ∷ items) ≡ (if name_eq name item.name then item.len else 0) + length_among name items
+among_cons : (name : SegName) (item : Listed) (items : List Listed)
+    → length_among name (item ∷ items) ≡ (if name_eq name item.name then item.len else 0) + length_among name items
 among_cons name item items = sum_by-cons (λ (x : Listed). if name_eq name x.name then x.len else 0) item items
 
-bytes_cons : (side : Side) (name : SegName) (f : Found) (row : List Found) → length_in_row side name (f ∷ row) ≡ bytes_here side name f + length_in_row side name row
+bytes_cons : (side : Side) (name : SegName) (f : Found) (row : List Found)
+    → length_in_row side name (f ∷ row) ≡ bytes_here side name f + length_in_row side name row
 bytes_cons side name f row = sum_by-cons (bytes_here side name) f row
 
 before_none : (n : ℕ) → n ≡ 0 + n
@@ -96,17 +100,23 @@ between_none : (n : ℕ) → 0 + n + 0 ≡ n
 between_none n = omega arith
 
 -- a segment that is taken of a side is listed there
-taken : (side : Side) (name : SegName) (f : Found) (ones others a b : List Listed) → Takes f ones others a b → lengths side name ones others ≡ bytes_here side name f + lengths side name a b
+taken : (side : Side) (name : SegName) (f : Found) (ones others a b : List Listed) → Takes f ones others a b
+    → lengths side name ones others ≡ bytes_here side name f + lengths side name a b
 taken Primary name f ones others a b (inl (is, one, other, before)) =
-    ap (length_among name) one ∙ among_cons name (item_of f) a ∙ ap (λ (s : Side). (if side_eq Primary s && name_eq name f.name then f.len else 0) + length_among name a) (sym is)
+    ap (length_among name) one ∙ among_cons name (item_of f) a ∙ ap
+    (λ (s : Side). (if side_eq Primary s && name_eq name f.name then f.len else 0) + length_among name a) (sym is)
 taken Secondary name f ones others a b (inl (is, one, other, before)) =
-    ap (length_among name) other ∙ before_none (length_among name b) ∙ ap (λ (s : Side). (if side_eq Secondary s && name_eq name f.name then f.len else 0) + length_among name b) (sym is)
+    ap (length_among name) other ∙ before_none (length_among name b)
+    ∙ ap (λ (s : Side). (if side_eq Secondary s && name_eq name f.name then f.len else 0) + length_among name b) (sym is)
 taken Primary name f ones others a b (inr (is, other, one, before)) =
-    ap (length_among name) one ∙ before_none (length_among name a) ∙ ap (λ (s : Side). (if side_eq Primary s && name_eq name f.name then f.len else 0) + length_among name a) (sym is)
+    ap (length_among name) one ∙ before_none (length_among name a)
+    ∙ ap (λ (s : Side). (if side_eq Primary s && name_eq name f.name then f.len else 0) + length_among name a) (sym is)
 taken Secondary name f ones others a b (inr (is, other, one, before)) =
-    ap (length_among name) other ∙ among_cons name (item_of f) b ∙ ap (λ (s : Side). (if side_eq Secondary s && name_eq name f.name then f.len else 0) + length_among name b) (sym is)
+    ap (length_among name) other ∙ among_cons name (item_of f) b
+    ∙ ap (λ (s : Side). (if side_eq Secondary s && name_eq name f.name then f.len else 0) + length_among name b) (sym is)
 
-woven : (side : Side) (name : SegName) (row : List Found) (ones others : List Listed) → Weaves row ones others [] [] → lengths side name ones others ≡ length_in_row side name row
+woven : (side : Side) (name : SegName) (row : List Found) (ones others : List Listed) → Weaves row ones others [] []
+    → lengths side name ones others ≡ length_in_row side name row
 unfolding Weaves
 woven Primary name [] ones others w = ap (length_among name) w.0
 woven Secondary name [] ones others w = ap (length_among name) w.1
@@ -114,7 +124,8 @@ woven side name (f ∷ row) ones others (a, b, takes, rest) =
     taken side name f ones others a b takes ∙ ap (λ (n : ℕ). bytes_here side name f + n) (woven side name row a b rest) ∙ sym (bytes_cons side name f row)
 
 -- both sides are listed, and the row is woven of what they gave
-pub lists_row : (row : List Found) (ones others : List Listed) (old mid new : DiskView) → Makes (was_listed Primary ones ∷ []) old mid → Makes (was_listed Secondary others ∷ []) mid new → Weaves row ones others [] [] → ListsRow row old new
+pub lists_row : (row : List Found) (ones others : List Listed) (old mid new : DiskView) → Makes (was_listed Primary ones ∷ []) old mid
+    → Makes (was_listed Secondary others ∷ []) mid new → Weaves row ones others [] [] → ListsRow row old new
 lists_row row ones others old mid new a b w = record {
   made = was_listed Secondary others ∷ was_listed Primary ones ∷ [];
   makes = makes_further (was_listed Primary ones ∷ []) (was_listed Secondary others ∷ []) old mid new a b;
@@ -132,7 +143,8 @@ lists_row row ones others old mid new a b w = record {
     given Secondary name = between_none (length_among name others) ∙ woven Secondary name row ones others w
 
 -- at most one listing of each side, and no read
-pub lists_two : (ones others : List Listed) (old mid new : DiskView) → Makes (was_listed Primary ones ∷ []) old mid → Makes (was_listed Secondary others ∷ []) mid new → AsksOnce old new
+pub lists_two : (ones others : List Listed) (old mid new : DiskView) → Makes (was_listed Primary ones ∷ []) old mid
+    → Makes (was_listed Secondary others ∷ []) mid new → AsksOnce old new
 lists_two ones others old mid new a b = record {
   made = was_listed Secondary others ∷ was_listed Primary ones ∷ [];
   makes = makes_further (was_listed Primary ones ∷ []) (was_listed Secondary others ∷ []) old mid new a b;
@@ -192,19 +204,23 @@ pub reads_nothing : (old mid new : DiskView) → ReadsOnly [] old mid → ReadsO
 reads_nothing old mid new a b = reads_more [] [] old mid new a b
 
 -- one segment more of a row
-pub reads_taken : (row : List Found) (i : ℕ) (d : Found) (old mid new : DiskView) → i < length row → ReadsOnly (take i row) old mid → ReadsOnly (get_or row i d ∷ []) mid new → ReadsOnly (take (i + 1) row) old new
+pub reads_taken : (row : List Found) (i : ℕ) (d : Found) (old mid new : DiskView) → i < length row → ReadsOnly (take i row) old mid
+    → ReadsOnly (get_or row i d ∷ []) mid new → ReadsOnly (take (i + 1) row) old new
 reads_taken row i d old mid new lt a b =
     subst (λ (r : List Found). ReadsOnly r old new) (sym (take_more row i d lt)) (reads_more (take i row) (get_or row i d ∷ []) old mid new a b)
 
-pub reads_within : (row : List Found) (i : ℕ) (d : Found) (old mid new : DiskView) → i < length row → ReadsOnly (take i row) old mid → ReadsOnly (get_or row i d ∷ []) mid new → ReadsOnly row old new
+pub reads_within : (row : List Found) (i : ℕ) (d : Found) (old mid new : DiskView) → i < length row → ReadsOnly (take i row) old mid
+    → ReadsOnly (get_or row i d ∷ []) mid new → ReadsOnly row old new
 reads_within row i d old mid new lt a b =
-    subst (λ (r : List Found). ReadsOnly r old new) (take-append-drop (i + 1) row) (reads_wider (take (i + 1) row) (drop (i + 1) row) old new (reads_taken row i d old mid new lt a b))
+    subst (λ (r : List Found). ReadsOnly r old new) (take-append-drop (i + 1) row)
+    (reads_wider (take (i + 1) row) (drop (i + 1) row) old new (reads_taken row i d old mid new lt a b))
 
 found_append : (front back : List FoundWal) → found_in (front ++ back) ≡ found_in front ++ found_in back
 found_append front back = flat_map-append (λ (wal : FoundWal). wal.segments.items) front back
 
 -- one WAL more
-pub reads_wal : (wals : List FoundWal) (i : ℕ) (wal : FoundWal) (old mid new : DiskView) → StandsAt wals i wal → ReadsOnly (found_in (take i wals)) old mid → ReadsOnly wal.segments.items mid new → ReadsOnly (found_in (take (i + 1) wals)) old new
+pub reads_wal : (wals : List FoundWal) (i : ℕ) (wal : FoundWal) (old mid new : DiskView) → StandsAt wals i wal
+    → ReadsOnly (found_in (take i wals)) old mid → ReadsOnly wal.segments.items mid new → ReadsOnly (found_in (take (i + 1) wals)) old new
 reads_wal wals i wal old mid new at a b =
     let longer : found_in (take (i + 1) wals) ≡ found_in (take i wals) ++ wal.segments.items =
     ap found_in (take_more wals i wal at.within ∙ ap (λ (w : FoundWal). take i wals ++ w ∷ []) (sym at.is))
@@ -212,7 +228,8 @@ reads_wal wals i wal old mid new at a b =
     ∙ ap (λ (r : List Found). found_in (take i wals) ++ r) (append-nil wal.segments.items) in
     subst (λ (r : List Found). ReadsOnly r old new) (sym longer) (reads_more (found_in (take i wals)) wal.segments.items old mid new a b)
 
-pub reads_wal_within : (wals : List FoundWal) (i : ℕ) (wal : FoundWal) (old mid new : DiskView) → StandsAt wals i wal → ReadsOnly (found_in (take i wals)) old mid → ReadsOnly wal.segments.items mid new → ReadsOnly (found_in wals) old new
+pub reads_wal_within : (wals : List FoundWal) (i : ℕ) (wal : FoundWal) (old mid new : DiskView) → StandsAt wals i wal
+    → ReadsOnly (found_in (take i wals)) old mid → ReadsOnly wal.segments.items mid new → ReadsOnly (found_in wals) old new
 reads_wal_within wals i wal old mid new at a b =
     subst (λ (r : List Found). ReadsOnly r old new) (sym (found_append (take (i + 1) wals) (drop (i + 1) wals)) ∙ ap found_in (take-append-drop (i + 1) wals))
     (reads_wider (found_in (take (i + 1) wals)) (found_in (drop (i + 1) wals)) old new (reads_wal wals i wal old mid new at a b))

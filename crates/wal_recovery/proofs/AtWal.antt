@@ -62,46 +62,65 @@ module _ (files : Files) where
     order_at by =
         let cut = cut_at wals i wal at.within at.is in
         by_index_at 0 (wals_in files wals) (wal_in files wal) by
-        (subst (λ (l : List Wal). Contains l (wal_in files wal)) (sym cut.1) (Contains-append_right (wals_in files (take i wals)) (wal_in files wal ∷ cut.0) (wal_in files wal) (within_head (wal_in files wal) cut.0)))
+        (subst (λ (l : List Wal). Contains l (wal_in files wal)) (sym cut.1)
+        (Contains-append_right (wals_in files (take i wals)) (wal_in files wal ∷ cut.0) (wal_in files wal)
+        (within_head (wal_in files wal) cut.0)))
 
     -- it is as it was listed
     pub listed_at : AreListedWals files wals → AreAsListed files wal.segments.items
     listed_at listed = at_place (λ (w : FoundWal). AreAsListed files w.segments.items) wals i wal at listed.as_listed
 
     -- those up to it merge
-    pub merged_at : (first next : ℕ) (base own longer : List Batch) → next ≡ end_after first base → longer ≡ base ++ own → WalsMerge first (wals_in files (take i wals)) base
-        → (AreAsListed files wal.segments.items → WalMerges next (wal_in files wal) own) → AreListedWals files wals → WalsMerge first (wals_in files (take (i + 1) wals)) longer
+    pub merged_at : (first next : ℕ) (base own longer : List Batch) → next ≡ end_after first base → longer ≡ base ++ own
+        → WalsMerge first (wals_in files (take i wals)) base
+        → (AreAsListed files wal.segments.items → WalMerges next (wal_in files wal) own) → AreListedWals files wals
+        → WalsMerge first (wals_in files (take (i + 1) wals)) longer
     merged_at first next base own longer from is before here listed =
         subst (WalsMerge first (wals_in files (take (i + 1) wals))) (sym is)
         (subst (λ (l : List Wal). WalsMerge first l (base ++ own)) (sym more)
-        (wals_more first (wals_in files (take i wals)) (wal_in files wal) base own before (subst (λ (n : ℕ). WalMerges n (wal_in files wal) own) from (here (listed_at listed)))))
+        (wals_more first (wals_in files (take i wals)) (wal_in files wal) base own before
+        (subst (λ (n : ℕ). WalMerges n (wal_in files wal) own) from (here (listed_at listed)))))
 
     -- the reports up to it
-    pub reports_at : (old new : List SegReport) → ReportOnAll (wals_in files (take i wals)) old → (AreAsListed files wal.segments.items → AddsReports (wal_in files wal) old new)
+    pub reports_at : (old new : List SegReport) → ReportOnAll (wals_in files (take i wals)) old
+        → (AreAsListed files wal.segments.items → AddsReports (wal_in files wal) old new)
         → AreListedWals files wals → ReportOnAll (wals_in files (take (i + 1) wals)) new
     reports_at old new before here listed =
         let added = here (listed_at listed) in
         subst (ReportOnAll (wals_in files (take (i + 1) wals))) (sym added.reports)
-        (subst (λ (l : List Wal). ReportOnAll l (old ++ added.own)) (sym more) (reports_push (wals_in files (take i wals)) (wal_in files wal) old added.own before added.on))
+        (subst (λ (l : List Wal). ReportOnAll l (old ++ added.own)) (sym more)
+        (reports_push (wals_in files (take i wals)) (wal_in files wal) old added.own before added.on))
 
     -- what refuses it refuses the directories
-    pub refused_at : (next : ℕ) (base : List Batch) (fault : RecoverFault) → next ≡ end_after NUMBER_FIRST base → WalsMerge NUMBER_FIRST (wals_in files (take i wals)) base
-        → (AreAsListed files wal.segments.items → DiskMemoryOr (IsRefusedWal next (wal_in files wal)) fault) → AreListedWals files wals → DiskMemoryOr (IsRefused (dirs_as_read files)) fault
-    refused_at next base fault from before here listed = go fault (subst (λ (n : ℕ). DiskMemoryOr (IsRefusedWal n (wal_in files wal)) fault) from (here (listed_at listed)))
+    pub refused_at : (next : ℕ) (base : List Batch) (fault : RecoverFault) → next ≡ end_after NUMBER_FIRST base
+        → WalsMerge NUMBER_FIRST (wals_in files (take i wals)) base
+        → (AreAsListed files wal.segments.items → DiskMemoryOr (IsRefusedWal next (wal_in files wal)) fault) → AreListedWals files wals
+        → DiskMemoryOr (IsRefused (dirs_as_read files)) fault
+    refused_at next base fault from before here listed = go fault
+        (subst (λ (n : ℕ). DiskMemoryOr (IsRefusedWal n (wal_in files wal)) fault) from (here (listed_at listed)))
       where
         reached : Reaches (dirs_as_read files) wal.number (map (stored_in files) wal.segments.items) base
         reached =
             let cut = cut_at wals i wal at.within at.is in
-            record { before = wals_in files (take i wals); after = cut.0; listed = subst (IsListingOf (dirs_as_read files)) cut.1 listed.listed; merged = before }
+            record {
+              before = wals_in files (take i wals);
+              after = cut.0;
+              listed = subst (IsListingOf (dirs_as_read files)) cut.1 listed.listed;
+              merged = before;
+            }
 
         row_of : HoldsRow (wal_in files wal) → ReachesRow (dirs_as_read files) wal.number
         row_of held = record { segments = map (stored_in files) wal.segments.items; base = base; reached = reached; row = held.row; holds = held.holds }
 
-        go : (fault : RecoverFault) → DiskMemoryOr (IsRefusedWal (end_after NUMBER_FIRST base) (wal_in files wal)) fault → DiskMemoryOr (IsRefused (dirs_as_read files)) fault
+        go : (fault : RecoverFault) → DiskMemoryOr (IsRefusedWal (end_after NUMBER_FIRST base) (wal_in files wal)) fault
+            → DiskMemoryOr (IsRefused (dirs_as_read files)) fault
         go (faults.Disk side) h = tt
         go (faults.DuplicateSegment number index) h = absurd h
         go (faults.BadBatch number index place bad) h =
-            subst (λ (n : ℕ). IsRefused (dirs_as_read files) (faults.BadBatch n index place bad)) (sym h.0) (map (stored_in files) wal.segments.items, base, reached, h.1)
-        go (faults.Gap number index expected found) h = subst (λ (n : ℕ). IsRefused (dirs_as_read files) (faults.Gap n index expected found)) (sym h.0) (row_of h.1, h.2)
-        go (faults.Conflict number index first) h = subst (λ (n : ℕ). IsRefused (dirs_as_read files) (faults.Conflict n index first)) (sym h.0) (row_of h.1, h.2)
+            subst (λ (n : ℕ). IsRefused (dirs_as_read files) (faults.BadBatch n index place bad)) (sym h.0)
+            (map (stored_in files) wal.segments.items, base, reached, h.1)
+        go (faults.Gap number index expected found) h = subst (λ (n : ℕ). IsRefused (dirs_as_read files)
+            (faults.Gap n index expected found)) (sym h.0) (row_of h.1, h.2)
+        go (faults.Conflict number index first) h = subst (λ (n : ℕ). IsRefused (dirs_as_read files) (faults.Conflict n index first))
+            (sym h.0) (row_of h.1, h.2)
         go faults.NoMemory h = tt

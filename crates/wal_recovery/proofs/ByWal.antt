@@ -39,20 +39,24 @@ module _ (files : Files) where
 
   -- ---- which segments the WALs have
 
-  alone_of : (f : Found) (wal : Wal) (number : ℕ) (stored : Stored) → alone f ≡ wal → wal.number ≡ number → Contains wal.segments stored → (f.name.wal ≡ number) × (stored_in files f ≡ stored)
-  alone_of f wal number stored e is within = elim (Contains-cons (stored_in files f) stored [] (subst (λ (w : Wal). Contains w.segments stored) (sym e) within)) [
-    | inl here ↦ (ap (λ (w : Wal). w.number) e ∙ is, here)
-    | inr later ↦ absurd (none_within stored later)
-  ]
+  alone_of : (f : Found) (wal : Wal) (number : ℕ) (stored : Stored) → alone f ≡ wal → wal.number ≡ number → Contains wal.segments stored
+      → (f.name.wal ≡ number) × (stored_in files f ≡ stored)
+  alone_of f wal number stored e is within = elim (Contains-cons (stored_in files f) stored []
+      (subst (λ (w : Wal). Contains w.segments stored) (sym e) within)) [
+        | inl here ↦ (ap (λ (w : Wal). w.number) e ∙ is, here)
+        | inr later ↦ absurd (none_within stored later)
+      ]
 
-  of_put : (f : Found) (wals : List Wal) (number : ℕ) (stored : Stored) → IsOf (put f wals) number stored → ((f.name.wal ≡ number) × (stored_in files f ≡ stored)) ⊎ IsOf wals number stored
+  of_put : (f : Found) (wals : List Wal) (number : ℕ) (stored : Stored) → IsOf (put f wals) number stored
+      → ((f.name.wal ≡ number) × (stored_in files f ≡ stored)) ⊎ IsOf wals number stored
   of_put f [] number stored (w, at, is, within) = elim (Contains-cons (alone f) w [] at) [
     | inl e ↦ inl (alone_of f w number stored e is within)
     | inr later ↦ absurd (none_within w later)
   ]
   of_put f (wal ∷ wals) number stored of = go (same_number f.name.wal wal.number) of
     where
-      go : (d : IsOfOrNot f wal) → IsOf (joined f wal wals d) number stored → ((f.name.wal ≡ number) × (stored_in files f ≡ stored)) ⊎ IsOf (wal ∷ wals) number stored
+      go : (d : IsOfOrNot f wal) → IsOf (joined f wal wals d) number stored → ((f.name.wal ≡ number) × (stored_in files f ≡ stored))
+          ⊎ IsOf (wal ∷ wals) number stored
       go (inl same) (w, at, is, within) = elim (Contains-cons (longer f wal) w wals at) [
         | inl e ↦ elim (Contains-cons (stored_in files f) stored wal.segments (subst (λ (x : Wal). Contains x.segments stored) (sym e) within)) [
           | inl here ↦ inl (same ∙ ap (λ (x : Wal). x.number) e ∙ is, here)
@@ -79,7 +83,13 @@ module _ (files : Files) where
     where
       go : (d : IsOfOrNot f wal) → IsOf (joined f wal wals d) number stored
       go (inl same) = elim (Contains-cons wal w wals at) [
-        | inl e ↦ (longer f wal, Contains-head (longer f wal) wals, ap (λ (x : Wal). x.number) e ∙ is, Contains-later (stored_in files f) stored wal.segments (subst (λ (x : Wal). Contains x.segments stored) (sym e) within))
+        | inl e ↦ (
+          longer f wal,
+          Contains-head (longer f wal) wals,
+          ap (λ (x : Wal). x.number) e
+              ∙ is,
+          Contains-later (stored_in files f) stored wal.segments (subst (λ (x : Wal). Contains x.segments stored) (sym e) within),
+        )
         | inr behind ↦ (w, Contains-later (longer f wal) w wals behind, is, within)
       ]
       go (inr other) = (w, Contains-later (alone f) w (wal ∷ wals) at, is, within)
@@ -109,7 +119,8 @@ module _ (files : Files) where
   unfolding AreByIndex
   one_by_index stored = (omega arith, tt)
 
-  more_by_index : (stored : Stored) (segments : List Stored) → AreByIndex 0 segments → ((s : Stored) → Contains segments s → stored.index < s.index) → AreByIndex 0 (stored ∷ segments)
+  more_by_index : (stored : Stored) (segments : List Stored) → AreByIndex 0 segments
+      → ((s : Stored) → Contains segments s → stored.index < s.index) → AreByIndex 0 (stored ∷ segments)
   unfolding AreByIndex
   more_by_index stored segments by each = (omega arith, index_from (suc stored.index) segments by each)
 
@@ -145,7 +156,8 @@ module _ (files : Files) where
   unfolding AreByNumber Ascends
   by_number low [] up each = tt
   by_number low (f ∷ row) up each =
-      by_number_put low f (grouped row) (each f (Contains-head f row)) (ahead_of f row up.0) (by_number f.name.wal row up.1 (λ g at. wal_up f.name g.name (up.0 g at)))
+      by_number_put low f (grouped row) (each f (Contains-head f row)) (ahead_of f row up.0)
+      (by_number f.name.wal row up.1 (λ g at. wal_up f.name g.name (up.0 g at)))
 
   -- the WALs of the row are the listing of the directories as they read
   pub grouped_listing : (row : List Found) → Ascends row → IsRowOf files row → IsListingOf (dirs_as_read files) (grouped row)
@@ -184,15 +196,18 @@ module _ (files : Files) where
       let b = begins_with g (grouped later) in
       ap (put f) b.2 ∙ joined_other f b.0 b.1 (same_number f.name.wal b.0.number) (λ e. other (sym b.3 ∙ sym e)) ∙ ap (λ (l : List Wal). alone f ∷ l) (sym b.2)
 
-  one_group : (number : ℕ) (segments later : List Found) → segments ≢ [] → ((f : Found) → Contains segments f → f.name.wal ≡ number) → BeginsElsewhere number later
+  one_group : (number : ℕ) (segments later : List Found) → segments ≢ [] → ((f : Found) → Contains segments f → f.name.wal ≡ number)
+      → BeginsElsewhere number later
       → grouped (segments ++ later) ≡ record { number = number; segments = map (stored_in files) segments } ∷ grouped later
   one_group number [] later some own other = absurd (some refl)
   one_group number (f ∷ []) later some own other =
       let is : f.name.wal ≡ number = own f (Contains-head f []) in
-      put_alone f later (subst (λ (n : ℕ). BeginsElsewhere n later) (sym is) other) ∙ ap (λ (n : ℕ). record { number = n; segments = stored_in files f ∷ [] } ∷ grouped later) is
+      put_alone f later (subst (λ (n : ℕ). BeginsElsewhere n later) (sym is) other)
+      ∙ ap (λ (n : ℕ). record { number = n; segments = stored_in files f ∷ [] } ∷ grouped later) is
   one_group number (f ∷ g ∷ segments) later some own other =
       ap (put f) (one_group number (g ∷ segments) later (λ e. absurd cc) (λ h at. own h (Contains-later f h (g ∷ segments) at)) other)
-      ∙ joined_own f (record { number = number; segments = map (stored_in files) (g ∷ segments) }) (grouped later) (same_number f.name.wal number) (own f (Contains-head f (g ∷ segments)))
+      ∙ joined_own f (record { number = number; segments = map (stored_in files) (g ∷ segments) }) (grouped later)
+      (same_number f.name.wal number) (own f (Contains-head f (g ∷ segments)))
 
   of_number : (number : ℕ) (segments : List Found) → All (λ (f : Found). f.name.wal ≡ number) segments → (f : Found) → Contains segments f → f.name.wal ≡ number
   of_number number segments own f at = subst (λ (g : Found). g.name.wal ≡ number) at.2 (own at.0 f at.1)
@@ -208,5 +223,6 @@ module _ (files : Files) where
   pub wals_by_number : (wals : List FoundWal) (row : List Found) → Groups wals row [] → Ascends row → AreByNumber 0 (wals_in files wals)
   wals_by_number wals row g up = subst (AreByNumber 0) (same_wals wals row g) (by_number 0 row up (λ f at. omega arith))
 
-  pub listing_of : (wals : List FoundWal) (row : List Found) → Groups wals row [] → Ascends row → IsRowOf files row → IsListingOf (dirs_as_read files) (wals_in files wals)
+  pub listing_of : (wals : List FoundWal) (row : List Found) → Groups wals row [] → Ascends row → IsRowOf files row
+      → IsListingOf (dirs_as_read files) (wals_in files wals)
   listing_of wals row g up is = subst (IsListingOf (dirs_as_read files)) (same_wals wals row g) (grouped_listing row up is)

@@ -16,7 +16,8 @@ wals_more first [] wal base own w m =
     (own, [], m', refl, ap (λ b. b ++ own) w ∙ sym (append-nil own))
 wals_more first (old ∷ wals) wal base own w m =
     let front = w.0 in let later = w.1 in
-    let m' : WalMerges (end_after (end_after first front) later) wal own = subst (λ n. WalMerges n wal own) (ap (end_after first) w.4 ∙ end_append first front later) m in
+    let m' : WalMerges (end_after (end_after first front) later) wal own = subst (λ n. WalMerges n wal own)
+    (ap (end_after first) w.4 ∙ end_append first front later) m in
     (front, later ++ own, w.2, wals_more (end_after first front) wals wal later own w.3 m', ap (λ b. b ++ own) w.4 ∙ append_assoc front later own)
 
 -- a listed WAL has a file

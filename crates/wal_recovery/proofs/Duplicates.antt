@@ -28,7 +28,8 @@ unfolding AreByNumber
 one_of low [] n a b by (u, h, is, at) other e = absurd (none_within u h)
 one_of low (w ∷ wals) n a b by (u, h, is, at) (v, k, to, on) e = elim (within_cases w wals u h) [
   | inl wu ↦ elim (within_cases w wals v k) [
-    | inl wv ↦ one_index 0 w.segments a b by.2 (subst (λ (x : Wal). Contains x.segments a) (sym wu) at) (subst (λ (x : Wal). Contains x.segments b) (sym wv) on) e
+    | inl wv ↦ one_index 0 w.segments a b by.2 (subst (λ (x : Wal). Contains x.segments a) (sym wu) at)
+        (subst (λ (x : Wal). Contains x.segments b) (sym wv) on) e
     | inr later ↦ absurd (omega (arith, of_low (suc w.number) wals n b by.3 (v, later, to, on), is, ap (λ (x : Wal). x.number) wu))
   ]
   | inr behind ↦ elim (within_cases w wals v k) [

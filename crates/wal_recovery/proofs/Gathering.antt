@@ -25,7 +25,8 @@ AreReportsOf files segments own = AllZip (λ (f : Found) (r : SegReport). IsRepo
 abbrev pub AreOfWal : ℕ → List Found → Type 0
 AreOfWal number segments = (f : Found) → Contains segments f → f.name.wal ≡ number
 
-pub report_holds : (number : ℕ) (f : Found) (bytes : List ℕ) (r : SegReport) → f.name.wal ≡ number → IsReportOf f bytes r → HoldsBatches (log_number number) bytes (taking_numbers r.batches)
+pub report_holds : (number : ℕ) (f : Found) (bytes : List ℕ) (r : SegReport) → f.name.wal ≡ number → IsReportOf f bytes r
+    → HoldsBatches (log_number number) bytes (taking_numbers r.batches)
 report_holds number f bytes r is report =
     subst (λ (n : ℕ). HoldsBatches (log_number n) bytes (taking_numbers r.batches)) is
     (record { records = report.records; ends_at = r.ends_at; torn = r.torn; read = report.read; all = r.batches; spelled = report.batches; counted_are = refl })
@@ -36,10 +37,13 @@ pub row_holds : (files : Files) (number : ℕ) (segments : List Found) (own : Li
 row_holds files number [] [] all h = tt
 row_holds files number [] (r ∷ own) all h = absurd h
 row_holds files number (f ∷ segments) [] all h = absurd h
-row_holds files number (f ∷ segments) (r ∷ own) all h =
-    (report_holds number f (bytes_at files (place_listed f)) r (all f (Contains-head f segments)) h.0, row_holds files number segments own (λ g at. all g (Contains-later f g segments at)) h.1)
+row_holds files number (f ∷ segments) (r ∷ own) all h = (
+  report_holds number f (bytes_at files (place_listed f)) r (all f (Contains-head f segments)) h.0,
+  row_holds files number segments own (λ g at. all g (Contains-later f g segments at)) h.1,
+)
 
-pub report_is : (files : Files) (number : ℕ) (f : Found) (r : SegReport) → f.name.wal ≡ number → IsAsListed files f → IsReportOf f (bytes_at files (place_listed f)) r → IsReport number (stored_in files f) r
+pub report_is : (files : Files) (number : ℕ) (f : Found) (r : SegReport) → f.name.wal ≡ number → IsAsListed files f
+    → IsReportOf f (bytes_at files (place_listed f)) r → IsReport number (stored_in files f) r
 report_is files number f r is listed report =
     subst (λ (n : ℕ). IsReport n (stored_in files f) r) is
     (record {
@@ -52,7 +56,8 @@ report_is files number f r is listed report =
     })
 
 -- the reports are on the segments of a WAL
-pub reports_on : (files : Files) (number : ℕ) (segments : List Found) (own : List SegReport) → AreOfWal number segments → ((f : Found) → Contains segments f → IsAsListed files f) → AreReportsOf files segments own
+pub reports_on : (files : Files) (number : ℕ) (segments : List Found) (own : List SegReport) → AreOfWal number segments
+    → ((f : Found) → Contains segments f → IsAsListed files f) → AreReportsOf files segments own
     → AllZip (IsReport number) (map (stored_in files) segments) own
 reports_on files number [] [] all listed h = tt
 reports_on files number [] (r ∷ own) all listed h = absurd h
@@ -70,12 +75,14 @@ batches_by_index log (s ∷ segments) [] h = absurd h
 batches_by_index log (s ∷ segments) (b ∷ row) h = ap (λ (l : List (List Batch)). b ∷ l) (batches_by_index log segments row h.1)
 
 -- so a WAL whose row was merged is merged
-pub wal_merged : (files : Files) (first : ℕ) (wal : FoundWal) (own : List SegReport) (merged : List Batch) → AreOfWal wal.number wal.segments.items → AreReportsOf files wal.segments.items own
+pub wal_merged : (files : Files) (first : ℕ) (wal : FoundWal) (own : List SegReport) (merged : List Batch)
+    → AreOfWal wal.number wal.segments.items → AreReportsOf files wal.segments.items own
     → Merged first (batches_in (by_index (map (stored_in files) wal.segments.items) (counted_in own))) merged → WalMerges first (wal_in files wal) merged
 wal_merged files first wal own merged all h m =
     let holds = row_holds files wal.number wal.segments.items own all h in
     record {
       row = counted_in own;
       holds = holds;
-      merges = subst (λ (row : List (List Batch)). Merged first row merged) (batches_by_index (log_number wal.number) (map (stored_in files) wal.segments.items) (counted_in own) holds) m;
+      merges = subst (λ (row : List (List Batch)). Merged first row merged)
+          (batches_by_index (log_number wal.number) (map (stored_in files) wal.segments.items) (counted_in own) holds) m;
     }

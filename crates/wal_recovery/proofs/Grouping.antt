@@ -14,7 +14,8 @@ use Rattle.wal_recovery.proofs.Tools.{some_is}
 use Rattle.wal_recovery.proofs.Listed.{read_open, read_close}
 
 -- one WAL more
-pub groups_more : (wals : List FoundWal) (row mid later : List Found) (wal : FoundWal) → Groups wals row mid → IsGroup wal mid later → Groups (wals ++ wal ∷ []) row later
+pub groups_more : (wals : List FoundWal) (row mid later : List Found) (wal : FoundWal) → Groups wals row mid → IsGroup wal mid later
+    → Groups (wals ++ wal ∷ []) row later
 unfolding Groups
 groups_more [] row mid later wal g is = (later, subst (λ (r : List Found). IsGroup wal r later) (sym g) is, refl)
 groups_more (w ∷ wals) row mid later wal g is = (g.0, g.1, groups_more wals g.0 mid later wal g.2 is)
@@ -26,16 +27,21 @@ no_first : {X : Type 0} (x : X) → ◌≡◌ {A = Option X} None (Some x) → �
 no_first x e = cc
 
 -- the segments at the front that are of the first one's WAL
-pub group_is : (rest : List Found) (n : ℕ) (first : Found) (wal : FoundWal) (own later : List Found) → slice_get rest 0 ≡ Some first → wal.number ≡ first.name.wal
-    → All (λ (f : Found). f.name.wal ≡ first.name.wal) (take n rest) → BeginsElsewhere first.name.wal (drop n rest) → own ≡ take n rest → later ≡ drop n rest → wal.segments.items ≡ own → IsGroup wal rest later
+pub group_is : (rest : List Found) (n : ℕ) (first : Found) (wal : FoundWal) (own later : List Found) → slice_get rest 0 ≡ Some first
+    → wal.number ≡ first.name.wal
+    → All (λ (f : Found). f.name.wal ≡ first.name.wal) (take n rest) → BeginsElsewhere first.name.wal (drop n rest) → own ≡ take n rest
+    → later ≡ drop n rest → wal.segments.items ≡ own → IsGroup wal rest later
 group_is [] n first wal own later is number all other front back items = absurd (no_first first is)
 group_is (f ∷ rest) zero first wal own later is number all other front back items =
     let same : f ≡ first = some_is f first is in absurd (other (ap (λ (x : Found). x.name.wal) same))
 group_is (f ∷ rest) (suc n) first wal own later is number all other front back items = record {
-  cut = sym (ap (λ (l : List Found). l ++ later) (items ∙ front) ∙ ap (λ (l : List Found). take (suc n) (f ∷ rest) ++ l) back ∙ take-append-drop (suc n) (f ∷ rest));
+  cut = sym (ap (λ (l : List Found). l ++ later) (items ∙ front) ∙ ap (λ (l : List Found). take (suc n) (f ∷ rest) ++ l) back
+      ∙ take-append-drop (suc n) (f ∷ rest));
   some = λ none. some_front f (take n rest) (sym (items ∙ front) ∙ none);
-  own = subst (λ (l : List Found). All (λ (g : Found). g.name.wal ≡ wal.number) l) (sym (items ∙ front)) (subst (λ (w : ℕ). All (λ (g : Found). g.name.wal ≡ w) (take (suc n) (f ∷ rest))) (sym number) all);
-  other = subst (λ (l : List Found). BeginsElsewhere wal.number l) (sym back) (subst (λ (w : ℕ). BeginsElsewhere w (drop (suc n) (f ∷ rest))) (sym number) other);
+  own = subst (λ (l : List Found). All (λ (g : Found). g.name.wal ≡ wal.number) l) (sym (items ∙ front))
+      (subst (λ (w : ℕ). All (λ (g : Found). g.name.wal ≡ w) (take (suc n) (f ∷ rest))) (sym number) all);
+  other = subst (λ (l : List Found). BeginsElsewhere wal.number l) (sym back)
+      (subst (λ (w : ℕ). BeginsElsewhere w (drop (suc n) (f ∷ rest))) (sym number) other);
 }
 
 -- ---- names in their order
@@ -54,15 +60,20 @@ module _ (files : Files) where
   abbrev pub IsStoredFound : List Found → ℕ → Stored → Type 0
   IsStoredFound row number stored = (f : Found) × Contains row f × (f.name.wal ≡ number) × (stored_in files f ≡ stored)
 
-  pub found_stands : (row : List Found) (number : ℕ) (stored : Stored) → IsRowOf files row → IsStoredFound row number stored → StandsIn (dirs_as_read files) number stored
+  pub found_stands : (row : List Found) (number : ℕ) (stored : Stored) → IsRowOf files row → IsStoredFound row number stored
+      → StandsIn (dirs_as_read files) number stored
   found_stands row number stored is (f, at, wal, e) =
       let there = (is f).0 at in
       let has = there.1 in
-      let here : StandsIn (dirs_as_read files) f.name.wal (stored_in files f) =
-      (there.0, let reads : as_read (files (place_listed f)) ≡ Some has.0.reads = read_close (files (place_listed f)) has.0 has.1 has.2 in reads ∙ ap Some (sym (ap bytes_or_none reads))) in
+      let here : StandsIn (dirs_as_read files) f.name.wal (stored_in files f) = (
+        there.0,
+        let reads : as_read (files (place_listed f)) ≡ Some has.0.reads = read_close (files (place_listed f)) has.0 has.1 has.2
+            in reads ∙ ap Some (sym (ap bytes_or_none reads)),
+      ) in
       subst (λ (n : ℕ). StandsIn (dirs_as_read files) n stored) wal (subst (λ (s : Stored). StandsIn (dirs_as_read files) f.name.wal s) e here)
 
-  pub stands_found : (row : List Found) (number : ℕ) (stored : Stored) → IsRowOf files row → StandsIn (dirs_as_read files) number stored → IsStoredFound row number stored
+  pub stands_found : (row : List Found) (number : ℕ) (stored : Stored) → IsRowOf files row → StandsIn (dirs_as_read files) number stored
+      → IsStoredFound row number stored
   stands_found row number stored is (good, reads) =
       let place = place_in number stored.side stored.index in
       let file = read_open (files place) stored.content reads in

@@ -58,4 +58,5 @@ pub taken_more : {X : Type 0} (old yielded more : List X) (x : X) → length yie
     → (old ++ take (length yielded) more) ++ x ∷ [] ≡ old ++ take (length (yielded ++ x ∷ [])) more
 taken_more old yielded more x lt is =
     append_assoc old (take (length yielded) more) (x ∷ [])
-    ∙ ap (λ l. old ++ l) (ap (λ y. take (length yielded) more ++ y ∷ []) is ∙ sym (take_more more (length yielded) x lt) ∙ ap (λ n. take n more) (sym (length_push yielded x)))
+    ∙ ap (λ l. old ++ l) (ap (λ y. take (length yielded) more ++ y ∷ []) is ∙ sym (take_more more (length yielded) x lt)
+    ∙ ap (λ n. take n more) (sym (length_push yielded x)))

@@ -35,12 +35,23 @@ use Rattle.wal_recovery.proofs.Strictly.{lenient_numbered}
 
 -- ---- reports hold the row of their segments
 
-wal_holds : (number : ℕ) (segments : List Stored) (own : List SegReport) → AllZip (IsReport number) segments own → HoldRow (log_number number) segments (counted_in own)
+wal_holds : (number : ℕ) (segments : List Stored) (own : List SegReport) → AllZip (IsReport number) segments own
+    → HoldRow (log_number number) segments (counted_in own)
 wal_holds number [] [] on = tt
 wal_holds number [] (r ∷ own) on = absurd on
 wal_holds number (s ∷ segments) [] on = absurd on
-wal_holds number (s ∷ segments) (r ∷ own) on =
-    (record { records = on.0.records; ends_at = r.ends_at; torn = r.torn; read = on.0.read; all = r.batches; spelled = on.0.batches; counted_are = refl }, wal_holds number segments own on.1)
+wal_holds number (s ∷ segments) (r ∷ own) on = (
+  record {
+    records = on.0.records;
+    ends_at = r.ends_at;
+    torn = r.torn;
+    read = on.0.read;
+    all = r.batches;
+    spelled = on.0.batches;
+    counted_are = refl;
+  },
+  wal_holds number segments own on.1,
+)
 
 counted_append : (old own : List SegReport) → counted_in (old ++ own) ≡ counted_in old ++ counted_in own
 counted_append old own = map-append (λ (r : SegReport). taking_numbers r.batches) old own
@@ -53,11 +64,13 @@ reports_hold (wal ∷ wals) reports (own, later, on, rest, is) =
 
 -- ---- rows under indexes
 
-pub by_index_append : (log : ℕ) (segments more : List Stored) (own later : List (List Batch)) → HoldRow log segments own → by_index (segments ++ more) (own ++ later) ≡ by_index segments own ++ by_index more later
+pub by_index_append : (log : ℕ) (segments more : List Stored) (own later : List (List Batch)) → HoldRow log segments own
+    → by_index (segments ++ more) (own ++ later) ≡ by_index segments own ++ by_index more later
 by_index_append log [] more [] later h = refl
 by_index_append log [] more (b ∷ own) later h = absurd h
 by_index_append log (s ∷ segments) more [] later h = absurd h
-by_index_append log (s ∷ segments) more (b ∷ own) later h = ap (λ (l : List SegmentRead). record { index = s.index; batches = b } ∷ l) (by_index_append log segments more own later h.1)
+by_index_append log (s ∷ segments) more (b ∷ own) later h = ap (λ (l : List SegmentRead). record { index = s.index; batches = b } ∷ l)
+    (by_index_append log segments more own later h.1)
 
 pub batches_by_length : (segments : List Stored) (row : List (List Batch)) → length row ≡ length segments → batches_in (by_index segments row) ≡ row
 batches_by_length [] [] e = refl
@@ -95,22 +108,26 @@ row_numbered [] h = tt
 row_numbered (r ∷ reports) h = (h.0, row_numbered reports h.1)
 
 pub reports_none : (reports : List SegReport) (merged : List Batch) → reports ≡ [] → merged ≡ [] → AreReportsMerged reports merged
-reports_none reports merged none empty = subst (λ (l : List SegReport). AreReportsMerged l merged) (sym none) (record { merges = merged_none merged empty; numbered = All-nil IsNumberedReport })
+reports_none reports merged none empty = subst (λ (l : List SegReport). AreReportsMerged l merged) (sym none)
+    (record { merges = merged_none merged empty; numbered = All-nil IsNumberedReport })
 
 pub reports_merged_of : (reports : List SegReport) (merged : List Batch) → AreReportsMerged reports merged → AreMergedOf (as_row reports) merged
 reports_merged_of reports merged a = subst (λ (rows : List (List Batch)). MergedLenient rows merged) (sym (row_counted reports)) a.merges
 
 pub reports_numbered : (reports : List SegReport) (merged : List Batch) → AreReportsMerged reports merged → All IsNumbered merged
-reports_numbered reports merged a = lenient_numbered (as_row reports) merged (row_numbered reports (recursion_from_All IsNumberedReport reports a.numbered)) (reports_merged_of reports merged a)
+reports_numbered reports merged a = lenient_numbered (as_row reports) merged
+    (row_numbered reports (recursion_from_All IsNumberedReport reports a.numbered)) (reports_merged_of reports merged a)
 
 module _ (tells : Bool) (files : Files) where
   -- with one WAL more
-  pub reports_more : (wal : FoundWal) (old new : List SegReport) (row : List SegmentRead) (merged longer : List Batch) → GathersWal tells files wal.segments.items old new row → AreReportsMerged old merged
+  pub reports_more : (wal : FoundWal) (old new : List SegReport) (row : List SegmentRead) (merged longer : List Batch)
+      → GathersWal tells files wal.segments.items old new row → AreReportsMerged old merged
       → AreMergedOf (as_row old ++ row) longer → AreReportsMerged new longer
   reports_more wal old new row merged longer g a m = record {
     merges =
         let own = g.added.own in
-        let many : length (counted_in own) ≡ length (map (stored_in files) wal.segments.items) = counted_length tells files own ∙ g.added.as_many ∙ sym (stored_length tells files wal.segments.items) in
+        let many : length (counted_in own) ≡ length (map (stored_in files) wal.segments.items) = counted_length tells files own
+        ∙ g.added.as_many ∙ sym (stored_length tells files wal.segments.items) in
         let is : batches_in (as_row old ++ row) ≡ counted_in new =
         batches_append (as_row old) row
         ∙ ap (λ (r : List (List Batch)). r ++ batches_in row) (row_counted old)
@@ -124,20 +141,27 @@ module _ (tells : Bool) (files : Files) where
 
   module _ (wal : FoundWal) (own : IsOwnWal wal) where
     -- what refuses a merge of its row refuses the WAL
-    pub row_refused_behind : (before : List SegmentRead) (old new : List SegReport) (row : List SegmentRead) (fault : MergeFault) → GathersWal tells files wal.segments.items old new row → MemoryOrRefusal (lenient.IsRowLenientlyRefused (before ++ row)) fault
+    pub row_refused_behind : (before : List SegmentRead) (old new : List SegReport) (row : List SegmentRead) (fault : MergeFault)
+        → GathersWal tells files wal.segments.items old new row → MemoryOrRefusal (lenient.IsRowLenientlyRefused (before ++ row)) fault
         → IsTrue tells → AreAsListed files wal.segments.items → DiskMemoryOr (IsLenientlyRefusedWal before (wal_in files wal)) (named_in_wal wal.number fault)
     row_refused_behind before old new row fault g wrong told listed = go fault wrong
       where
         held : HoldsRow (wal_in files wal)
-        held = record { row = counted_in g.added.own; holds = row_holds files wal.number wal.segments.items g.added.own (own_of wal own) (g.added.holds told listed) }
+        held = record {
+          row = counted_in g.added.own;
+          holds = row_holds files wal.number wal.segments.items g.added.own (own_of wal own)
+              (g.added.holds told listed);
+        }
 
-        go : (fault : MergeFault) → MemoryOrRefusal (lenient.IsRowLenientlyRefused (before ++ row)) fault → DiskMemoryOr (IsLenientlyRefusedWal before (wal_in files wal)) (named_in_wal wal.number fault)
+        go : (fault : MergeFault) → MemoryOrRefusal (lenient.IsRowLenientlyRefused (before ++ row)) fault
+            → DiskMemoryOr (IsLenientlyRefusedWal before (wal_in files wal)) (named_in_wal wal.number fault)
         go (merges.Gap index expected found) h = absurd h
         go (merges.Conflict index first) h = (refl, held, subst (λ (r : List SegmentRead). IsLenientConflict (before ++ r) index first) g.rows h)
         go merges.NoMemory h = tt
 
     -- and so does its first bad record
-    pub read_refused_behind : (before : List SegmentRead) (fault : RecoverFault) → DiskMemoryOr (IsFirstBadOf files wal.segments.items) fault → DiskMemoryOr (IsLenientlyRefusedWal before (wal_in files wal)) fault
+    pub read_refused_behind : (before : List SegmentRead) (fault : RecoverFault)
+        → DiskMemoryOr (IsFirstBadOf files wal.segments.items) fault → DiskMemoryOr (IsLenientlyRefusedWal before (wal_in files wal)) fault
     read_refused_behind before (faults.Disk side) h = tt
     read_refused_behind before faults.NoMemory h = tt
     read_refused_behind before (faults.DuplicateSegment number index) h = absurd h.bad
@@ -148,8 +172,10 @@ module _ (tells : Bool) (files : Files) where
 -- ---- what refuses a WAL after those before it refuses the directories
 
 module _ (files : Files) (wals : List FoundWal) (i : ℕ) (wal : FoundWal) (at : StandsAt wals i wal) where
-  pub refused_behind : (reports : List SegReport) (base : List Batch) (fault : RecoverFault) → ReportOnAll (wals_in files (take i wals)) reports → AreReportsMerged reports base
-      → ((before : List SegmentRead) → AreMergedOf before base → AreAsListed files wal.segments.items → DiskMemoryOr (IsLenientlyRefusedWal before (wal_in files wal)) fault)
+  pub refused_behind : (reports : List SegReport) (base : List Batch) (fault : RecoverFault)
+      → ReportOnAll (wals_in files (take i wals)) reports → AreReportsMerged reports base
+      → ((before : List SegmentRead) → AreMergedOf before base → AreAsListed files wal.segments.items
+      → DiskMemoryOr (IsLenientlyRefusedWal before (wal_in files wal)) fault)
       → AreListedWals files wals → DiskMemoryOr (IsLenientlyRefused (dirs_as_read files)) fault
   refused_behind reports base fault on a wrong listed = go fault (wrong earlier merged (listed_at files wals i wal at listed))
     where
@@ -173,13 +199,16 @@ module _ (files : Files) (wals : List FoundWal) (i : ℕ) (wal : FoundWal) (at :
       earlier = by_index (segments_of (wals_in files (take i wals))) (counted_in reports)
 
       merged : AreMergedOf earlier base
-      merged = subst (λ (rows : List (List Batch)). MergedLenient rows base) (sym (all_batches (wals_in files (take i wals)) (counted_in reports) hold)) a.merges
+      merged = subst (λ (rows : List (List Batch)). MergedLenient rows base)
+          (sym (all_batches (wals_in files (take i wals)) (counted_in reports) hold)) a.merges
 
-      go : (fault : RecoverFault) → DiskMemoryOr (IsLenientlyRefusedWal earlier (wal_in files wal)) fault → DiskMemoryOr (IsLenientlyRefused (dirs_as_read files)) fault
+      go : (fault : RecoverFault) → DiskMemoryOr (IsLenientlyRefusedWal earlier (wal_in files wal)) fault
+          → DiskMemoryOr (IsLenientlyRefused (dirs_as_read files)) fault
       go (faults.Disk side) h = tt
       go (faults.DuplicateSegment number index) h = absurd h
       go (faults.BadBatch number index place bad) h =
-          subst (λ (n : ℕ). IsLenientlyRefused (dirs_as_read files) (faults.BadBatch n index place bad)) (sym h.0) (record { segments = map (stored_in files) wal.segments.items; reached = reached; bad = h.1 })
+          subst (λ (n : ℕ). IsLenientlyRefused (dirs_as_read files) (faults.BadBatch n index place bad)) (sym h.0)
+          (record { segments = map (stored_in files) wal.segments.items; reached = reached; bad = h.1 })
       go (faults.Gap number index expected found) h = absurd h
       go (faults.Conflict number index first) h =
           subst (λ (n : ℕ). IsLenientlyRefused (dirs_as_read files) (faults.Conflict n index first)) (sym h.0)

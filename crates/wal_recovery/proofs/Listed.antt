@@ -54,14 +54,16 @@ module _ (files : Files) (ones others : List Listed) (up : IsAscending ones) (do
   )
 
   -- an item of a side reads
-  item_reads : (side : Side) (item : Listed) → Contains (on side ones others) item → IsSegmentName item.name × (bytes : List ℕ) × (dirs_as_read files (segment side item.name) ≡ Some bytes)
+  item_reads : (side : Side) (item : Listed) → Contains (on side ones others) item → IsSegmentName item.name × (bytes : List ℕ)
+      × (dirs_as_read files (segment side item.name) ≡ Some bytes)
   item_reads side item at =
       let there = (listed side item).0 at in
       let has = there.1 in
       (there.0, has.0.reads, read_close (files (segment side item.name)) has.0 has.1 has.2)
 
   -- what reads is an item of its side
-  reads_item : (side : Side) (name : SegName) (bytes : List ℕ) → IsSegmentName name → dirs_as_read files (segment side name) ≡ Some bytes → (item : Listed) × (item.name ≡ name) × Contains (on side ones others) item
+  reads_item : (side : Side) (name : SegName) (bytes : List ℕ) → IsSegmentName name → dirs_as_read files (segment side name) ≡ Some bytes
+      → (item : Listed) × (item.name ≡ name) × Contains (on side ones others) item
   reads_item side name bytes good is =
       let f = read_open (files (segment side name)) bytes is in
       let item : Listed = record { name = name; len = length f.0.reads } in
@@ -78,21 +80,29 @@ module _ (files : Files) (ones others : List Listed) (up : IsAscending ones) (do
     | inl within ↦ elim (row_to row ones others (x ∷ xs) (y ∷ ys) w up down Secondary other b) [
       | inr left ↦ elim (Contains-cons y other ys left) [
         | inl is ↦ inl (e ∙ ap (λ (z : Listed). z.name) (sym is) ∙ ey)
-        | inr later ↦ inr (subst (λ n. IsBefore n one.name) ey (subst (λ n. IsBefore y.name n) (sym e) (first_before y ys (left_ascends row ones others (x ∷ xs) (y ∷ ys) w up down).1 other later)))
+        | inr later ↦ inr (subst (λ n. IsBefore n one.name) ey (subst (λ n. IsBefore y.name n) (sym e)
+            (first_before y ys (left_ascends row ones others (x ∷ xs) (y ∷ ys) w up down).1 other later)))
       ]
       | inl also ↦
-          let same : found_on Primary one ≡ found_on Secondary other = one_name row (found_on Primary one) (found_on Secondary other) (row_ascends row ones others (x ∷ xs) (y ∷ ys) w up down) within also e in
+          let same : found_on Primary one ≡ found_on Secondary other = one_name row (found_on Primary one) (found_on Secondary other)
+          (row_ascends row ones others (x ∷ xs) (y ∷ ys) w up down) within also e in
           let sides : Primary ≡ Secondary = ap (λ (f : Found). f.side) same in absurd cc
     ]
   ]
 
-  met_duplicate : (row : List Found) (x y : Listed) (xs ys : List Listed) (wal index : ℕ) → Weaves row ones others (x ∷ xs) (y ∷ ys) → x.name ≡ name_in wal index → y.name ≡ name_in wal index
+  met_duplicate : (row : List Found) (x y : Listed) (xs ys : List Listed) (wal index : ℕ) → Weaves row ones others (x ∷ xs) (y ∷ ys)
+      → x.name ≡ name_in wal index → y.name ≡ name_in wal index
       → IsDuplicate (dirs_as_read files) wal index
   met_duplicate row x y xs ys wal index w ex ey = record {
     twice =
         let one = item_reads Primary x (left_from row ones others (x ∷ xs) (y ∷ ys) w up down Primary x (Contains-head x xs)) in
-        let two = item_reads Secondary y (left_from row ones others (x ∷ xs) (y ∷ ys) w up down Secondary y (Contains-head y ys)) in
-        (subst IsSegmentName ex one.0, one.1, two.1, subst (λ n. dirs_as_read files (segment Primary n) ≡ Some one.1) ex one.2, subst (λ n. dirs_as_read files (segment Secondary n) ≡ Some two.1) ey two.2);
+        let two = item_reads Secondary y (left_from row ones others (x ∷ xs) (y ∷ ys) w up down Secondary y (Contains-head y ys)) in (
+          subst IsSegmentName ex one.0,
+          one.1,
+          two.1,
+          subst (λ n. dirs_as_read files (segment Primary n) ≡ Some one.1) ex one.2,
+          subst (λ n. dirs_as_read files (segment Secondary n) ≡ Some two.1) ey two.2,
+        );
     least = least_of;
   }
     where
@@ -128,7 +138,8 @@ module _ (files : Files) (ones others : List Listed) (up : IsAscending ones) (do
   met_refused faults.NoMemory met = tt
 
 -- each name of the row is one of a segment
-pub row_named : (row : List Found) (ones others : List Listed) → Weaves row ones others [] [] → IsAscending ones → IsAscending others → AreSegmentNames ones → AreSegmentNames others
+pub row_named : (row : List Found) (ones others : List Listed) → Weaves row ones others [] [] → IsAscending ones → IsAscending others
+    → AreSegmentNames ones → AreSegmentNames others
     → All (λ (f : Found). IsSegmentName f.name) row
 row_named row ones others w up down one_names other_names k d lt = named (get_or row k d) (Contains-get_or row k d lt)
   where

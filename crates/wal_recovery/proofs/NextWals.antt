@@ -17,7 +17,8 @@ record IsLast (row : List Found) (f : Found) : Type 0 where
   at : Contains row f
   above : (g : Found) → Contains row g → g.name.wal ≤ f.name.wal
 
-last_behind : (f : Found) (row : List Found) (next : ℕ) → Ascends (f ∷ row) → IsNextAfter (f ∷ row) next → (l : Found) × IsLast (f ∷ row) l × (next ≡ suc l.name.wal)
+last_behind : (f : Found) (row : List Found) (next : ℕ) → Ascends (f ∷ row) → IsNextAfter (f ∷ row) next → (l : Found) × IsLast (f ∷ row) l
+    × (next ≡ suc l.name.wal)
 unfolding Ascends IsNextAfter
 last_behind f [] next up is = (
   f,
@@ -53,7 +54,9 @@ next_wal_is files (f ∷ row) next up is behind =
       least = inr (l.0.name.wal, stored_in files l.0, found_stands files (f ∷ row) l.0.name.wal (stored_in files l.0) is (l.0, l.1.at, refl, refl), l.2);
     }
 
-pub next_wal_answered : (files : Files) (row : List Found) (tells : Bool) (result : Result Recovered RecoverFault) → Ascends row → (IsTrue tells → IsRowOf files row)
-    → IfOk result (λ (found : Recovered). IsNextAfter row found.next_wal) → IfOk result (λ (found : Recovered). IsTrue tells → IsNextWal (dirs_as_read files) found.next_wal)
+pub next_wal_answered : (files : Files) (row : List Found) (tells : Bool) (result : Result Recovered RecoverFault) → Ascends row
+    → (IsTrue tells → IsRowOf files row)
+    → IfOk result (λ (found : Recovered). IsNextAfter row found.next_wal)
+    → IfOk result (λ (found : Recovered). IsTrue tells → IsNextWal (dirs_as_read files) found.next_wal)
 next_wal_answered files row tells (Ok found) up is behind = λ told. next_wal_is files row found.next_wal up (is told) behind
 next_wal_answered files row tells (Err fault) up is behind = tt

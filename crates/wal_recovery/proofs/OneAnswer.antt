@@ -33,7 +33,8 @@ tail_only a b xs ys by e sub s h = elim (within_cases b ys s (sub s (within_tail
   | inr later ↦ later
 ]
 
-one_segments : (low high : ℕ) (xs ys : List Stored) → AreByIndex low xs → AreByIndex high ys → ((s : Stored) → Contains xs s → Contains ys s) → ((s : Stored) → Contains ys s → Contains xs s) → xs ≡ ys
+one_segments : (low high : ℕ) (xs ys : List Stored) → AreByIndex low xs → AreByIndex high ys
+    → ((s : Stored) → Contains xs s → Contains ys s) → ((s : Stored) → Contains ys s → Contains xs s) → xs ≡ ys
 unfolding AreByIndex
 one_segments low high [] [] bx by xy yx = refl
 one_segments low high [] (y ∷ ys) bx by xy yx = absurd (none_within y (yx y (within_head y ys)))
@@ -46,7 +47,8 @@ one_segments low high (x ∷ xs) (y ∷ ys) bx by xy yx =
         | inr behind ↦ absurd (omega (arith, by_low (suc y.index) ys x by.1 later, by_low (suc x.index) xs y bx.1 behind))
       ]
     ] in
-    ap (λ l. x ∷ l) (one_segments (suc x.index) (suc y.index) xs ys bx.1 by.1 (tail_only x y xs ys bx.1 e xy) (tail_only y x ys xs by.1 (sym e) yx)) ∙ ap (λ a. a ∷ ys) e
+    ap (λ l. x ∷ l) (one_segments (suc x.index) (suc y.index) xs ys bx.1 by.1 (tail_only x y xs ys bx.1 e xy)
+    (tail_only y x ys xs by.1 (sym e) yx)) ∙ ap (λ a. a ∷ ys) e
 
 of_head : (w : Wal) (ws : List Wal) (s : Stored) → Contains w.segments s → IsOf (w ∷ ws) w.number s
 of_head w ws s h = (w, within_head w ws, refl, h)
@@ -75,7 +77,8 @@ tail_of w ws n s low (u, h, is, at) = elim (within_cases w ws u h) [
   | inr later ↦ (u, later, is, at)
 ]
 
-same_wals : (low high : ℕ) (ws vs : List Wal) → AreByNumber low ws → AreByNumber high vs → ((n : ℕ) (s : Stored) → IsOf ws n s → IsOf vs n s) → ((n : ℕ) (s : Stored) → IsOf vs n s → IsOf ws n s) → ws ≡ vs
+same_wals : (low high : ℕ) (ws vs : List Wal) → AreByNumber low ws → AreByNumber high vs
+    → ((n : ℕ) (s : Stored) → IsOf ws n s → IsOf vs n s) → ((n : ℕ) (s : Stored) → IsOf vs n s → IsOf ws n s) → ws ≡ vs
 unfolding AreByNumber
 same_wals low high [] [] bw bv wv vw = refl
 same_wals low high [] (v ∷ vs) bw bv wv vw =
@@ -91,7 +94,8 @@ same_wals low high (w ∷ ws) (v ∷ vs) bw bv wv vw =
     let down : w.number ≤ v.number = of_low w.number (w ∷ ws) v.number sv.0 (omega arith, bw.1, bw.2, bw.3) (vw v.number sv.0 (of_head v vs sv.0 sv.1)) in
     let n : w.number ≡ v.number = omega (arith, up, down) in
     let segments : w.segments ≡ v.segments = one_segments 0 0 w.segments v.segments bw.2 bv.2
-    (λ s h. head_of v vs w.number s bv.3 n (wv w.number s (of_head w ws s h))) (λ s h. head_of w ws v.number s bw.3 (sym n) (vw v.number s (of_head v vs s h))) in
+    (λ s h. head_of v vs w.number s bv.3 n (wv w.number s (of_head w ws s h)))
+    (λ s h. head_of w ws v.number s bw.3 (sym n) (vw v.number s (of_head v vs s h))) in
     let e : w ≡ v = (λ i. record { number = n i; segments = segments i }) in
     let tails : ws ≡ vs = same_wals (suc w.number) (suc v.number) ws vs bw.3 bv.3
     (λ m s h. tail_of v vs m s (omega (arith, n, of_low (suc w.number) ws m s bw.3 h)) (wv m s (of_tail w ws m s h)))
@@ -99,7 +103,8 @@ same_wals low high (w ∷ ws) (v ∷ vs) bw bv wv vw =
     ap (λ l. w ∷ l) tails ∙ ap (λ a. a ∷ vs) e
 
 pub one_listing : (dirs : Dirs) (ws vs : List Wal) → IsListingOf dirs ws → IsListingOf dirs vs → ws ≡ vs
-one_listing dirs ws vs lw lv = same_wals 0 0 ws vs lw.order lv.order (λ n s h. (lv.same n s).1 ((lw.same n s).0 h)) (λ n s h. (lw.same n s).1 ((lv.same n s).0 h))
+one_listing dirs ws vs lw lv = same_wals 0 0 ws vs lw.order lv.order (λ n s h. (lv.same n s).1 ((lw.same n s).0 h))
+    (λ n s h. (lw.same n s).1 ((lv.same n s).0 h))
 
 -- ---- one answer, where read-out and spelling give one
 
@@ -124,7 +129,8 @@ module _ (one_read : (bytes : List ℕ) (log : ℕ) (r s : List Rec) (d e : ℕ)
   one_row log [] (b ∷ bs) cs h k = absurd h
   one_row log (s ∷ segments) [] cs h k = absurd h
   one_row log (s ∷ segments) (b ∷ bs) [] h k = absurd k
-  one_row log (s ∷ segments) (b ∷ bs) (c ∷ cs) h k = ap (λ l. b ∷ l) (one_row log segments bs cs h.1 k.1) ∙ ap (λ x. x ∷ cs) (one_holds log s.content b c h.0 k.0)
+  one_row log (s ∷ segments) (b ∷ bs) (c ∷ cs) h k = ap (λ l. b ∷ l) (one_row log segments bs cs h.1 k.1)
+      ∙ ap (λ x. x ∷ cs) (one_holds log s.content b c h.0 k.0)
 
   pub one_wals : (first : ℕ) (wals : List Wal) (as_one as_two : List Batch) → WalsMerge first wals as_one → WalsMerge first wals as_two → as_one ≡ as_two
   unfolding WalsMerge

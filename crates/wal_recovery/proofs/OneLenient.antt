@@ -42,7 +42,8 @@ record HoldsUpTo (before : List Wal) (wal : Wal) (rows : List (List Batch)) : Ty
 
 holds_up_to : (before : List Wal) (wal : Wal) (after : List Wal) (rows : List (List Batch)) → HoldAll (before ++ wal ∷ after) rows → HoldsUpTo before wal rows
 unfolding HoldAll
-holds_up_to [] wal after rows (own, more, here, rest, is) = record { earlier = []; held = record { row = own; holds = here }; more = more; hold = refl; is = is }
+holds_up_to [] wal after rows (own, more, here, rest, is) = record
+    { earlier = []; held = record { row = own; holds = here }; more = more; hold = refl; is = is }
 holds_up_to (w ∷ before) wal after rows (own, more, here, rest, is) =
     let r = holds_up_to before wal after more rest in
     record {
@@ -87,7 +88,8 @@ batches_plain : (rows : List (List Batch)) → batches_in (plain rows) ≡ rows
 batches_plain [] = refl
 batches_plain (b ∷ rows) = ap (λ (l : List (List Batch)). b ∷ l) (batches_plain rows)
 
-merged_or_conflict_behind : (before : List Wal) (wal : Wal) (rows more : List (List Batch)) (held : HoldsRow wal) (merged : List Batch) (index first : ℕ) → HoldAll before rows → MergedLenient (rows ++ (held.row ++ more)) merged
+merged_or_conflict_behind : (before : List Wal) (wal : Wal) (rows more : List (List Batch)) (held : HoldsRow wal) (merged : List Batch)
+    (index first : ℕ) → HoldAll before rows → MergedLenient (rows ++ (held.row ++ more)) merged
     → IsLenientConflict (by_index (segments_of before) rows ++ by_index wal.segments held.row) index first → ⊥
 merged_or_conflict_behind before wal rows more held merged index first hold m wrong =
     let front = by_index (segments_of before) rows in
@@ -99,17 +101,21 @@ merged_or_conflict_behind before wal rows more held merged index first hold m wr
     ∙ ap (λ (l : List (List Batch)). l ++ (batches_in here ++ batches_in (plain more))) (all_batches before rows hold)
     ∙ ap (λ (l : List (List Batch)). rows ++ (l ++ batches_in (plain more))) (batches_by_index (log_number wal.number) wal.segments held.row held.holds)
     ∙ ap (λ (l : List (List Batch)). rows ++ (held.row ++ l)) (batches_plain more) in
-    merged_or_conflict ((front ++ here) ++ plain more) merged index first (subst (λ (r : List (List Batch)). MergedLenient r merged) (sym is) m) (conflict_on (front ++ here) (plain more) index first wrong)
+    merged_or_conflict ((front ++ here) ++ plain more) merged index first
+    (subst (λ (r : List (List Batch)). MergedLenient r merged) (sym is) m) (conflict_on (front ++ here) (plain more) index first wrong)
 
-merged_or_wrong : (before : List Wal) (wal : Wal) (rows more : List (List Batch)) (held : HoldsRow wal) (merged : List Batch) (fault : RecoverFault) → HoldAll before rows → MergedLenient (rows ++ (held.row ++ more)) merged
+merged_or_wrong : (before : List Wal) (wal : Wal) (rows more : List (List Batch)) (held : HoldsRow wal) (merged : List Batch)
+    (fault : RecoverFault) → HoldAll before rows → MergedLenient (rows ++ (held.row ++ more)) merged
     → IsLenientlyRefusedWal (by_index (segments_of before) rows) wal fault → ⊥
 merged_or_wrong before wal rows more held merged (faults.Disk side) hold m w = w
 merged_or_wrong before wal rows more held merged (faults.DuplicateSegment number index) hold m w = w
-merged_or_wrong before wal rows more held merged (faults.BadBatch number index place fault) hold m w = held_or_bad (log_number wal.number) wal.segments held.row index place fault held.holds w.1
+merged_or_wrong before wal rows more held merged (faults.BadBatch number index place fault) hold m w = held_or_bad
+    (log_number wal.number) wal.segments held.row index place fault held.holds w.1
 merged_or_wrong before wal rows more held merged (faults.Gap number index expected found) hold m w = w
 merged_or_wrong before wal rows more held merged (faults.Conflict number index first) hold m w =
     merged_or_conflict_behind before wal rows more held merged index first hold m
-    (subst (λ (row : List (List Batch)). IsLenientConflict (by_index (segments_of before) rows ++ by_index wal.segments row) index first) (same_row wal w.1 held) w.2)
+    (subst (λ (row : List (List Batch)). IsLenientConflict (by_index (segments_of before) rows ++ by_index wal.segments row) index first)
+    (same_row wal w.1 held) w.2)
 merged_or_wrong before wal rows more held merged faults.NoMemory hold m w = w
 
 one_wrong : (before : List SegmentRead) (wal : Wal) (f g : RecoverFault) → IsLenientlyRefusedWal before wal f → IsLenientlyRefusedWal before wal g → f ≡ g
@@ -132,7 +138,8 @@ one_wrong before wal (faults.Conflict w i x) (faults.Gap v j e y) a b = absurd b
 one_wrong before wal (faults.Conflict w i x) faults.NoMemory a b = absurd b
 one_wrong before wal (faults.Conflict w i x) (faults.BadBatch v j q g) a b = absurd (bad_or_held wal j q g b.1 a.1)
 one_wrong before wal (faults.Conflict w i x) (faults.Conflict v j y) a b =
-    let wrong : IsLenientConflict (before ++ by_index wal.segments b.1.row) i x = subst (λ (row : List (List Batch)). IsLenientConflict (before ++ by_index wal.segments row) i x) (same_row wal a.1 b.1) a.2 in
+    let wrong : IsLenientConflict (before ++ by_index wal.segments b.1.row) i x = subst
+    (λ (row : List (List Batch)). IsLenientConflict (before ++ by_index wal.segments row) i x) (same_row wal a.1 b.1) a.2 in
     one_named wal.number w v (merges.Conflict i x) (merges.Conflict j y) a.0 b.0 (one_conflict (before ++ by_index wal.segments b.1.row) i x j y wrong b.2)
 
 -- ---- all WALs
@@ -144,17 +151,20 @@ record IsWrongAt (dirs : Dirs) (fault : RecoverFault) : Type 0 where
   wrong : IsLenientlyRefusedWal (by_index (segments_of reached.before) reached.rows) wal fault
 
 -- so no WALs are merged that go on after it
-wrong_behind : (dirs : Dirs) (fault : RecoverFault) (w : IsWrongAt dirs fault) (wals mid : List Wal) (rows : List (List Batch)) (merged : List Batch) → wals ≡ w.reached.before ++ w.wal ∷ mid → HoldAll wals rows
+wrong_behind : (dirs : Dirs) (fault : RecoverFault) (w : IsWrongAt dirs fault) (wals mid : List Wal) (rows : List (List Batch))
+    (merged : List Batch) → wals ≡ w.reached.before ++ w.wal ∷ mid → HoldAll wals rows
     → MergedLenient rows merged → ⊥
 wrong_behind dirs fault w wals mid rows merged is h m =
     let cut = holds_up_to w.reached.before w.wal mid rows (subst (λ (l : List Wal). HoldAll l rows) is h) in
     let earlier : cut.earlier ≡ w.reached.rows = one_all w.reached.before cut.earlier w.reached.rows cut.hold w.reached.hold in
     merged_or_wrong w.reached.before w.wal w.reached.rows cut.more cut.held merged fault w.reached.hold
-    (subst (λ (r : List (List Batch)). MergedLenient (r ++ (cut.held.row ++ cut.more)) merged) earlier (subst (λ (r : List (List Batch)). MergedLenient r merged) cut.is m)) w.wrong
+    (subst (λ (r : List (List Batch)). MergedLenient (r ++ (cut.held.row ++ cut.more)) merged) earlier
+    (subst (λ (r : List (List Batch)). MergedLenient r merged) cut.is m)) w.wrong
 
 recovered_or_wrong : (dirs : Dirs) (merged : List Batch) (fault : RecoverFault) → RecoversLenient dirs merged → IsWrongAt dirs fault → ⊥
 recovered_or_wrong dirs merged fault r w =
-    wrong_behind dirs fault w r.wals w.reached.after r.rows merged (one_listing dirs r.wals (w.reached.before ++ w.wal ∷ w.reached.after) r.listed w.reached.listed) r.hold r.merges
+    wrong_behind dirs fault w r.wals w.reached.after r.rows merged
+    (one_listing dirs r.wals (w.reached.before ++ w.wal ∷ w.reached.after) r.listed w.reached.listed) r.hold r.merges
 
 one_wrong_at : (dirs : Dirs) (f g : RecoverFault) → IsWrongAt dirs f → IsWrongAt dirs g → f ≡ g
 one_wrong_at dirs f g a b =
@@ -179,7 +189,11 @@ why dirs (faults.Disk side) r = absurd r
 why dirs (faults.DuplicateSegment w i) r = inl (w, i, refl, r)
 why dirs (faults.BadBatch w i p f) r = inr (record { wal = wal_of w r.segments; reached = r.reached; wrong = (refl, r.bad) })
 why dirs (faults.Gap w i e x) r = absurd r
-why dirs (faults.Conflict w i x) r = inr (record { wal = wal_of w r.segments; reached = r.reached; wrong = (refl, record { row = r.own; holds = r.holds }, r.wrong) })
+why dirs (faults.Conflict w i x) r = inr (record {
+  wal = wal_of w r.segments;
+  reached = r.reached;
+  wrong = (refl, record { row = r.own; holds = r.holds }, r.wrong);
+})
 why dirs faults.NoMemory r = absurd r
 
 -- directories that recover are refused by nothing

@@ -9,14 +9,16 @@ use Rattle.block_record.specs.declared.records.Rec.{Rec}
 use Rattle.block_record.specs.ReadOut.{Link, next_place, chunk_end, leaves_open, IsChain, spelled_from, nothing, ReadsOut}
 
 -- Of two chains of one length from one place, both are one.
-one_chain : (bytes : List ℕ) (log at : ℕ) (is_open : Bool) (ls ms : List Link) → IsChain bytes log at is_open ls → IsChain bytes log at is_open ms → length ls ≡ length ms → ls ≡ ms
+one_chain : (bytes : List ℕ) (log at : ℕ) (is_open : Bool) (ls ms : List Link) → IsChain bytes log at is_open ls
+    → IsChain bytes log at is_open ms → length ls ≡ length ms → ls ≡ ms
 one_chain bytes log at is_open [] [] a b e = refl
 one_chain bytes log at is_open [] (m ∷ ms) a b e = absurd (omega (arith, e))
 one_chain bytes log at is_open (l ∷ ls) [] a b e = absurd (omega (arith, e))
 one_chain bytes log at is_open (l ∷ ls) (m ∷ ms) a b e =
     let c = one_chunk a.1 b.1 in
     let here : l ≡ m = (λ i. record { kind = c.0 i; payload = c.1 i }) in
-    let rest : IsChain bytes log (chunk_end (next_place at) l) (leaves_open l.kind) ms = subst (λ (x : Link). IsChain bytes log (chunk_end (next_place at) x) (leaves_open x.kind) ms) (sym here) b.2 in
+    let rest : IsChain bytes log (chunk_end (next_place at) l) (leaves_open l.kind) ms = subst
+    (λ (x : Link). IsChain bytes log (chunk_end (next_place at) x) (leaves_open x.kind) ms) (sym here) b.2 in
     let len : length ls ≡ length ms = omega (arith, e) in
     ap (λ x. l ∷ x) (one_chain bytes log (chunk_end (next_place at) l) (leaves_open l.kind) ls ms a.2 rest len) ∙ ap (λ x. x ∷ ms) here
 

@@ -28,22 +28,27 @@ use Rattle.wal_recovery.proofs.OneReading as reading
 pub same_row : (wal : Wal) (a b : HoldsRow wal) → a.row ≡ b.row
 same_row wal a b = one_row reading.one_read reading.one_spelled (log_number wal.number) wal.segments a.row b.row a.holds b.holds
 
-merged_or_row_refused : (from : ℕ) (wal : Wal) (own : List Batch) (held : HoldsRow wal) (fault : MergeFault) → WalMerges from wal own → IsRowRefused from (by_index wal.segments held.row) fault → ⊥
+merged_or_row_refused : (from : ℕ) (wal : Wal) (own : List Batch) (held : HoldsRow wal) (fault : MergeFault) → WalMerges from wal own
+    → IsRowRefused from (by_index wal.segments held.row) fault → ⊥
 merged_or_row_refused from wal own held fault m refused =
     let rows : m.row ≡ held.row = same_row wal (record { row = m.row; holds = m.holds }) held in
     let batches = batches_by_index (log_number wal.number) wal.segments held.row held.holds in
-    merged_or_refused from (by_index wal.segments held.row) own fault (subst (λ (row : List (List Batch)). Merged from row own) (rows ∙ sym batches) m.merges) refused
+    merged_or_refused from (by_index wal.segments held.row) own fault
+    (subst (λ (row : List (List Batch)). Merged from row own) (rows ∙ sym batches) m.merges) refused
 
 merged_or_wrong : (from : ℕ) (wal : Wal) (own : List Batch) (fault : RecoverFault) → WalMerges from wal own → IsRefusedWal from wal fault → ⊥
 merged_or_wrong from wal own (faults.Disk side) m w = w
 merged_or_wrong from wal own (faults.DuplicateSegment number index) m w = w
-merged_or_wrong from wal own (faults.BadBatch number index place fault) m w = held_or_bad (log_number wal.number) wal.segments m.row index place fault m.holds w.1
+merged_or_wrong from wal own (faults.BadBatch number index place fault) m w = held_or_bad (log_number wal.number) wal.segments m.row index
+    place fault m.holds w.1
 merged_or_wrong from wal own (faults.Gap number index expected found) m w = merged_or_row_refused from wal own w.1 (merges.Gap index expected found) m w.2
 merged_or_wrong from wal own (faults.Conflict number index first) m w = merged_or_row_refused from wal own w.1 (merges.Conflict index first) m w.2
 merged_or_wrong from wal own faults.NoMemory m w = w
 
-one_row_refused : (from : ℕ) (wal : Wal) (a b : HoldsRow wal) (f g : MergeFault) → IsRowRefused from (by_index wal.segments a.row) f → IsRowRefused from (by_index wal.segments b.row) g → f ≡ g
-one_row_refused from wal a b f g p q = one_refusal from (by_index wal.segments b.row) f g (subst (λ (row : List (List Batch)). IsRowRefused from (by_index wal.segments row) f) (same_row wal a b) p) q
+one_row_refused : (from : ℕ) (wal : Wal) (a b : HoldsRow wal) (f g : MergeFault) → IsRowRefused from (by_index wal.segments a.row) f
+    → IsRowRefused from (by_index wal.segments b.row) g → f ≡ g
+one_row_refused from wal a b f g p q = one_refusal from (by_index wal.segments b.row) f g
+    (subst (λ (row : List (List Batch)). IsRowRefused from (by_index wal.segments row) f) (same_row wal a b) p) q
 
 pub bad_or_held : (wal : Wal) (index place : ℕ) (fault : BatchFault) → IsBadBatch (log_number wal.number) wal.segments index place fault → HoldsRow wal → ⊥
 bad_or_held wal index place fault bad held = held_or_bad (log_number wal.number) wal.segments held.row index place fault held.holds bad
@@ -80,7 +85,8 @@ one_wrong from wal (faults.Conflict w i x) (faults.BadBatch v j q g) a b = absur
 one_wrong from wal (faults.Conflict w i x) (faults.Gap v j e y) a b =
     let no : merges.Conflict i x ≡ merges.Gap j e y = one_row_refused from wal a.1 b.1 (merges.Conflict i x) (merges.Gap j e y) a.2 b.2 in absurd cc
 one_wrong from wal (faults.Conflict w i x) (faults.Conflict v j y) a b =
-    one_named wal.number w v (merges.Conflict i x) (merges.Conflict j y) a.0 b.0 (one_row_refused from wal a.1 b.1 (merges.Conflict i x) (merges.Conflict j y) a.2 b.2)
+    one_named wal.number w v (merges.Conflict i x) (merges.Conflict j y) a.0 b.0
+    (one_row_refused from wal a.1 b.1 (merges.Conflict i x) (merges.Conflict j y) a.2 b.2)
 
 -- ---- all WALs
 
@@ -91,12 +97,18 @@ record MergesUpTo (first : ℕ) (before : List Wal) (wal : Wal) : Type 0 where
   merged : WalsMerge first before base
   here : WalMerges (end_after first base) wal own
 
-merges_up_to : (first : ℕ) (before : List Wal) (wal : Wal) (after : List Wal) (merged : List Batch) → WalsMerge first (before ++ wal ∷ after) merged → MergesUpTo first before wal
+merges_up_to : (first : ℕ) (before : List Wal) (wal : Wal) (after : List Wal) (merged : List Batch)
+    → WalsMerge first (before ++ wal ∷ after) merged → MergesUpTo first before wal
 unfolding WalsMerge end_after
 merges_up_to first [] wal after merged (own, more, here, rest, is) = record { base = []; own = own; merged = refl; here = here }
 merges_up_to first (w ∷ before) wal after merged (own, more, here, rest, is) =
     let r = merges_up_to (end_after first own) before wal after more rest in
-    record { base = own ++ r.base; own = r.own; merged = (own, r.base, here, r.merged, refl); here = subst (λ (n : ℕ). WalMerges n wal r.own) (sym (end_append first own r.base)) r.here }
+    record {
+      base = own ++ r.base;
+      own = r.own;
+      merged = (own, r.base, here, r.merged, refl);
+      here = subst (λ (n : ℕ). WalMerges n wal r.own) (sym (end_append first own r.base)) r.here;
+    }
 
 -- a WAL of the directories is refused
 record IsWrongAt (dirs : Dirs) (fault : RecoverFault) : Type 0 where
@@ -106,15 +118,18 @@ record IsWrongAt (dirs : Dirs) (fault : RecoverFault) : Type 0 where
   wrong : IsRefusedWal (end_after NUMBER_FIRST base) wal fault
 
 -- so no WALs merge that go on after it
-wrong_behind : (dirs : Dirs) (fault : RecoverFault) (w : IsWrongAt dirs fault) (wals mid : List Wal) (merged : List Batch) → wals ≡ w.reached.before ++ w.wal ∷ mid → WalsMerge NUMBER_FIRST wals merged → ⊥
+wrong_behind : (dirs : Dirs) (fault : RecoverFault) (w : IsWrongAt dirs fault) (wals mid : List Wal) (merged : List Batch)
+    → wals ≡ w.reached.before ++ w.wal ∷ mid → WalsMerge NUMBER_FIRST wals merged → ⊥
 wrong_behind dirs fault w wals mid merged is m =
     let cut = merges_up_to NUMBER_FIRST w.reached.before w.wal mid merged (subst (λ (l : List Wal). WalsMerge NUMBER_FIRST l merged) is m) in
     let bases : cut.base ≡ w.base = one_wals reading.one_read reading.one_spelled NUMBER_FIRST w.reached.before cut.base w.base cut.merged w.reached.merged in
-    merged_or_wrong (end_after NUMBER_FIRST w.base) w.wal cut.own fault (subst (λ (b : List Batch). WalMerges (end_after NUMBER_FIRST b) w.wal cut.own) bases cut.here) w.wrong
+    merged_or_wrong (end_after NUMBER_FIRST w.base) w.wal cut.own fault
+    (subst (λ (b : List Batch). WalMerges (end_after NUMBER_FIRST b) w.wal cut.own) bases cut.here) w.wrong
 
 recovered_or_wrong : (dirs : Dirs) (merged : List Batch) (fault : RecoverFault) → Recovers dirs merged → IsWrongAt dirs fault → ⊥
 recovered_or_wrong dirs merged fault r w =
-    wrong_behind dirs fault w r.wals w.reached.after merged (one_listing dirs r.wals (w.reached.before ++ w.wal ∷ w.reached.after) r.listed w.reached.listed) r.merges
+    wrong_behind dirs fault w r.wals w.reached.after merged (one_listing dirs r.wals (w.reached.before ++ w.wal ∷ w.reached.after) r.listed
+    w.reached.listed) r.merges
 
 one_wrong_at : (dirs : Dirs) (f g : RecoverFault) → IsWrongAt dirs f → IsWrongAt dirs g → f ≡ g
 one_wrong_at dirs f g a b =
@@ -127,7 +142,8 @@ one_wrong_at dirs f g a b =
         let merged : WalsMerge NUMBER_FIRST b.reached.before a.base = subst (λ (l : List Wal). WalsMerge NUMBER_FIRST l a.base) befores a.reached.merged in
         let bases : a.base ≡ b.base = one_wals reading.one_read reading.one_spelled NUMBER_FIRST b.reached.before a.base b.base merged b.reached.merged in
         one_wrong (end_after NUMBER_FIRST b.base) b.wal f g
-        (subst (λ (x : Wal). IsRefusedWal (end_after NUMBER_FIRST b.base) x f) wals (subst (λ (l : List Batch). IsRefusedWal (end_after NUMBER_FIRST l) a.wal f) bases a.wrong)) b.wrong
+        (subst (λ (x : Wal). IsRefusedWal (end_after NUMBER_FIRST b.base) x f) wals
+        (subst (λ (l : List Batch). IsRefusedWal (end_after NUMBER_FIRST l) a.wal f) bases a.wrong)) b.wrong
     of_places (later mid is) = absurd (wrong_behind dirs g b a.reached.before mid a.base is a.reached.merged)
 
 -- ---- the directories
@@ -141,9 +157,20 @@ wal_of number segments = record { number = number; segments = segments }
 why : (dirs : Dirs) (fault : RecoverFault) → IsRefused dirs fault → IsTwiceNamed dirs fault ⊎ IsWrongAt dirs fault
 why dirs (faults.Disk side) r = absurd r
 why dirs (faults.DuplicateSegment w i) r = inl (w, i, refl, r)
-why dirs (faults.BadBatch w i p f) (segments, base, reached, bad) = inr (record { wal = wal_of w segments; base = base; reached = reached; wrong = (refl, bad) })
-why dirs (faults.Gap w i e x) (r, gap) = inr (record { wal = wal_of w r.segments; base = r.base; reached = r.reached; wrong = (refl, record { row = r.row; holds = r.holds }, gap) })
-why dirs (faults.Conflict w i x) (r, conflict) = inr (record { wal = wal_of w r.segments; base = r.base; reached = r.reached; wrong = (refl, record { row = r.row; holds = r.holds }, conflict) })
+why dirs (faults.BadBatch w i p f) (segments, base, reached, bad) = inr
+    (record { wal = wal_of w segments; base = base; reached = reached; wrong = (refl, bad) })
+why dirs (faults.Gap w i e x) (r, gap) = inr (record {
+  wal = wal_of w r.segments;
+  base = r.base;
+  reached = r.reached;
+  wrong = (refl, record { row = r.row; holds = r.holds }, gap);
+})
+why dirs (faults.Conflict w i x) (r, conflict) = inr (record {
+  wal = wal_of w r.segments;
+  base = r.base;
+  reached = r.reached;
+  wrong = (refl, record { row = r.row; holds = r.holds }, conflict);
+})
 why dirs faults.NoMemory r = absurd r
 
 -- directories that recover are refused by nothing

@@ -36,28 +36,38 @@ named_rose old new wal merges.NoMemory = tt
 
 module _ (tells : Bool) (files : Files) (wal : FoundWal) (own : IsOwnWal wal) where
   -- the reports on the WAL
-  pub wal_reports : (old new : List SegReport) → AddsSegments tells files wal.segments.items old new → IsTrue tells → AreAsListed files wal.segments.items → AddsReports (wal_in files wal) old new
+  pub wal_reports : (old new : List SegReport) → AddsSegments tells files wal.segments.items old new → IsTrue tells
+      → AreAsListed files wal.segments.items → AddsReports (wal_in files wal) old new
   wal_reports old new a told listed = record {
     own = a.own;
     reports = a.reports;
-    on = reports_on files wal.number wal.segments.items a.own (own_of wal own) (λ f at. All-contains (IsAsListed files) wal.segments.items f listed at) (a.holds told listed);
+    on = reports_on files wal.number wal.segments.items a.own (own_of wal own)
+        (λ f at. All-contains (IsAsListed files) wal.segments.items f listed at) (a.holds told listed);
   }
 
   -- what its row merges to
-  pub row_merged : (old new : List SegReport) (row : List SegmentRead) (next : ℕ) (merged : List Batch) → GathersWal tells files wal.segments.items old new row → Merged next (batches_in row) merged
+  pub row_merged : (old new : List SegReport) (row : List SegmentRead) (next : ℕ) (merged : List Batch)
+      → GathersWal tells files wal.segments.items old new row → Merged next (batches_in row) merged
       → IsTrue tells → AreAsListed files wal.segments.items → WalMerges next (wal_in files wal) merged
   row_merged old new row next merged g m told listed =
-      wal_merged files next wal g.added.own merged (own_of wal own) (g.added.holds told listed) (subst (λ (r : List SegmentRead). Merged next (batches_in r) merged) g.rows m)
+      wal_merged files next wal g.added.own merged (own_of wal own) (g.added.holds told listed)
+      (subst (λ (r : List SegmentRead). Merged next (batches_in r) merged) g.rows m)
 
   -- what refuses a merge of its row refuses the WAL
-  pub row_refused : (old new : List SegReport) (row : List SegmentRead) (next : ℕ) (fault : MergeFault) → GathersWal tells files wal.segments.items old new row → MemoryOrRefusal (IsRowRefused next row) fault
+  pub row_refused : (old new : List SegReport) (row : List SegmentRead) (next : ℕ) (fault : MergeFault)
+      → GathersWal tells files wal.segments.items old new row → MemoryOrRefusal (IsRowRefused next row) fault
       → IsTrue tells → AreAsListed files wal.segments.items → DiskMemoryOr (IsRefusedWal next (wal_in files wal)) (named_in_wal wal.number fault)
   row_refused old new row next fault g wrong told listed = go fault wrong
     where
       held : HoldsRow (wal_in files wal)
-      held = record { row = counted_in g.added.own; holds = row_holds files wal.number wal.segments.items g.added.own (own_of wal own) (g.added.holds told listed) }
+      held = record {
+        row = counted_in g.added.own;
+        holds = row_holds files wal.number wal.segments.items g.added.own (own_of wal own)
+            (g.added.holds told listed);
+      }
 
-      go : (fault : MergeFault) → MemoryOrRefusal (IsRowRefused next row) fault → DiskMemoryOr (IsRefusedWal next (wal_in files wal)) (named_in_wal wal.number fault)
+      go : (fault : MergeFault) → MemoryOrRefusal (IsRowRefused next row) fault
+          → DiskMemoryOr (IsRefusedWal next (wal_in files wal)) (named_in_wal wal.number fault)
       go (merges.Gap index expected found) h = (refl, held, subst (λ (r : List SegmentRead). IsGap next r index expected found) g.rows h)
       go (merges.Conflict index first) h = (refl, held, subst (λ (r : List SegmentRead). IsConflict next r index first) g.rows h)
       go merges.NoMemory h = tt
@@ -89,7 +99,8 @@ module _ (tells : Bool) (files : Files) (wal : FoundWal) (own : IsOwnWal wal) wh
       )
 
   -- and so does its first bad record
-  pub read_refused : (next : ℕ) (fault : RecoverFault) → DiskMemoryOr (IsFirstBadOf files wal.segments.items) fault → DiskMemoryOr (IsRefusedWal next (wal_in files wal)) fault
+  pub read_refused : (next : ℕ) (fault : RecoverFault) → DiskMemoryOr (IsFirstBadOf files wal.segments.items) fault
+      → DiskMemoryOr (IsRefusedWal next (wal_in files wal)) fault
   read_refused next (faults.Disk side) h = tt
   read_refused next faults.NoMemory h = tt
   read_refused next (faults.DuplicateSegment number index) h = bad_refused next (faults.DuplicateSegment number index) h

@@ -34,7 +34,8 @@ was_there : (o n : Option File) (f : File) → n ≡ Some f → IsAsOrSynced o n
 was_there o n f is (inl e) = (f, sym e ∙ is)
 was_there o n f is (inr (g, was, now)) = (g, was)
 
-pub all_stable : (old new : Files) (row : List Found) → IsRowOf old row → IsRested old → OnlySynced old new → All (λ (f : Found). IsSynced (new (place_listed f))) row → AreSegmentsStable new
+pub all_stable : (old new : Files) (row : List Found) → IsRowOf old row → IsRested old → OnlySynced old new
+    → All (λ (f : Found). IsSynced (new (place_listed f))) row → AreSegmentsStable new
 all_stable old new row is rested only synced side name f named there =
     let place = segment side name in
     let was = was_there (old place) (new place) f there (only place) in
@@ -46,10 +47,12 @@ all_stable old new row is rested only synced side name f named there =
 -- ---- moments
 
 -- a run that changes nothing, and one after it
-pub same_then : (old mid new : DiskView) (P : Files → Files → Type 0) → SameDisk old mid → AtEachMoment mid.clock new (P (files mid)) → AtEachMoment old.clock new (P (files old))
+pub same_then : (old mid new : DiskView) (P : Files → Files → Type 0) → SameDisk old mid → AtEachMoment mid.clock new (P (files mid))
+    → AtEachMoment old.clock new (P (files old))
 same_then old mid new P same each =
     subst (λ (fs : Files). AtEachMoment old.clock new (P fs)) (same_files old mid same) (subst (λ (k : ℕ). AtEachMoment k new (P (files mid))) same.clock each)
 
 -- syncs add no image
-pub synced_moments : (since : ℕ) (new : DiskView) (fs : Files) → ((p : Place) (f : File) → fs p ≡ Some f → IsSound p f) → AtEachMoment since new (OnlySynced fs) → AtEachMoment since new (AddsNoImage fs)
+pub synced_moments : (since : ℕ) (new : DiskView) (fs : Files) → ((p : Place) (f : File) → fs p ≡ Some f → IsSound p f)
+    → AtEachMoment since new (OnlySynced fs) → AtEachMoment since new (AddsNoImage fs)
 synced_moments since new fs sound each k low high = adds_no_image fs (new.history k) sound (each k low high)

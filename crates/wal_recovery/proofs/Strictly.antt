@@ -16,10 +16,17 @@ use Rattle.wal_recovery.specs.Listing.{Wal, AreByIndex, AreByNumber}
 use Rattle.wal_recovery.specs.Reports.{ReportOn, ReportOnAll}
 
 -- the reports on one WAL more
-pub reports_push : (wals : List Wal) (wal : Wal) (reports own : List SegReport) → ReportOnAll wals reports → ReportOn wal own → ReportOnAll (wals ++ wal ∷ []) (reports ++ own)
+pub reports_push : (wals : List Wal) (wal : Wal) (reports own : List SegReport) → ReportOnAll wals reports → ReportOn wal own
+    → ReportOnAll (wals ++ wal ∷ []) (reports ++ own)
 unfolding ReportOnAll
 reports_push [] wal reports own h on = (own, [], on, refl, ap (λ (l : List SegReport). l ++ own) h ∙ sym (append-nil own))
-reports_push (w ∷ wals) wal reports own h on = (h.0, h.1 ++ own, h.2, reports_push wals wal h.1 own h.3 on, ap (λ (l : List SegReport). l ++ own) h.4 ∙ append_assoc h.0 h.1 own)
+reports_push (w ∷ wals) wal reports own h on = (
+  h.0,
+  h.1 ++ own,
+  h.2,
+  reports_push wals wal h.1 own h.3 on,
+  ap (λ (l : List SegReport). l ++ own) h.4 ∙ append_assoc h.0 h.1 own,
+)
 
 numbered_in : (row : List SegmentRead) (batch : Batch) → AllByRecursion IsNumberedSegment row → Contains (all_of (batches_in row)) batch → IsNumbered batch
 numbered_in [] batch h at = absurd (none_within batch at)
@@ -43,7 +50,8 @@ by_index_at low (w ∷ wals) wal by at = elim (within_cases w wals wal at) [
 ]
 
 -- and so does what was merged with gaps
-pub lenient_numbered : (row : List SegmentRead) (merged : List Batch) → AllByRecursion IsNumberedSegment row → MergedLenient (batches_in row) merged → All IsNumbered merged
+pub lenient_numbered : (row : List SegmentRead) (merged : List Batch) → AllByRecursion IsNumberedSegment row
+    → MergedLenient (batches_in row) merged → All IsNumbered merged
 lenient_numbered row merged numbered m k d lt =
     numbered_in row (get_or merged k d) numbered ((m.same (get_or merged k d)).0 (Contains-get_or merged k d lt))
 

@@ -54,7 +54,8 @@ start_changes place old new change p = elim (same_place p place) [
   | inr ne ↦ inl (change.others p ne)
 ]
 
-end_changes : (place : Place) (old new : DiskView) (Change : Option File → Option File → Type 0) → ((f g : Option File) → Change f g → IsAsOrSynced f g) → ChangesFile place Change old new → OnlySynced (files old) (files new)
+end_changes : (place : Place) (old new : DiskView) (Change : Option File → Option File → Type 0)
+    → ((f g : Option File) → Change f g → IsAsOrSynced f g) → ChangesFile place Change old new → OnlySynced (files old) (files new)
 end_changes place old new Change by change p = elim (same_place p place) [
   | inl e ↦ subst (λ (q : Place). IsAsOrSynced (files old q) (files new q)) (sym e) (by (files old place) (files new place) change.here)
   | inr ne ↦ inl (change.others p ne)
@@ -77,14 +78,16 @@ file_there None may = absurd may
 file_there (Some f) may = (f, refl)
 
 -- the moments of some syncs, and of later ones
-pub moments_of_both : (old mid new : DiskView) → GoesOn old mid → GoesOn mid new → AtEachMoment old.clock mid (OnlySynced (files old)) → AtEachMoment mid.clock new (OnlySynced (files mid))
+pub moments_of_both : (old mid new : DiskView) → GoesOn old mid → GoesOn mid new → AtEachMoment old.clock mid (OnlySynced (files old))
+    → AtEachMoment mid.clock new (OnlySynced (files mid))
     → AtEachMoment old.clock new (OnlySynced (files old))
 moments_of_both old mid new goes later first more =
     moments_joined old.clock mid new (OnlySynced (files old)) first later
     (λ k low high. only_further (files old) (files mid) (new.history k) (first mid.clock goes.clock (omega arith)) (more k low high))
 
 -- A sync from its start to its end.
-module _ (tells : Bool) (place : Place) (side : Side) (id : OpId) (old started new : DiskView) (done : Bool) (starts : Starts (record { place = place; act = syncing }) side id old started) (end : EndsBy tells id started new done) where
+module _ (tells : Bool) (place : Place) (side : Side) (id : OpId) (old started new : DiskView) (done : Bool)
+    (starts : Starts (record { place = place; act = syncing }) side id old started) (end : EndsBy tells id started new done) where
   abbrev flight : Flight
   flight = record { place = place; act = syncing }
 
@@ -138,7 +141,8 @@ module _ (tells : Bool) (place : Place) (side : Side) (id : OpId) (old started n
     sync_moments goes =
         moments_more old.clock end.mid new (OnlySynced (files old))
         (moments_stay old.clock started end.mid (OnlySynced (files old))
-        (moments_more old.clock old started (OnlySynced (files old)) (moments_from old (OnlySynced (files old)) (only_none (files old))) goes change.clock only_started)
+        (moments_more old.clock old started (OnlySynced (files old)) (moments_from old (OnlySynced (files old)) (only_none (files old)))
+        goes change.clock only_started)
         end.goes end.same.clock)
         end.later (clock_by done end.end) (only_further (files old) (files end.mid) (files new) only_mid (only_by done end.end))
 
@@ -148,13 +152,16 @@ module _ (tells : Bool) (place : Place) (side : Side) (id : OpId) (old started n
         by_end : (d : Bool) → d ≡ true → IsEnd tells id end.mid new d → IsSynced (files new place)
         by_end false e is_end = absurd cc
         by_end true e is_end =
-            done_synced (files end.mid place) (files new place) f (ap (λ (fs : Files). fs place) mid_files ∙ change.here ∙ is) (is_end.file told flight flies).here
+            done_synced (files end.mid place) (files new place) f (ap (λ (fs : Files). fs place) mid_files ∙ change.here ∙ is)
+            (is_end.file told flight flies).here
 
 -- one segment more is synced
-pub synced_more : (mid new : Files) (segments : List Found) (i : ℕ) (d : Found) → i < length segments → All (λ (g : Found). IsSynced (mid (place_listed g))) (take i segments) → OnlySynced mid new
+pub synced_more : (mid new : Files) (segments : List Found) (i : ℕ) (d : Found) → i < length segments
+    → All (λ (g : Found). IsSynced (mid (place_listed g))) (take i segments) → OnlySynced mid new
     → IsSynced (new (place_listed (get_or segments i d))) → All (λ (g : Found). IsSynced (new (place_listed g))) (take (i + 1) segments)
 synced_more mid new segments i d lt before only here =
     let kept : All (λ (g : Found). IsSynced (new (place_listed g))) (take i segments) = λ k d low.
-    synced_stays (mid (place_listed (get_or (take i segments) k d))) (new (place_listed (get_or (take i segments) k d))) (before k d low) (only (place_listed (get_or (take i segments) k d))) in
+    synced_stays (mid (place_listed (get_or (take i segments) k d))) (new (place_listed (get_or (take i segments) k d))) (before k d low)
+    (only (place_listed (get_or (take i segments) k d))) in
     let pushed = All-push (λ (g : Found). IsSynced (new (place_listed g))) (take i segments) (get_or segments i d) kept here in
     subst (λ (l : List Found). All (λ (g : Found). IsSynced (new (place_listed g))) l) (sym (take_more segments i d lt)) pushed

@@ -19,12 +19,14 @@ pub wals_own : (wals : List FoundWal) (row : List Found) → Groups wals row [] 
 wals_own wals row g = All-from_recursion IsOwnWal wals (own_by wals row g)
 
 module _ (files : Files) where
-  listed_by : (wals : List FoundWal) (row : List Found) → Groups wals row [] → ((f : Found) → Contains row f → IsAsListed files f) → AllByRecursion (λ (w : FoundWal). AreAsListed files w.segments.items) wals
+  listed_by : (wals : List FoundWal) (row : List Found) → Groups wals row [] → ((f : Found) → Contains row f → IsAsListed files f)
+      → AllByRecursion (λ (w : FoundWal). AreAsListed files w.segments.items) wals
   unfolding Groups
   listed_by [] row g each = tt
   listed_by (wal ∷ wals) row (later, group, rest) each = (
     λ k d lt. each (get_or wal.segments.items k d)
-        (subst (λ (r : List Found). Contains r (get_or wal.segments.items k d)) (sym group.cut) (Contains-append_left wal.segments.items later (get_or wal.segments.items k d) (Contains-get_or wal.segments.items k d lt))),
+        (subst (λ (r : List Found). Contains r (get_or wal.segments.items k d)) (sym group.cut)
+        (Contains-append_left wal.segments.items later (get_or wal.segments.items k d) (Contains-get_or wal.segments.items k d lt))),
     listed_by wals later rest (λ f at. each f (subst (λ (r : List Found). Contains r f) (sym group.cut) (Contains-append_right wal.segments.items later f at))),
   )
 

@@ -11,7 +11,8 @@ use Rattle.wal_recovery.specs.declared.listing.Found.{Found}
 use Rattle.wal_recovery.specs.Rows.{item_of, Ascends, IsBeforeHead, Takes, Weaves}
 
 -- one segment more
-pub weaves_more : (row : List Found) (ones others ro rs a b : List Listed) (f : Found) → Weaves row ones others ro rs → Takes f ro rs a b → Weaves (row ++ f ∷ []) ones others a b
+pub weaves_more : (row : List Found) (ones others ro rs a b : List Listed) (f : Found) → Weaves row ones others ro rs → Takes f ro rs a b
+    → Weaves (row ++ f ∷ []) ones others a b
 unfolding Weaves
 weaves_more [] ones others ro rs a b f w t =
     (a, b, subst (λ x. Takes f x others a b) (sym w.0) (subst (λ y. Takes f ro y a b) (sym w.1) t), (refl, refl))
@@ -110,7 +111,8 @@ taken f ones others a b (inr (is, cut, same, head)) up down =
 -- ---- the row
 
 -- a segment of the row was an item of its side
-pub row_from : (row : List Found) (ones others ro rs : List Listed) → Weaves row ones others ro rs → IsAscending ones → IsAscending others → (g : Found) → Contains row g
+pub row_from : (row : List Found) (ones others ro rs : List Listed) → Weaves row ones others ro rs → IsAscending ones → IsAscending others
+    → (g : Found) → Contains row g
     → Contains (on g.side ones others) (item_of g)
 unfolding Weaves
 row_from [] ones others ro rs w up down g at = absurd (none_within g at)
@@ -122,10 +124,12 @@ row_from (f ∷ row) ones others ro rs w up down g at =
     ]
 
 -- an item of a side is in the row, or is left
-pub row_to : (row : List Found) (ones others ro rs : List Listed) → Weaves row ones others ro rs → IsAscending ones → IsAscending others → (side : Side) (item : Listed)
+pub row_to : (row : List Found) (ones others ro rs : List Listed) → Weaves row ones others ro rs → IsAscending ones → IsAscending others
+    → (side : Side) (item : Listed)
     → Contains (on side ones others) item → Contains row (found_on side item) ⊎ Contains (on side ro rs) item
 unfolding Weaves
-row_to [] ones others ro rs w up down side item at = inr (subst (λ xs. Contains (on side xs rs) item) w.0 (subst (λ xs. Contains (on side ones xs) item) w.1 at))
+row_to [] ones others ro rs w up down side item at = inr (subst (λ xs. Contains (on side xs rs) item) w.0
+    (subst (λ xs. Contains (on side ones xs) item) w.1 at))
 row_to (f ∷ row) ones others ro rs w up down side item at =
     let k = taken f ones others w.0 w.1 w.2 up down in
     elim (k.cases side item at) [
@@ -137,16 +141,19 @@ row_to (f ∷ row) ones others ro rs w up down side item at =
     ]
 
 -- what is left was an item of its side
-pub left_from : (row : List Found) (ones others ro rs : List Listed) → Weaves row ones others ro rs → IsAscending ones → IsAscending others → (side : Side) (item : Listed)
+pub left_from : (row : List Found) (ones others ro rs : List Listed) → Weaves row ones others ro rs → IsAscending ones → IsAscending others
+    → (side : Side) (item : Listed)
     → Contains (on side ro rs) item → Contains (on side ones others) item
 unfolding Weaves
-left_from [] ones others ro rs w up down side item at = subst (λ xs. Contains (on side xs others) item) (sym w.0) (subst (λ xs. Contains (on side ro xs) item) (sym w.1) at)
+left_from [] ones others ro rs w up down side item at = subst (λ xs. Contains (on side xs others) item) (sym w.0)
+    (subst (λ xs. Contains (on side ro xs) item) (sym w.1) at)
 left_from (f ∷ row) ones others ro rs w up down side item at =
     let k = taken f ones others w.0 w.1 w.2 up down in
     k.sub side item (left_from row w.0 w.1 ro rs w.3 k.ones_ascend k.others_ascend side item at)
 
 -- what is left ascends
-pub left_ascends : (row : List Found) (ones others ro rs : List Listed) → Weaves row ones others ro rs → IsAscending ones → IsAscending others → IsAscending ro × IsAscending rs
+pub left_ascends : (row : List Found) (ones others ro rs : List Listed) → Weaves row ones others ro rs → IsAscending ones
+    → IsAscending others → IsAscending ro × IsAscending rs
 unfolding Weaves
 left_ascends [] ones others ro rs w up down = (subst IsAscending w.0 up, subst IsAscending w.1 down)
 left_ascends (f ∷ row) ones others ro rs w up down =

@@ -48,7 +48,8 @@ pub record IsListingOf (dirs : Dirs) (wals : List Wal) : Type 0 where
 -- One WAL and index stand on both sides.
 abbrev pub IsTwice : Dirs → ℕ → ℕ → Type 0
 IsTwice dirs wal index =
-    IsSegmentName (name_in wal index) × (one : List ℕ) × (two : List ℕ) × (dirs (place_in wal Primary index) ≡ Some one) × (dirs (place_in wal Secondary index) ≡ Some two)
+    IsSegmentName (name_in wal index) × (one : List ℕ) × (two : List ℕ) × (dirs (place_in wal Primary index) ≡ Some one)
+    × (dirs (place_in wal Secondary index) ≡ Some two)
 
 -- They are the least that do.
 pub record IsDuplicate (dirs : Dirs) (wal index : ℕ) : Type 0 where
@@ -58,4 +59,5 @@ pub record IsDuplicate (dirs : Dirs) (wal index : ℕ) : Type 0 where
 -- 1 more than the greatest number of a WAL that has a segment in the directories, and 1 where none has
 pub record IsNextWal (dirs : Dirs) (next : ℕ) : Type 0 where
   pub above : (number : ℕ) (stored : Stored) → StandsIn dirs number stored → number < next
-  pub least : ((next ≡ 1) × ((number : ℕ) (stored : Stored) → StandsIn dirs number stored → ⊥)) ⊎ ((number : ℕ) × (stored : Stored) × StandsIn dirs number stored × (next ≡ suc number))
+  pub least : ((next ≡ 1) × ((number : ℕ) (stored : Stored) → StandsIn dirs number stored → ⊥))
+      ⊎ ((number : ℕ) × (stored : Stored) × StandsIn dirs number stored × (next ≡ suc number))

@@ -26,14 +26,18 @@ pub record HoldsRow (wal : Wal) : Type 0 where
 -- Why the WAL is refused where this number comes next.
 abbrev pub IsRefusedWal : ℕ → Wal → RecoverFault → Type 0
 IsRefusedWal next wal (faults.BadBatch number index place fault) = (number ≡ wal.number) × IsBadBatch (log_number wal.number) wal.segments index place fault
-IsRefusedWal next wal (faults.Gap number index expected found) = (number ≡ wal.number) × (h : HoldsRow wal) × IsGap next (by_index wal.segments h.row) index expected found
-IsRefusedWal next wal (faults.Conflict number index first) = (number ≡ wal.number) × (h : HoldsRow wal) × IsConflict next (by_index wal.segments h.row) index first
+IsRefusedWal next wal (faults.Gap number index expected found) = (number ≡ wal.number) × (h : HoldsRow wal)
+    × IsGap next (by_index wal.segments h.row) index expected found
+IsRefusedWal next wal (faults.Conflict number index first) = (number ≡ wal.number) × (h : HoldsRow wal)
+    × IsConflict next (by_index wal.segments h.row) index first
 IsRefusedWal next wal fault = ⊥
 
 -- ---- where gaps are accepted
 
 -- Why the WAL is refused after this row of the WALs before it.
 abbrev pub IsLenientlyRefusedWal : List SegmentRead → Wal → RecoverFault → Type 0
-IsLenientlyRefusedWal before wal (faults.BadBatch number index place fault) = (number ≡ wal.number) × IsBadBatch (log_number wal.number) wal.segments index place fault
-IsLenientlyRefusedWal before wal (faults.Conflict number index first) = (number ≡ wal.number) × (h : HoldsRow wal) × IsLenientConflict (before ++ by_index wal.segments h.row) index first
+IsLenientlyRefusedWal before wal (faults.BadBatch number index place fault) = (number ≡ wal.number)
+    × IsBadBatch (log_number wal.number) wal.segments index place fault
+IsLenientlyRefusedWal before wal (faults.Conflict number index first) = (number ≡ wal.number) × (h : HoldsRow wal)
+    × IsLenientConflict (before ++ by_index wal.segments h.row) index first
 IsLenientlyRefusedWal before wal fault = ⊥

@@ -120,7 +120,8 @@ FillsBuffer tells v segment old new count = AreBytesOf tells v segment (length o
 
 -- The fault is the first bad record of the segment, the disk's or out of memory.
 abbrev pub IsBadSegment : Bool → DiskView → Found → RecoverFault → Type 0
-IsBadSegment tells v segment fault = IsTrue tells → IsAsListed (files v) segment → DiskMemoryOr (IsBadIn segment (bytes_at (files v) (place_listed segment))) fault
+IsBadSegment tells v segment fault = IsTrue tells → IsAsListed (files v) segment
+    → DiskMemoryOr (IsBadIn segment (bytes_at (files v) (place_listed segment))) fault
 
 -- ---- one WAL
 

@@ -69,8 +69,10 @@ IsRefused dirs (faults.Disk side) = ⊥
 IsRefused dirs (faults.DuplicateSegment wal index) = IsDuplicate dirs wal index
 IsRefused dirs (faults.BadBatch wal index place fault) =
     (segments : List Stored) × (base : List Batch) × Reaches dirs wal segments base × IsBadBatch (log_number wal) segments index place fault
-IsRefused dirs (faults.Gap wal index expected found) = (r : ReachesRow dirs wal) × IsGap (end_after NUMBER_FIRST r.base) (by_index r.segments r.row) index expected found
-IsRefused dirs (faults.Conflict wal index first) = (r : ReachesRow dirs wal) × IsConflict (end_after NUMBER_FIRST r.base) (by_index r.segments r.row) index first
+IsRefused dirs (faults.Gap wal index expected found) = (r : ReachesRow dirs wal)
+    × IsGap (end_after NUMBER_FIRST r.base) (by_index r.segments r.row) index expected found
+IsRefused dirs (faults.Conflict wal index first) = (r : ReachesRow dirs wal)
+    × IsConflict (end_after NUMBER_FIRST r.base) (by_index r.segments r.row) index first
 IsRefused dirs faults.NoMemory = ⊥
 
 -- ---- where gaps are accepted

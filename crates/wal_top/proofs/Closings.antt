@@ -20,7 +20,8 @@ use Rattle.wal_top.specs.Doing.{numbered_behind, Stage, Logs, Commits, Closes, E
 use Rattle.wal_top.proofs.Running.{len_is, has_ended}
 
 -- a journal with the mark of it is dead
-pub marked_dead : (state : State) (fault : JournalFault) (side : Side) (count : ℕ) → fault ≡ faults.Dead side count → IsMarked state fault → true ≡ is_some state.dead
+pub marked_dead : (state : State) (fault : JournalFault) (side : Side) (count : ℕ) → fault ≡ faults.Dead side count → IsMarked state fault
+    → true ≡ is_some state.dead
 marked_dead state fault side count is marked =
     ap (λ (o : Option DeadMark). is_some o) (sym (subst (IsMarked state) is marked))
 
@@ -28,9 +29,11 @@ marked_dead state fault side count is marked =
 pub unmarked_lives : (state : State) → state.dead ≡ None → false ≡ is_some state.dead
 unmarked_lives state lives = ap (λ (o : Option DeadMark). is_some o) (sym lives)
 
-pub closes_stage : (tells died : Bool) (batches : List Batch) (text : List ℕ) (limited : Bool) (old new : State) (before after : DiskView) → RunsStill tells old before new after
+pub closes_stage : (tells died : Bool) (batches : List Batch) (text : List ℕ) (limited : Bool) (old new : State) (before after : DiskView)
+    → RunsStill tells old before new after
     → (died ≡ false → old.dead ≡ None) → (died ≡ is_some new.dead) → (died ≡ false → acked new ≡ len new) → (died ≡ false → NothingInFlight after)
-    → Closes tells died (record { batches = batches; journal = old; view = before; text = text; limited = limited }) (record { batches = batches; journal = new; view = after; text = text; limited = limited })
+    → Closes tells died (record { batches = batches; journal = old; view = before; text = text; limited = limited })
+    (record { batches = batches; journal = new; view = after; text = text; limited = limited })
 closes_stage tells died batches text limited old new before after runs lives dead all rests = record {
   batches = refl;
   text = refl;
@@ -42,33 +45,46 @@ closes_stage tells died batches text limited old new before after runs lives dea
 }
 
 -- the last line after a closing
-pub ends_run : (tells died : Bool) (old mid : Stage) (acked_now begun visible count : ℕ) (text : List ℕ) → Closes tells died old mid → IsSoundJournal mid.journal → acked_now ≡ acked mid.journal → begun ≡ length mid.journal.segments
-    → visible ≡ end_after NUMBER_FIRST mid.batches → IsContiguous NUMBER_FIRST mid.batches → visible ≤ NUMBER_MAX → count ≡ len mid.journal → text ≡ mid.text ++ end_line visible count (record { acked = acked_now; segments = begun; died = died })
-    → EndsRun tells (record { acked = acked_now; segments = begun; died = died }) old (record { batches = mid.batches; journal = mid.journal; view = mid.view; text = text; limited = mid.limited })
+pub ends_run : (tells died : Bool) (old mid : Stage) (acked_now begun visible count : ℕ) (text : List ℕ) → Closes tells died old mid
+    → IsSoundJournal mid.journal → acked_now ≡ acked mid.journal → begun ≡ length mid.journal.segments
+    → visible ≡ end_after NUMBER_FIRST mid.batches → IsContiguous NUMBER_FIRST mid.batches → visible ≤ NUMBER_MAX → count ≡ len mid.journal
+    → text ≡ mid.text ++ end_line visible count (record { acked = acked_now; segments = begun; died = died })
+    → EndsRun tells (record { acked = acked_now; segments = begun; died = died }) old
+    (record { batches = mid.batches; journal = mid.journal; view = mid.view; text = text; limited = mid.limited })
 ends_run tells died old mid acked_now begun visible count text c sound acked_is begun_is visible_is numbered within count_is text_is =
     let end : JournalEnd = record { acked = acked_now; segments = begun; died = died } in
-    let same : record { acked = acked mid.journal; segments = length mid.journal.segments; died = died } ≡ end = λ i. record { acked = sym acked_is i; segments = sym begun_is i; died = died } in
+    let same : record { acked = acked mid.journal; segments = length mid.journal.segments; died = died } ≡ end =
+    λ i. record { acked = sym acked_is i; segments = sym begun_is i; died = died } in
     record {
       batches = c.batches;
       limited = c.limited;
       lives = c.lives;
       numbered = subst (IsContiguous NUMBER_FIRST) c.batches numbered;
       within = omega (arith, within, visible_is, ap (end_after NUMBER_FIRST) c.batches);
-      reply = text_is ∙ ap (λ (t : List ℕ). t ++ end_line visible count end) c.text ∙ ap (λ (n : ℕ). old.text ++ end_line n count end) (visible_is ∙ ap (end_after NUMBER_FIRST) c.batches) ∙ ap (λ (n : ℕ). old.text ++ end_line (end_after NUMBER_FIRST old.batches) n end) count_is;
-      ended = λ start wal first own r. let e = c.ended sound start wal first own r in (e.0, subst (λ (x : JournalEnd). HasEnded tells start wal first own x mid.view) same e.1);
+      reply = text_is ∙ ap (λ (t : List ℕ). t ++ end_line visible count end) c.text
+          ∙ ap (λ (n : ℕ). old.text ++ end_line n count end) (visible_is ∙ ap (end_after NUMBER_FIRST) c.batches)
+          ∙ ap (λ (n : ℕ). old.text ++ end_line (end_after NUMBER_FIRST old.batches) n end) count_is;
+      ended = λ start wal first own r. let e = c.ended sound start wal first own r
+          in (e.0, subst (λ (x : JournalEnd). HasEnded tells start wal first own x mid.view) same e.1);
     }
 
 -- ---- a commit
 
-pub commits_stage : (tells : Bool) (entries : List Entry) (old : Stage) (batches : List Batch) (journal : State) (view : DiskView) (text : List ℕ) (numbered : Batch) (first count : ℕ) → old.journal.dead ≡ None → end_after NUMBER_FIRST old.batches + count_of entries ≤ NUMBER_MAX
-    → batches ≡ old.batches ++ numbered_behind old.batches entries ∷ [] → numbered ≡ numbered_behind old.batches entries → first ≡ numbered.first → count ≡ count_of numbered.entries → text ≡ old.text ++ commit_line 0 first count
-    → Logs numbered old.journal old.view journal view → ((start : DiskView) (wal number : ℕ) (own : List Batch) → Runs tells start wal number own old.journal old.view → Runs tells start wal number (own ++ numbered ∷ []) journal view)
+pub commits_stage : (tells : Bool) (entries : List Entry) (old : Stage) (batches : List Batch) (journal : State) (view : DiskView)
+    (text : List ℕ) (numbered : Batch) (first count : ℕ) → old.journal.dead ≡ None
+    → end_after NUMBER_FIRST old.batches + count_of entries ≤ NUMBER_MAX
+    → batches ≡ old.batches ++ numbered_behind old.batches entries ∷ [] → numbered ≡ numbered_behind old.batches entries
+    → first ≡ numbered.first → count ≡ count_of numbered.entries → text ≡ old.text ++ commit_line 0 first count
+    → Logs numbered old.journal old.view journal view → ((start : DiskView) (wal number : ℕ) (own : List Batch)
+    → Runs tells start wal number own old.journal old.view → Runs tells start wal number (own ++ numbered ∷ []) journal view)
     → Commits tells entries old (record { batches = batches; journal = journal; view = view; text = text; limited = old.limited })
 commits_stage tells entries old batches journal view text numbered first count lives room added is first_is count_is text_is logs runs = record {
   lives = lives;
   room = room;
   batches = added;
-  reply = text_is ∙ ap (λ (n : ℕ). old.text ++ commit_line 0 n count) (first_is ∙ ap (λ (b : Batch). b.first) is) ∙ ap (λ (n : ℕ). old.text ++ commit_line 0 (end_after NUMBER_FIRST old.batches) n) (count_is ∙ ap (λ (b : Batch). count_of b.entries) is);
+  reply = text_is ∙ ap (λ (n : ℕ). old.text ++ commit_line 0 n count) (first_is ∙ ap (λ (b : Batch). b.first) is)
+      ∙ ap (λ (n : ℕ). old.text ++ commit_line 0 (end_after NUMBER_FIRST old.batches) n)
+      (count_is ∙ ap (λ (b : Batch). count_of b.entries) is);
   limited = refl;
   logs = subst (λ (b : Batch). Logs b old.journal old.view journal view) is logs;
   runs = λ start wal number own r. subst (λ (b : Batch). Runs tells start wal number (own ++ b ∷ []) journal view) is (runs start wal number own r);

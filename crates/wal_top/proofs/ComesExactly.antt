@@ -50,12 +50,14 @@ is_command words Strict (inr is) = inr (inl is)
 is_command words Lenient is = inr (inr is)
 
 -- a command that accepts no gap is refused for that
-refused_strictly : (words : List (List ℕ)) (mode : Mode) (view : DiskView) (why : RecoverFault) → IsReplay words ⊎ IsRecover words → RecoversIn words mode → IsRefusedBy mode (directories view) why → IsRefused (directories view) why
+refused_strictly : (words : List (List ℕ)) (mode : Mode) (view : DiskView) (why : RecoverFault) → IsReplay words ⊎ IsRecover words
+    → RecoversIn words mode → IsRefusedBy mode (directories view) why → IsRefused (directories view) why
 refused_strictly words Strict view why strict is r = r
 refused_strictly words Lenient view why (inl replay) is r = absurd (not_dump words replay is)
 refused_strictly words Lenient view why (inr recover) is r = absurd (not_shown words recover is)
 
-refused_leniently : (words : List (List ℕ)) (mode : Mode) (view : DiskView) (why : RecoverFault) → IsDump words → RecoversIn words mode → IsRefusedBy mode (directories view) why → IsLenientlyRefused (directories view) why
+refused_leniently : (words : List (List ℕ)) (mode : Mode) (view : DiskView) (why : RecoverFault) → IsDump words → RecoversIn words mode
+    → IsRefusedBy mode (directories view) why → IsLenientlyRefused (directories view) why
 refused_leniently words Lenient view why dump is r = r
 refused_leniently words Strict view why dump (inl replay) r = absurd (not_dump words replay dump)
 refused_leniently words Strict view why dump (inr recover) r = absurd (not_shown words recover dump)
@@ -125,22 +127,29 @@ module _ (c : Invocation) where
 
   -- ---- directories that are refused
 
-  module _ (mode : Mode) (why : RecoverFault) (words : RecoversIn c.words mode) (told : IsTrue c.tells) (is_refused : IsRefusedBy mode (directories c.disk.before) why) where
+  module _ (mode : Mode) (why : RecoverFault) (words : RecoversIn c.words mode) (told : IsTrue c.tells)
+      (is_refused : IsRefusedBy mode (directories c.disk.before) why) where
     limited_unrefused : (text : List ℕ) → IsLimited c text → ⊥
     limited_unrefused text (of_numbers acts batches end r lives lacks) =
-        recovered_or_refused (directories c.disk.before) r.done.base why (r.done.recovers told) (refused_strictly c.words mode c.disk.before why (inl r.words) words is_refused)
+        recovered_or_refused (directories c.disk.before) r.done.base why (r.done.recovers told)
+        (refused_strictly c.words mode c.disk.before why (inl r.words) words is_refused)
     limited_unrefused text (of_wals l) =
-        recovered_or_refused (directories c.disk.before) l.base why (l.recovers told) (refused_strictly c.words mode c.disk.before why (inl l.words) words is_refused)
+        recovered_or_refused (directories c.disk.before) l.base why (l.recovers told)
+        (refused_strictly c.words mode c.disk.before why (inl l.words) words is_refused)
 
     done_unrefused : (text : List ℕ) → IsDoneRun c text → ⊥
     done_unrefused text (replayed acts batches end r lives all) =
-        recovered_or_refused (directories c.disk.before) r.done.base why (r.done.recovers told) (refused_strictly c.words mode c.disk.before why (inl r.words) words is_refused)
+        recovered_or_refused (directories c.disk.before) r.done.base why (r.done.recovers told)
+        (refused_strictly c.words mode c.disk.before why (inl r.words) words is_refused)
     done_unrefused text (recovered s) =
-        recovered_or_refused (directories c.disk.before) s.batches why (s.recovers told) (refused_strictly c.words mode c.disk.before why (inr s.words) words is_refused)
+        recovered_or_refused (directories c.disk.before) s.batches why (s.recovers told)
+        (refused_strictly c.words mode c.disk.before why (inr s.words) words is_refused)
     done_unrefused text (dumped s) =
-        lenient_or_refused (directories c.disk.before) s.batches why (s.recovers told) (refused_leniently c.words mode c.disk.before why s.words words is_refused)
+        lenient_or_refused (directories c.disk.before) s.batches why (s.recovers told)
+        (refused_leniently c.words mode c.disk.before why s.words words is_refused)
 
-    refused_is : (said : Status) (text : List ℕ) → HasToSay c said text → (ReadsSource c.words → TellsScript c.left.before) → HasCalmSource c → HasCalmDisk c → said ≡ Refused
+    refused_is : (said : Status) (text : List ℕ) → HasToSay c said text → (ReadsSource c.words → TellsScript c.left.before)
+        → HasCalmSource c → HasCalmDisk c → said ≡ Refused
     refused_is Done text h good calm calm_disk = absurd (done_unrefused text h)
     refused_is Usage text h good calm calm_disk = absurd (h.0 (is_command c.words mode words))
     refused_is Script text h good calm calm_disk = absurd (not_refused c.left text (good h.0) h.1)
@@ -154,34 +163,48 @@ module _ (c : Invocation) where
   -- ---- directories that recover
 
   -- are refused by no command that accepts no gap
-  recovered_unrefused : (base : List Batch) (text : List ℕ) → IsReplay c.words ⊎ IsRecover c.words → IsTrue c.tells → Recovers (directories c.disk.before) base → RefusesDirectories c text → ⊥
+  recovered_unrefused : (base : List Batch) (text : List ℕ) → IsReplay c.words ⊎ IsRecover c.words → IsTrue c.tells
+      → Recovers (directories c.disk.before) base → RefusesDirectories c text → ⊥
   recovered_unrefused base text strict told recovers r =
-      recovered_or_refused (directories c.disk.before) base r.fault recovers (refused_strictly c.words r.mode c.disk.before r.fault strict r.words (r.refused told))
+      recovered_or_refused (directories c.disk.before) base r.fault recovers
+      (refused_strictly c.words r.mode c.disk.before r.fault strict r.words (r.refused told))
 
-  lenient_unrefused : (base : List Batch) (text : List ℕ) → IsDump c.words → IsTrue c.tells → RecoversLenient (directories c.disk.before) base → RefusesDirectories c text → ⊥
+  lenient_unrefused : (base : List Batch) (text : List ℕ) → IsDump c.words → IsTrue c.tells
+      → RecoversLenient (directories c.disk.before) base → RefusesDirectories c text → ⊥
   lenient_unrefused base text dump told recovers r =
-      lenient_or_refused (directories c.disk.before) base r.fault recovers (refused_leniently c.words r.mode c.disk.before r.fault dump r.words (r.refused told))
+      lenient_or_refused (directories c.disk.before) base r.fault recovers
+      (refused_leniently c.words r.mode c.disk.before r.fault dump r.words (r.refused told))
 
   module _ (b : MayBegin c) where
     -- the base and the acts are those
-    replay_told : (acts : List Act) (batches : List Batch) (end : JournalEnd) (text : List ℕ) → Replays c acts batches end text → IsReplayText b.base b.script.good.acts batches end text
+    replay_told : (acts : List Act) (batches : List Batch) (end : JournalEnd) (text : List ℕ) → Replays c acts batches end text
+        → IsReplayText b.base b.script.good.acts batches end text
     replay_told acts batches end text r =
         subst (λ (a : List Act). IsReplayText b.base a batches end text) (acts_told c.left.before c.left.after acts b.script r.accepts)
-        (subst (λ (l : List Batch). IsReplayText l acts batches end text) (recovers_once (directories c.disk.before) r.done.base b.base (r.done.recovers b.tells) b.recovers) r.done.answers)
+        (subst (λ (l : List Batch). IsReplayText l acts batches end text)
+        (recovers_once (directories c.disk.before) r.done.base b.base (r.done.recovers b.tells) b.recovers) r.done.answers)
 
     done_within : (text : List ℕ) → IsDoneRun c text → (WAL_MAX < b.next) ⊎ (NUMBER_MAX < end_of_script b) → ⊥
-    done_within text (replayed acts batches end r lives all) (inl past) = omega (arith, past, r.done.logs.within, one_next_wal c.disk.before r.done.logs.wal b.next (r.done.logs.next b.tells) b.next_is)
+    done_within text (replayed acts batches end r lives all) (inl past) = omega
+        (arith, past, r.done.logs.within, one_next_wal c.disk.before r.done.logs.wal b.next (r.done.logs.next b.tells) b.next_is)
     done_within text (replayed acts batches end r lives all) (inr past) =
-        omega (arith, past, all_numbers b.base b.script.good.acts batches end text (replay_told acts batches end text r) (subst (λ (a : List Act). AllCommitted a batches) (acts_told c.left.before c.left.after acts b.script r.accepts) all))
+        omega (
+          arith,
+          past,
+          all_numbers b.base b.script.good.acts batches end text (replay_told acts batches end text r)
+              (subst (λ (a : List Act). AllCommitted a batches) (acts_told c.left.before c.left.after acts b.script r.accepts) all),
+        )
     done_within text (recovered s) past = not_recover c.words b.words s.words
     done_within text (dumped s) past = not_dump c.words b.words s.words
 
     limited_past : (text : List ℕ) → IsLimited c text → b.next ≤ WAL_MAX → end_of_script b ≤ NUMBER_MAX → ⊥
     limited_past text (of_numbers acts batches end r lives lacks) within room =
-        none_lacks b.base b.script.good.acts batches end text lives (replay_told acts batches end text r) room (subst (λ (a : List Act). LacksBatch a batches) (acts_told c.left.before c.left.after acts b.script r.accepts) lacks)
+        none_lacks b.base b.script.good.acts batches end text lives (replay_told acts batches end text r) room
+        (subst (λ (a : List Act). LacksBatch a batches) (acts_told c.left.before c.left.after acts b.script r.accepts) lacks)
     limited_past text (of_wals l) within room = omega (arith, l.past, within, one_next_wal c.disk.before l.next b.next (l.next_is b.tells) b.next_is)
 
-    limited_is : (said : Status) (text : List ℕ) → HasToSay c said text → (WAL_MAX < b.next) ⊎ (NUMBER_MAX < end_of_script b) → HasCalmSource c → HasCalmDisk c → said ≡ Limit
+    limited_is : (said : Status) (text : List ℕ) → HasToSay c said text → (WAL_MAX < b.next) ⊎ (NUMBER_MAX < end_of_script b)
+        → HasCalmSource c → HasCalmDisk c → said ≡ Limit
     limited_is Done text h past calm calm_disk = absurd (done_within text h past)
     limited_is Usage text h past calm calm_disk = absurd (h.0 (inl b.words))
     limited_is Script text h past calm calm_disk = absurd (not_refused c.left text b.script h.1)
@@ -192,7 +215,8 @@ module _ (c : Invocation) where
     limited_is NoMemory text h past calm calm_disk = absurd h
     limited_is Limit text h past calm calm_disk = refl
 
-    replays_is : (said : Status) (text : List ℕ) → HasToSay c said text → b.next ≤ WAL_MAX → end_of_script b ≤ NUMBER_MAX → HasCalmSource c → HasCalmDisk c → said ≡ Done
+    replays_is : (said : Status) (text : List ℕ) → HasToSay c said text → b.next ≤ WAL_MAX → end_of_script b ≤ NUMBER_MAX → HasCalmSource c
+        → HasCalmDisk c → said ≡ Done
     replays_is Done text h within room calm calm_disk = refl
     replays_is Usage text h within room calm calm_disk = absurd (h.0 (inl b.words))
     replays_is Script text h within room calm calm_disk = absurd (not_refused c.left text b.script h.1)
@@ -203,7 +227,8 @@ module _ (c : Invocation) where
     replays_is NoMemory text h within room calm calm_disk = absurd h
     replays_is Limit text h within room calm calm_disk = absurd (limited_past text h within room)
 
-  recover_is : (said : Status) (text : List ℕ) → HasToSay c said text → IsRecover c.words → IsTrue c.tells → (base : List Batch) → Recovers (directories c.disk.before) base → HasCalmDisk c → said ≡ Done
+  recover_is : (said : Status) (text : List ℕ) → HasToSay c said text → IsRecover c.words → IsTrue c.tells → (base : List Batch)
+      → Recovers (directories c.disk.before) base → HasCalmDisk c → said ≡ Done
   recover_is Done text h words told base recovers calm_disk = refl
   recover_is Usage text h words told base recovers calm_disk = absurd (h.0 (inr (inl words)))
   recover_is Script text h words told base recovers calm_disk = absurd (not_recover c.words h.0 words)
@@ -214,7 +239,8 @@ module _ (c : Invocation) where
   recover_is NoMemory text h words told base recovers calm_disk = absurd h
   recover_is Limit text h words told base recovers calm_disk = absurd (not_recover c.words (limited_replay text h) words)
 
-  dump_is : (said : Status) (text : List ℕ) → HasToSay c said text → IsDump c.words → IsTrue c.tells → (base : List Batch) → RecoversLenient (directories c.disk.before) base → HasCalmDisk c → said ≡ Done
+  dump_is : (said : Status) (text : List ℕ) → HasToSay c said text → IsDump c.words → IsTrue c.tells → (base : List Batch)
+      → RecoversLenient (directories c.disk.before) base → HasCalmDisk c → said ≡ Done
   dump_is Done text h words told base recovers calm_disk = refl
   dump_is Usage text h words told base recovers calm_disk = absurd (h.0 (inr (inr words)))
   dump_is Script text h words told base recovers calm_disk = absurd (not_dump c.words h.0 words)

@@ -31,7 +31,8 @@ use Rattle.wal_top.specs.Doing.{ReplaysOver}
 read_created : (f : File) → f.created ≡ true → as_read (Some f) ≡ Some f.reads
 read_created f is = rw is refl
 
-unsent : (wal index : ℕ) (side : Side) (now : Files) → ((p : Place) (f : File) → now p ≡ Some f → IsSound p f) → IsNextWal (dirs_as_read now) wal → wal ≤ WAL_MAX → index ≤ 999 → IsUnsent (now (segment side (name_in wal index)))
+unsent : (wal index : ℕ) (side : Side) (now : Files) → ((p : Place) (f : File) → now p ≡ Some f → IsSound p f)
+    → IsNextWal (dirs_as_read now) wal → wal ≤ WAL_MAX → index ≤ 999 → IsUnsent (now (segment side (name_in wal index)))
 unsent wal index side now sound next within low = go (now place) refl
   where
     place : Place
@@ -53,7 +54,8 @@ unsent wal index side now sound next within low = go (now place) refl
         let none = not_created f is f.created refl in
         subst IsUnsent (sym is) (none, λ g here. subst (λ (h : File). h.sent ≡ []) (same_some here) ((sound place f is).1 none))
 
-pub are_unsent : (wal : ℕ) (old now : Files) (v : DiskView) → files v ≡ now → ((p : Place) (f : File) → now p ≡ Some f → IsSound p f) → IsNextWal (dirs_as_read old) wal → wal ≤ WAL_MAX → OnlySynced old now → AreUnsent wal 0 v
+pub are_unsent : (wal : ℕ) (old now : Files) (v : DiskView) → files v ≡ now → ((p : Place) (f : File) → now p ≡ Some f → IsSound p f)
+    → IsNextWal (dirs_as_read old) wal → wal ≤ WAL_MAX → OnlySynced old now → AreUnsent wal 0 v
 are_unsent wal old now v is sound next within only index low high =
     subst (λ (fs : Files). IsUnsent (fs (segment (side_at index) (name_in wal index)))) (sym is)
     (unsent wal index (side_at index) now sound (subst (λ (d : _). IsNextWal d wal) (sym (read_synced old now only)) next) within high)
@@ -64,7 +66,8 @@ module _ (old mid new : DiskView) (wal : ℕ) (tells : Bool) (only : IsTrue tell
   pub others_stay : (IsTrue tells → OthersSame wal (files mid) (files new)) → IsTrue tells → OthersOnlySynced wal (files old) (files new)
   others_stay same told p elsewhere = subst (IsAsOrSynced (files old p)) (sym (same told p elsewhere)) (only told p)
 
-  module _ (base batches : List Batch) (end : JournalEnd) (goes : GoesOn old mid) (ended : HasEnded tells mid wal (end_after NUMBER_FIRST base) batches end new) where
+  module _ (base batches : List Batch) (end : JournalEnd) (goes : GoesOn old mid)
+      (ended : HasEnded tells mid wal (end_after NUMBER_FIRST base) batches end new) where
     rose_since : FaultsRose mid new → FaultsRose old new
     rose_since (side, rose) = (side, rose_later (old.faults side) (mid.faults side) (new.faults side) (goes.faults side) rose)
 
@@ -75,11 +78,22 @@ module _ (old mid new : DiskView) (wal : ℕ) (tells : Bool) (only : IsTrue tell
     ends_since : EndsAs (length batches) end old new
     ends_since =
         let e = ended.ends in
-        record { within = e.within; all = e.all; rests = e.rests; begun = e.begun; none = e.none; more = λ many. more_since (e.more many); failed = λ died. rose_since (e.failed died); ten = e.ten }
+        record {
+          within = e.within;
+          all = e.all;
+          rests = e.rests;
+          begun = e.begun;
+          none = e.none;
+          more = λ many. more_since (e.more many);
+          failed = λ died. rose_since (e.failed died);
+          ten = e.ten;
+        }
 
-    module _ (stable : IsTrue tells → IsRested (files old) → AreSegmentsStable (files mid)) (within : wal ≤ WAL_MAX) (next : IsTrue tells → IsNextWal (directories old) wal) (recovers : IsTrue tells → Recovers (directories old) base) where
+    module _ (stable : IsTrue tells → IsRested (files old) → AreSegmentsStable (files mid)) (within : wal ≤ WAL_MAX)
+        (next : IsTrue tells → IsNextWal (directories old) wal) (recovers : IsTrue tells → Recovers (directories old) base) where
       recovers_since : IsTrue tells → IsRested (files old) → RecoversTo base batches end.acked (files new)
-      recovers_since told rested = ended.recovers told base (recovered_opens wal base (files old) (files mid) rested (only told) (stable told rested) (recovers told) (next told))
+      recovers_since told rested = ended.recovers told base (recovered_opens wal base (files old) (files mid) rested (only told)
+          (stable told rested) (recovers told) (next told))
 
       logs_since : LogsBatches tells base batches end.acked old new
       logs_since = record {
@@ -96,7 +110,9 @@ module _ (old mid new : DiskView) (wal : ℕ) (tells : Bool) (only : IsTrue tell
       }
 
   -- a replay over what was recovered is a replay of the acts
-  pub replays_since : (acts : List Act) (base : List Batch) (status : Status) (text : List ℕ) → (IsTrue tells → IsRested (files old) → AreSegmentsStable (files mid)) → wal ≤ WAL_MAX → GoesOn old mid → (IsTrue tells → Recovers (directories old) base) → (IsTrue tells → IsNextWal (directories old) wal)
+  pub replays_since : (acts : List Act) (base : List Batch) (status : Status) (text : List ℕ)
+      → (IsTrue tells → IsRested (files old) → AreSegmentsStable (files mid)) → wal ≤ WAL_MAX → GoesOn old mid
+      → (IsTrue tells → Recovers (directories old) base) → (IsTrue tells → IsNextWal (directories old) wal)
       → (r : ReplaysOver base acts wal tells mid new status text) → ReplaysActs acts tells old new r.batches r.end text
   replays_since acts base_ status text stable within goes recovers_ next_ r = record {
     base = base_;
@@ -111,7 +127,8 @@ module _ (old mid new : DiskView) (wal : ℕ) (tells : Bool) (only : IsTrue tell
 
 -- 1 where no segment stands, or 1 more than a segment's WAL
 abbrev IsLeast : DiskView → ℕ → Type 0
-IsLeast view n = ((n ≡ 1) × ((wal : ℕ) (stored : Stored) → StandsIn (directories view) wal stored → ⊥)) ⊎ ((wal : ℕ) × (stored : Stored) × StandsIn (directories view) wal stored × (n ≡ suc wal))
+IsLeast view n = ((n ≡ 1) × ((wal : ℕ) (stored : Stored) → StandsIn (directories view) wal stored → ⊥))
+    ⊎ ((wal : ℕ) × (stored : Stored) × StandsIn (directories view) wal stored × (n ≡ suc wal))
 
 -- there is one next WAL
 pub one_next_wal : (view : DiskView) (a b : ℕ) → IsNextWal (directories view) a → IsNextWal (directories view) b → a ≡ b

@@ -36,15 +36,24 @@ taken_sum [] = refl
 taken_sum (Commit entries ∷ acts) = omega (arith, sum_by-cons numbers_taken (Commit entries) acts, taken_sum acts)
 taken_sum (Get key ∷ acts) = omega (arith, sum_by-cons numbers_taken (Get key) acts, taken_sum acts)
 
-pub all_numbers : (base : List Batch) (acts : List Act) (batches : List Batch) (end : JournalEnd) (text : List ℕ) → IsReplayText base acts batches end text → AllCommitted acts batches → end_after NUMBER_FIRST base + sum_by numbers_taken acts ≤ NUMBER_MAX
+pub all_numbers : (base : List Batch) (acts : List Act) (batches : List Batch) (end : JournalEnd) (text : List ℕ)
+    → IsReplayText base acts batches end text → AllCommitted acts batches
+    → end_after NUMBER_FIRST base + sum_by numbers_taken acts ≤ NUMBER_MAX
 all_numbers base acts batches end text is all =
     let sums : sum_of (map (λ (b : Batch). b.entries) batches) ≡ sum_by numbers_taken acts = ap sum_of all ∙ sym (taken_sum acts) in
-    omega (arith, is.within, end_after-append NUMBER_FIRST base batches, end_sum (end_after NUMBER_FIRST base) batches (contiguous_back NUMBER_FIRST base batches is.numbered), sums)
+    omega (
+      arith,
+      is.within,
+      end_after-append NUMBER_FIRST base batches,
+      end_sum (end_after NUMBER_FIRST base) batches (contiguous_back NUMBER_FIRST base batches is.numbered),
+      sums,
+    )
 
 -- ---- no limit
 
 -- what is visible after one batch more
-visible_next : (from : ℕ) (store : List Batch) (n : ℕ) (batch : Batch) → IsContiguous from store → slice_get store n ≡ Some batch → end_after from (take (n + 1) store) ≡ end_after from (take n store) + count_of batch.entries
+visible_next : (from : ℕ) (store : List Batch) (n : ℕ) (batch : Batch) → IsContiguous from store → slice_get store n ≡ Some batch
+    → end_after from (take (n + 1) store) ≡ end_after from (take n store) + count_of batch.entries
 unfolding IsContiguous end_after
 visible_next from [] n batch c is = absurd cc
 visible_next from (b ∷ store) zero batch c is =
@@ -61,14 +70,18 @@ lived : (was_dead is_dead : Bool) → StaysDead was_dead is_dead → is_dead ≡
 lived true is_dead stays lives = let clash : true ≡ false = sym (stays refl) ∙ lives in absurd cc
 lived false is_dead stays lives = refl
 
-lived_all : (store : List Batch) (was_dead died : Bool) (n : ℕ) (acts : List Act) (end : ℕ) (lines : List ℕ) → AnswersAll store was_dead died n acts end lines → died ≡ false → was_dead ≡ false
+lived_all : (store : List Batch) (was_dead died : Bool) (n : ℕ) (acts : List Act) (end : ℕ) (lines : List ℕ)
+    → AnswersAll store was_dead died n acts end lines → died ≡ false → was_dead ≡ false
 unfolding AnswersAll
 lived_all store was_dead died n [] end lines h lives = lived was_dead died h.0 lives
 lived_all store was_dead died n (act ∷ acts) end lines h lives = lived was_dead h.0 h.4 (lived_all store h.0 died h.1 acts end h.3 h.6 lives)
 
 -- an act that reaches no limit, where those after it reach none
-act_unlimited : (store : List Batch) (died : Bool) (n : ℕ) (act : Act) (acts : List Act) (end next : ℕ) (line : List ℕ) → died ≡ false → IsContiguous NUMBER_FIRST store → Answers store died n act next line → visible_after store n + (numbers_taken act + sum_by numbers_taken acts) ≤ NUMBER_MAX
-    → ((k : ℕ) → k ≡ next → visible_after store k + sum_by numbers_taken acts ≤ NUMBER_MAX → end ≡ k + length (filter_map committed acts)) → end ≡ n + length (filter_map committed (act ∷ acts))
+act_unlimited : (store : List Batch) (died : Bool) (n : ℕ) (act : Act) (acts : List Act) (end next : ℕ) (line : List ℕ) → died ≡ false
+    → IsContiguous NUMBER_FIRST store → Answers store died n act next line
+    → visible_after store n + (numbers_taken act + sum_by numbers_taken acts) ≤ NUMBER_MAX
+    → ((k : ℕ) → k ≡ next → visible_after store k + sum_by numbers_taken acts ≤ NUMBER_MAX → end ≡ k + length (filter_map committed acts))
+    → end ≡ n + length (filter_map committed (act ∷ acts))
 act_unlimited store died n _ acts end _ _ lives c (numbered batch lives_then at) room rest =
     let up = visible_next NUMBER_FIRST store n batch c at in
     let more = rest (n + 1) refl (omega (arith, up, room)) in
@@ -77,16 +90,23 @@ act_unlimited store died n _ acts end _ _ lives c (limited entries lives_then pa
 act_unlimited store died n _ acts end _ _ lives c (dead entries has_died) room rest = let clash : true ≡ false = sym has_died ∙ lives in absurd cc
 act_unlimited store died n _ acts end _ _ lives c (read key) room rest = rest n refl (omega (arith, room))
 
-none_limited : (store : List Batch) (was_dead died : Bool) (n : ℕ) (acts : List Act) (end : ℕ) (lines : List ℕ) → died ≡ false → IsContiguous NUMBER_FIRST store → AnswersAll store was_dead died n acts end lines → visible_after store n + sum_by numbers_taken acts ≤ NUMBER_MAX
+none_limited : (store : List Batch) (was_dead died : Bool) (n : ℕ) (acts : List Act) (end : ℕ) (lines : List ℕ) → died ≡ false
+    → IsContiguous NUMBER_FIRST store → AnswersAll store was_dead died n acts end lines
+    → visible_after store n + sum_by numbers_taken acts ≤ NUMBER_MAX
     → end ≡ n + length (filter_map committed acts)
 unfolding AnswersAll
 none_limited store was_dead died n [] end lines lives c h room = omega (arith, h.1)
 none_limited store was_dead died n (act ∷ acts) end lines lives c h room =
-    act_unlimited store h.0 n act acts end h.1 h.2 (lived_all store h.0 died h.1 acts end h.3 h.6 lives) c h.5 (omega (arith, room, sum_by-cons numbers_taken act acts))
+    act_unlimited store h.0 n act acts end h.1 h.2 (lived_all store h.0 died h.1 acts end h.3 h.6 lives) c h.5
+    (omega (arith, room, sum_by-cons numbers_taken act acts))
     (λ k is fits. none_limited store h.0 died k acts end h.3 lives c (subst (λ (m : ℕ). AnswersAll store h.0 died m acts end h.3) (sym is) h.6) fits)
 
-pub none_lacks : (base : List Batch) (acts : List Act) (batches : List Batch) (end : JournalEnd) (text : List ℕ) → end.died ≡ false → IsReplayText base acts batches end text → end_after NUMBER_FIRST base + sum_by numbers_taken acts ≤ NUMBER_MAX → LacksBatch acts batches → ⊥
+pub none_lacks : (base : List Batch) (acts : List Act) (batches : List Batch) (end : JournalEnd) (text : List ℕ) → end.died ≡ false
+    → IsReplayText base acts batches end text → end_after NUMBER_FIRST base + sum_by numbers_taken acts ≤ NUMBER_MAX
+    → LacksBatch acts batches → ⊥
 none_lacks base acts batches end text lives is room lacks =
-    let front : visible_after (base ++ batches) (length base) ≡ end_after NUMBER_FIRST base = ap (end_after NUMBER_FIRST) (take_at base batches (length base) refl) in
-    let all = none_limited (base ++ batches) false end.died (length base) acts (length (base ++ batches)) is.lines lives is.numbered is.answers (omega (arith, front, room)) in
+    let front : visible_after (base ++ batches) (length base) ≡ end_after NUMBER_FIRST base = ap (end_after NUMBER_FIRST)
+    (take_at base batches (length base) refl) in
+    let all = none_limited (base ++ batches) false end.died (length base) acts (length (base ++ batches)) is.lines lives is.numbered
+    is.answers (omega (arith, front, room)) in
     omega (arith, all, length-append base batches, lacks)

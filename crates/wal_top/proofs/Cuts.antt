@@ -21,13 +21,15 @@ cut_at cut text at first hit =
     let test : ℕ → Bool = is_cut cut in
     let parts : text ≡ take at text ++ get_or text at 0 ∷ drop (at + 1) text =
     sym (take-append-drop at text) ∙ ap (λ (t : List ℕ). take at text ++ t) (drop_more text at 0 first.high) in
-    ap (pieces cut) parts ∙ slice_split_at test (take at text) (get_or text at 0) (drop (at + 1) text) (uncut test text at (omega (arith, first.high)) first.before) hit
+    ap (pieces cut) parts ∙ slice_split_at test (take at text) (get_or text at 0) (drop (at + 1) text)
+    (uncut test text at (omega (arith, first.high)) first.before) hit
     ∙ ap (λ (t : List ℕ). take at text ∷ pieces cut t) (sym (take_rest text (at + 1)))
 
 pub cut_nowhere : (cut : Cut) (text : List ℕ) → Nowhere (Passes (is_cut cut) text) 0 (length text) → pieces cut text ≡ text ∷ []
 unfolding pieces
 cut_nowhere cut text none =
-    slice_split_none (is_cut cut) text (λ k d below. ap (is_cut cut) (get_or_default text k d 0 below) ∙ false_from_ne_true (is_cut cut (get_or text k 0)) (none k (omega arith) below))
+    slice_split_none (is_cut cut) text (λ k d below. ap (is_cut cut) (get_or_default text k d 0 below)
+    ∙ false_from_ne_true (is_cut cut (get_or text k 0)) (none k (omega arith) below))
 
 -- before it is done, the text that is left gives the pieces
 pub left_is : (cut : Cut) (rest : List ℕ) (is_done : Bool) → is_done ≡ false → pieces_left cut rest is_done ≡ pieces cut rest

@@ -18,7 +18,8 @@ set_and_read = Commit (Set (codes "a") (codes "1") ∷ []) ∷ Get (codes "a") �
 abbrev its_batches : List Batch
 its_batches = record { first = 10; entries = Set (codes "a") (codes "1") ∷ [] } ∷ []
 
-its_text : IsReplayText [] set_and_read its_batches (record { acked = 1; segments = 1; died = false }) (codes "s0 commit 10 1\ns0 get a = 1 @11\nend visible 11 batches 1 acked 1 segments 1 closed\n")
+its_text : IsReplayText [] set_and_read its_batches (record { acked = 1; segments = 1; died = false })
+    (codes "s0 commit 10 1\ns0 get a = 1 @11\nend visible 11 batches 1 acked 1 segments 1 closed\n")
 unfolding AnswersAll commit_line get_line end_line answer end_after IsContiguous digits
 its_text = record {
   numbered = (refl, omega arith, tt);
@@ -64,7 +65,16 @@ its_death = record {
     codes "s0 commit dead\ns0 get a = 1 @11\n",
     λ d. d,
     numbered (record { first = 10; entries = Set (codes "a") (codes "1") ∷ [] }) refl refl,
-    (true, 1, codes "s0 commit dead\n", codes "s0 get a = 1 @11\n", λ d. refl, dead (Set (codes "a") (codes "1") ∷ []) refl, (true, 1, codes "s0 get a = 1 @11\n", [], λ d. d, read (codes "a"), (λ d. d, refl, refl), refl), refl),
+    (
+      true,
+      1,
+      codes "s0 commit dead\n",
+      codes "s0 get a = 1 @11\n",
+      λ d. refl,
+      dead (Set (codes "a") (codes "1") ∷ []) refl,
+      (true, 1, codes "s0 get a = 1 @11\n", [], λ d. d, read (codes "a"), (λ d. d, refl, refl), refl),
+      refl,
+    ),
     refl,
   );
   text_is = refl;

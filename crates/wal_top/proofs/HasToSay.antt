@@ -31,25 +31,54 @@ use Rattle.wal_top.specs.Outcomes.{ReachesDisk, ReplaysActs, Replays, replayed, 
 as_status : (c : Invocation) (text : List ℕ) (status said : Status) → status ≡ said → HasToSay c said text → HasToSay c status text
 as_status c text status said is h = subst (λ (s : Status). HasToSay c s text) (sym is) h
 
-module _ (c : Invocation) (mode : Mode) (words : RecoversIn c.words mode) (reaches : ReachesDisk c) (only : IsTrue c.tells → OnlySynced (files c.disk.before) (files c.disk.after)) (rests : NothingInFlight c.disk.after) where
-  refuses : (fault : RecoverFault) (text : List ℕ) → text ≡ refusal_text fault → IsRefusal fault → (IsTrue c.tells → IsRefusedBy mode (directories c.disk.before) fault) → SameDisk c.disk.before c.disk.after → HasToSay c Refused text
-  refuses why text text_is_ real_ is same_ = record { mode = mode; words = words; reaches = reaches; fault = why; real = real_; refused = is; text_is = text_is_; same = same_ }
+module _ (c : Invocation) (mode : Mode) (words : RecoversIn c.words mode) (reaches : ReachesDisk c)
+    (only : IsTrue c.tells → OnlySynced (files c.disk.before) (files c.disk.after)) (rests : NothingInFlight c.disk.after) where
+  refuses : (fault : RecoverFault) (text : List ℕ) → text ≡ refusal_text fault → IsRefusal fault
+      → (IsTrue c.tells → IsRefusedBy mode (directories c.disk.before) fault) → SameDisk c.disk.before c.disk.after
+      → HasToSay c Refused text
+  refuses why text text_is_ real_ is same_ = record {
+    mode = mode;
+    words = words;
+    reaches = reaches;
+    fault = why;
+    real = real_;
+    refused = is;
+    text_is = text_is_;
+    same = same_;
+  }
 
   -- a fault of recovery is said by its side, or by why the directories are refused
   pub says_unrecovered : (fault : RecoverFault) (status : Status) (text : List ℕ) → SaysFault fault status text → FaultRose c.disk.before c.disk.after fault
-      → (IsTrue c.tells → DiskMemoryOr (IsRefusedBy mode (directories c.disk.before)) fault) → (IsRefusal fault → SameDisk c.disk.before c.disk.after) → HasToSay c status text
+      → (IsTrue c.tells → DiskMemoryOr (IsRefusedBy mode (directories c.disk.before)) fault)
+      → (IsRefusal fault → SameDisk c.disk.before c.disk.after) → HasToSay c status text
   says_unrecovered (faults.Disk side') status text (s, t) rose is same =
-      as_status c text status _ s (in_recovery (record { mode = mode; words = words; reaches = reaches; side = side'; failed = rose; text_is = t; only_synced = only; idle = rests }))
-  says_unrecovered (faults.DuplicateSegment wal index) status text (s, t) rose is same = as_status c text status _ s (refuses (faults.DuplicateSegment wal index) text t tt is (same tt))
-  says_unrecovered (faults.BadBatch wal index place fault) status text (s, t) rose is same = as_status c text status _ s (refuses (faults.BadBatch wal index place fault) text t tt is (same tt))
-  says_unrecovered (faults.Gap wal index expected found) status text (s, t) rose is same = as_status c text status _ s (refuses (faults.Gap wal index expected found) text t tt is (same tt))
-  says_unrecovered (faults.Conflict wal index first) status text (s, t) rose is same = as_status c text status _ s (refuses (faults.Conflict wal index first) text t tt is (same tt))
+      as_status c text status _ s (in_recovery (record {
+        mode = mode;
+        words = words;
+        reaches = reaches;
+        side = side';
+        failed = rose;
+        text_is = t;
+        only_synced = only;
+        idle = rests;
+      }))
+  says_unrecovered (faults.DuplicateSegment wal index) status text (s, t) rose is same = as_status c text status _ s
+      (refuses (faults.DuplicateSegment wal index) text t tt is (same tt))
+  says_unrecovered (faults.BadBatch wal index place fault) status text (s, t) rose is same = as_status c text status _ s
+      (refuses (faults.BadBatch wal index place fault) text t tt is (same tt))
+  says_unrecovered (faults.Gap wal index expected found) status text (s, t) rose is same = as_status c text status _ s
+      (refuses (faults.Gap wal index expected found) text t tt is (same tt))
+  says_unrecovered (faults.Conflict wal index first) status text (s, t) rose is same = as_status c text status _ s
+      (refuses (faults.Conflict wal index first) text t tt is (same tt))
   says_unrecovered faults.NoMemory status text says rose is same = absurd says
 
 -- a replay says that its journal died, that a commit has no batch, or that it is done
-pub says_replayed : (c : Invocation) (acts : List Act) (base : List Batch) (wal : ℕ) (mid : DiskView) (status : Status) (text : List ℕ) → IsReplay c.words → ReadsScript c.left.before acts c.left.after
-    → (r : ReplaysOver base acts wal c.tells mid c.disk.after status text) → ReplaysActs acts c.tells c.disk.before c.disk.after r.batches r.end text → HasToSay c status text
-says_replayed c acts base wal mid status text is reads r replays_acts = as_status c text status (status_after r.end.died r.limited) r.status_is (by r.end.died refl r.limited refl)
+pub says_replayed : (c : Invocation) (acts : List Act) (base : List Batch) (wal : ℕ) (mid : DiskView) (status : Status) (text : List ℕ)
+    → IsReplay c.words → ReadsScript c.left.before acts c.left.after
+    → (r : ReplaysOver base acts wal c.tells mid c.disk.after status text)
+    → ReplaysActs acts c.tells c.disk.before c.disk.after r.batches r.end text → HasToSay c status text
+says_replayed c acts base wal mid status text is reads r replays_acts = as_status c text status (status_after r.end.died r.limited)
+    r.status_is (by r.end.died refl r.limited refl)
   where
     all : Replays c acts r.batches r.end text
     all = record { words = is; accepts = reads; done = replays_acts }
@@ -61,8 +90,11 @@ says_replayed c acts base wal mid status text is reads r replays_acts = as_statu
 
 -- the store and the segments, as recovery answers them and as they are printed
 module _ (c : Invocation) (batches' : List Batch) (next : ℕ) (text : List ℕ) (ends : next ≡ end_after NUMBER_FIRST batches') (unread' : Stays c.left) where
-  pub says_store : (shown : List Batch) → shown ≡ batches' → IsRecover c.words → (IsTrue c.tells → Recovers (directories c.disk.before) batches') → (IsTrue c.tells → OnlySynced (files c.disk.before) (files c.disk.after))
-      → (IsTrue c.tells → IsRested (files c.disk.before) → AreSegmentsStable (files c.disk.after)) → (lines : List ℕ) × IsStoreText shown lines × (text ≡ lines ++ recovered_end (length shown) next) → HasToSay c Done text
+  pub says_store : (shown : List Batch) → shown ≡ batches' → IsRecover c.words
+      → (IsTrue c.tells → Recovers (directories c.disk.before) batches')
+      → (IsTrue c.tells → OnlySynced (files c.disk.before) (files c.disk.after))
+      → (IsTrue c.tells → IsRested (files c.disk.before) → AreSegmentsStable (files c.disk.after)) → (lines : List ℕ)
+      × IsStoreText shown lines × (text ≡ lines ++ recovered_end (length shown) next) → HasToSay c Done text
   says_store shown is words' recovers' only rested (lines, is_store, printed) = recovered (record {
     words = words';
     unread = unread';
@@ -75,7 +107,9 @@ module _ (c : Invocation) (batches' : List Batch) (next : ℕ) (text : List ℕ)
     stable = rested;
   })
 
-  pub says_segments : (reports : List SegReport) (count : ℕ) (lines : List ℕ) → count ≡ length batches' → IsDump c.words → (IsTrue c.tells → RecoversLenient (directories c.disk.before) batches') → (IsTrue c.tells → AreReports (directories c.disk.before) reports)
+  pub says_segments : (reports : List SegReport) (count : ℕ) (lines : List ℕ) → count ≡ length batches' → IsDump c.words
+      → (IsTrue c.tells → RecoversLenient (directories c.disk.before) batches')
+      → (IsTrue c.tells → AreReports (directories c.disk.before) reports)
       → SameDisk c.disk.before c.disk.after → lines ≡ segments_text reports → text ≡ lines ++ recovered_end count next → HasToSay c Done text
   says_segments reports' count lines few words' recovers' are same' printed whole = dumped (record {
     words = words';
@@ -84,6 +118,8 @@ module _ (c : Invocation) (batches' : List Batch) (next : ℕ) (text : List ℕ)
     recovers = recovers';
     reports = reports';
     reports_are = are;
-    text_is = whole ∙ ap (λ (l : List ℕ). l ++ recovered_end count next) printed ∙ ap (λ (n : ℕ). segments_text reports' ++ recovered_end n next) few ∙ ap (λ (n : ℕ). segments_text reports' ++ recovered_end (length batches') n) ends;
+    text_is = whole ∙ ap (λ (l : List ℕ). l ++ recovered_end count next) printed
+        ∙ ap (λ (n : ℕ). segments_text reports' ++ recovered_end n next) few
+        ∙ ap (λ (n : ℕ). segments_text reports' ++ recovered_end (length batches') n) ends;
     same = same';
   })

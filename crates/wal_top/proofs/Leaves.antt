@@ -26,7 +26,8 @@ leaves_journal c words took' goes others' = record {
 }
 
 -- by another command, with the source as it was
-pub leaves_no_journal : (c : Invocation) → Stays c.left → GoesOn c.disk.before c.disk.after → WritesNoJournal c.tells c.disk → ((StartsOperations c.words → ⊥) → SameDisk c.disk.before c.disk.after) → Leaves c
+pub leaves_no_journal : (c : Invocation) → Stays c.left → GoesOn c.disk.before c.disk.after → WritesNoJournal c.tells c.disk
+    → ((StartsOperations c.words → ⊥) → SameDisk c.disk.before c.disk.after) → Leaves c
 leaves_no_journal c stays goes none same = record {
   took = took_none c.left.before c.left.after (SCRIPT_MAX + 1) stays;
   goes_on = goes;
@@ -37,7 +38,13 @@ leaves_no_journal c stays goes none same = record {
 
 -- by none, with the source and the disk as they were
 pub leaves_all : (words : List (List ℕ)) (left : Option (List ℕ)) (faults : ℕ) (tells : Bool) (v : DiskView) → NothingInFlight v
-    → Leaves (record { words = words; left = record { before = left; after = left }; source_faults = record { before = faults; after = faults }; tells = tells; disk = record { before = v; after = v } })
+    → Leaves (record {
+      words = words;
+      left = record { before = left; after = left };
+      source_faults = record { before = faults; after = faults };
+      tells = tells;
+      disk = record { before = v; after = v };
+    })
 leaves_all words left faults tells v rests =
     leaves_no_journal _ refl (goes_on_from v)
     (record { only_synced = λ told p. inl refl; each_moment = λ told. moments_from v (AddsNoImage (files v)) (λ dirs image. image); idle = rests })

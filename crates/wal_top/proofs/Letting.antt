@@ -15,7 +15,8 @@ one_more : {X : Type 0} (f : X → List ℕ) (x : X) → flat_map f (x ∷ []) �
 one_more f x = flat_map-cons f x [] ∙ append-nil (f x)
 
 -- the lines of one item more
-pub lines_more : {X : Type 0} (f : X → List ℕ) (old text : List ℕ) (yielded items : List X) (x : X) → length yielded < length items → x ≡ get_or items (length yielded) x
+pub lines_more : {X : Type 0} (f : X → List ℕ) (old text : List ℕ) (yielded items : List X) (x : X) → length yielded < length items
+    → x ≡ get_or items (length yielded) x
     → text ≡ old ++ flat_map f (take (length yielded) items) → text ++ f x ≡ old ++ flat_map f (take (length (yielded ++ x ∷ [])) items)
 lines_more f old text yielded items x lt is stood =
     ap (λ t. t ++ f x) stood ∙ append_assoc old (flat_map f (take (length yielded) items)) (f x)

@@ -23,13 +23,22 @@ pub record SoFar (all rest : List (List ℕ)) (acts : List Act) (count : ℕ) : 
 pub none_so_far : (all : List (List ℕ)) → SoFar all all [] 0
 none_so_far all = record { done = []; is = refl; said = refl; count_is = refl }
 
-says_more : (lines : List (List ℕ)) (acts : List Act) (line : List ℕ) (said : Option Act) → LinesSay lines acts → LineSays line said → LinesSay (lines ++ line ∷ []) (acts ++ option_to_list said)
+says_more : (lines : List (List ℕ)) (acts : List Act) (line : List ℕ) (said : Option Act) → LinesSay lines acts → LineSays line said
+    → LinesSay (lines ++ line ∷ []) (acts ++ option_to_list said)
 says_more [] acts line said h l = (said, [], l, refl, ap (λ (t : List Act). t ++ option_to_list said) h ∙ sym (append-nil (option_to_list said)))
-says_more (x ∷ lines) acts line said h l =
-    (h.0, h.1 ++ option_to_list said, h.2, says_more lines h.1 line said h.3 l, ap (λ (t : List Act). t ++ option_to_list said) h.4 ∙ append_assoc (option_to_list h.0) h.1 (option_to_list said))
+says_more (x ∷ lines) acts line said h l = (
+  h.0,
+  h.1 ++ option_to_list said,
+  h.2,
+  says_more lines h.1 line said h.3 l,
+  ap (λ (t : List Act). t ++ option_to_list said) h.4
+      ∙ append_assoc (option_to_list h.0) h.1 (option_to_list said),
+)
 
 -- one line more
-pub one_more : (all old new : List (List ℕ)) (acts acts' : List Act) (count : ℕ) (line : List ℕ) (said : Option Act) → SoFar all old acts count → old ≡ line ∷ new → LineSays line said → acts' ≡ acts ++ option_to_list said → SoFar all new acts' (count + 1)
+pub one_more : (all old new : List (List ℕ)) (acts acts' : List Act) (count : ℕ) (line : List ℕ) (said : Option Act)
+    → SoFar all old acts count → old ≡ line ∷ new → LineSays line said → acts' ≡ acts ++ option_to_list said
+    → SoFar all new acts' (count + 1)
 one_more all old new acts acts' count line said s e l added = record {
   done = s.done ++ line ∷ [];
   is = s.is ∙ ap (λ (t : List (List ℕ)). s.done ++ t) e ∙ sym (append_assoc s.done (line ∷ []) new);
@@ -41,7 +50,8 @@ accepted : (lines : List (List ℕ)) (acts : List Act) → LinesSay lines acts �
 accepted [] acts h = tt
 accepted (line ∷ lines) acts h = ((h.0, h.2), accepted lines h.1 h.3)
 
-pub first_bad : (all old new : List (List ℕ)) (acts : List Act) (count n : ℕ) (line : List ℕ) → SoFar all old acts count → old ≡ line ∷ new → (IsAcceptedLine line → ⊥) → n ≡ count + 1 → IsFirstBad all n
+pub first_bad : (all old new : List (List ℕ)) (acts : List Act) (count n : ℕ) (line : List ℕ) → SoFar all old acts count → old ≡ line ∷ new
+    → (IsAcceptedLine line → ⊥) → n ≡ count + 1 → IsFirstBad all n
 first_bad all old new acts count n line s e bad number = record {
   before = s.done;
   line = line;
@@ -63,7 +73,8 @@ unfolding pieces
 few_lines script = omega (arith, length-slice_split (is_cut AtLineFeeds) script, count_by-le-length (is_cut AtLineFeeds) script)
 
 -- the lines that were taken are fewer than all, as long as one is left
-pub one_is_left : (all old new : List (List ℕ)) (acts : List Act) (count : ℕ) (line : List ℕ) → SoFar all old acts count → old ≡ line ∷ new → count + 1 ≤ length all
+pub one_is_left : (all old new : List (List ℕ)) (acts : List Act) (count : ℕ) (line : List ℕ) → SoFar all old acts count → old ≡ line ∷ new
+    → count + 1 ≤ length all
 one_is_left all old new acts count line s e = omega (arith, ap length s.is, ap length e, length-append s.done old, s.count_is)
 
 one_number : (line : List ℕ) (said : Option Act) → LineSays line said → sum_by numbers_taken (option_to_list said) ≤ 1

@@ -23,7 +23,8 @@ first_of_comment (b ∷ line) word words mark e =
     let uncut : is_cut AtBlanks b ≡ false = ap (is_cut AtBlanks) is in
     begins_with b (slice_split (is_cut AtBlanks) line) word words (sym (slice_split-cons_no (is_cut AtBlanks) b line uncut) ∙ e) ∙ ap (λ (n : ℕ). Some n) is
 
-no_command : (line word : List ℕ) (words : List (List ℕ)) (first : ℕ) → slice_get word 0 ≡ Some first → (first ≡ 35 → ⊥) → SaysNothing line → words_of line ≡ word ∷ words → ⊥
+no_command : (line word : List ℕ) (words : List (List ℕ)) (first : ℕ) → slice_get word 0 ≡ Some first → (first ≡ 35 → ⊥) → SaysNothing line
+    → words_of line ≡ word ∷ words → ⊥
 unfolding pieces
 no_command line word words first starts other (inl none) e =
     let empty : [] ∷ [] ≡ word ∷ words = ap words_of (sym none) ∙ e in
@@ -44,8 +45,10 @@ no_mark first high e = omega (arith, high, e)
 -- a line that says nothing asks for nothing
 asks_nothing : (line : List ℕ) (act : Act) → SaysNothing line → Asks (words_of line) act → ⊥
 asks_nothing line (Commit entries) nothing asks =
-    no_command line (codes "commit") (codes "0" ∷ codes "nosync" ∷ codes "set" ∷ asks.key ∷ asks.value ∷ []) 99 commit_begins (no_mark 99 (omega arith)) nothing asks.words_are
-asks_nothing line (Get key) nothing asks = no_command line (codes "get") (codes "0" ∷ key ∷ []) 103 get_begins (no_mark 103 (omega arith)) nothing asks.words_are
+    no_command line (codes "commit") (codes "0" ∷ codes "nosync" ∷ codes "set" ∷ asks.key ∷ asks.value ∷ []) 99 commit_begins
+    (no_mark 99 (omega arith)) nothing asks.words_are
+asks_nothing line (Get key) nothing asks = no_command line (codes "get") (codes "0" ∷ key ∷ []) 103 get_begins
+    (no_mark 103 (omega arith)) nothing asks.words_are
 
 asks_one : (words : List (List ℕ)) (a b : Act) → Asks words a → Asks words b → a ≡ b
 asks_one words (Commit xs) (Commit ys) a b =
@@ -69,7 +72,8 @@ says_one line (Some act) (Some other) a b = ap (λ (x : Act). Some x) (asks_one 
 lines_say_one : (lines : List (List ℕ)) (a b : List Act) → LinesSay lines a → LinesSay lines b → a ≡ b
 lines_say_one [] a b x y = x ∙ sym y
 lines_say_one (line ∷ lines) a b x y =
-    x.4 ∙ ap (λ (said : Option Act). option_to_list said ++ x.1) (says_one line x.0 y.0 x.2 y.2) ∙ ap (λ (rest : List Act). option_to_list y.0 ++ rest) (lines_say_one lines x.1 y.1 x.3 y.3) ∙ sym y.4
+    x.4 ∙ ap (λ (said : Option Act). option_to_list said ++ x.1) (says_one line x.0 y.0 x.2 y.2)
+    ∙ ap (λ (rest : List Act). option_to_list y.0 ++ rest) (lines_say_one lines x.1 y.1 x.3 y.3) ∙ sym y.4
 
 pub one_script : (script : List ℕ) (a b : List Act) → IsScript script a → IsScript script b → a ≡ b
 one_script script a b x y = lines_say_one (lines_of script) a b x y

@@ -32,15 +32,21 @@ pub len_is : (tells : Bool) (own : List Batch) (state : State) (v : DiskView) �
 len_is tells own state v stands = omega (arith, stands.queue.start, ap length stands.queue.holds, length-drop state.queue.start own)
 
 rose_then : (start mid new : DiskView) → GoesOn mid new → GoesOn start mid → FaultsRose start mid → FaultsRose start new
-rose_then start mid new later goes (side, rose) = (side, rose_earlier (start.faults side) (mid.faults side) (new.faults side) (goes.faults side) (later.faults side) rose)
+rose_then start mid new later goes (side, rose) = (
+  side,
+  rose_earlier (start.faults side) (mid.faults side) (new.faults side)
+      (goes.faults side) (later.faults side) rose,
+)
 
 rose_now : (start mid new : DiskView) → GoesOn start mid → FaultsRose mid new → FaultsRose start new
 rose_now start mid new goes (side, rose) = (side, rose_later (start.faults side) (mid.faults side) (new.faults side) (goes.faults side) rose)
 
 module _ (tells : Bool) (start : DiskView) (wal base : ℕ) where
   -- nothing but the queue, or the numbers after the last record, changed
-  pub runs_beside : (own own' : List Batch) (old new : State) (v : DiskView) → new.wal ≡ old.wal → new.base ≡ old.base → new.threshold ≡ old.threshold → new.dead ≡ old.dead → new.segments ≡ old.segments
-      → StandsFor tells own' new v → ((b : List Batch) → KeepsBase tells b old v → KeepsBase tells b new v) → Runs tells start wal base own old v → Runs tells start wal base own' new v
+  pub runs_beside : (own own' : List Batch) (old new : State) (v : DiskView) → new.wal ≡ old.wal → new.base ≡ old.base
+      → new.threshold ≡ old.threshold → new.dead ≡ old.dead → new.segments ≡ old.segments
+      → StandsFor tells own' new v → ((b : List Batch) → KeepsBase tells b old v → KeepsBase tells b new v)
+      → Runs tells start wal base own old v → Runs tells start wal base own' new v
   runs_beside own own' old new v wal_same base_same threshold dead segments stands keeps r = record {
     stands = stands;
     wal_is = wal_same ∙ r.wal_is;
@@ -55,7 +61,8 @@ module _ (tells : Bool) (start : DiskView) (wal base : ℕ) where
     where
       was_harmed : IsHarmed new → IsHarmed old
       was_harmed (inl died) = inl (λ lives. died (dead ∙ lives))
-      was_harmed (inr broken) = inr (subst (λ (ws : List Writer). 1 ≤ Rattle.std.specs.Prelude.count_by Rattle.failover_writer.specs.State.is_broken ws) segments broken)
+      was_harmed (inr broken) = inr (subst (λ (ws : List Writer). 1 ≤ Rattle.std.specs.Prelude.count_by
+          Rattle.failover_writer.specs.State.is_broken ws) segments broken)
 
       was_smooth : IsSmooth old ⊎ (FaultsRose start v ⊎ PollsLeft start) → IsSmooth new ⊎ (FaultsRose start v ⊎ PollsLeft start)
       was_smooth (inl s) = inl (record {
@@ -67,7 +74,8 @@ module _ (tells : Bool) (start : DiskView) (wal base : ℕ) where
 
   module _ {Disk : Type 0} (view : Disk → DiskView) (own : List Batch) (old new : JournalView Disk) where
     -- a call that steps
-    pub runs_further : Lasts tells view old new → KeepsBases tells view old new → Runs tells start wal base own old.state (view old.disk) → Runs tells start wal base own new.state (view new.disk)
+    pub runs_further : Lasts tells view old new → KeepsBases tells view old new → Runs tells start wal base own old.state (view old.disk)
+        → Runs tells start wal base own new.state (view new.disk)
     runs_further lasts keeps_base r = record {
       stands = lasts.keeps own r.stands;
       wal_is = lasts.setting.wal ∙ r.wal_is;
@@ -84,18 +92,21 @@ module _ (tells : Bool) (start : DiskView) (wal base : ℕ) where
         by_harm (inl was) = rose_then start (view old.disk) (view new.disk) lasts.goes_on r.goes (r.harmed was)
         by_harm (inr rose) = rose_now start (view old.disk) (view new.disk) r.goes rose
 
-        by_new : IsSmooth new.state ⊎ (FaultsRose (view old.disk) (view new.disk) ⊎ PollsFell (view old.disk) (view new.disk)) → IsSmooth new.state ⊎ (FaultsRose start (view new.disk) ⊎ PollsLeft start)
+        by_new : IsSmooth new.state ⊎ (FaultsRose (view old.disk) (view new.disk) ⊎ PollsFell (view old.disk) (view new.disk))
+            → IsSmooth new.state ⊎ (FaultsRose start (view new.disk) ⊎ PollsLeft start)
         by_new (inl s) = inl s
         by_new (inr (inl rose)) = inr (inl (rose_now start (view old.disk) (view new.disk) r.goes rose))
         by_new (inr (inr (side, fell))) = inr (inr (side, omega (arith, fell, r.goes.polls side)))
 
-        by_smooth : IsSmooth old.state ⊎ (FaultsRose start (view old.disk) ⊎ PollsLeft start) → IsSmooth new.state ⊎ (FaultsRose start (view new.disk) ⊎ PollsLeft start)
+        by_smooth : IsSmooth old.state ⊎ (FaultsRose start (view old.disk) ⊎ PollsLeft start) → IsSmooth new.state
+            ⊎ (FaultsRose start (view new.disk) ⊎ PollsLeft start)
         by_smooth (inl s) = by_new (lasts.smooth (omega (arith, r.threshold, threshold)) s)
         by_smooth (inr (inl rose)) = inr (inl (rose_then start (view old.disk) (view new.disk) lasts.goes_on r.goes rose))
         by_smooth (inr (inr left)) = inr (inr left)
 
     -- room was made
-    pub runs_reserved : (spare : ℕ) → new ≡ with_room spare old → KeepsRecords tells view old new → KeepsBases tells view old new → Runs tells start wal base own old.state (view old.disk) → Runs tells start wal base own new.state (view new.disk)
+    pub runs_reserved : (spare : ℕ) → new ≡ with_room spare old → KeepsRecords tells view old new → KeepsBases tells view old new
+        → Runs tells start wal base own old.state (view old.disk) → Runs tells start wal base own new.state (view new.disk)
     runs_reserved spare same keeps keeps_base r =
         let roomy : State = record old.state { queue = record old.state.queue { spare = spare } } in
         subst (λ (h : JournalView Disk). Runs tells start wal base own h.state (view h.disk)) (sym same)
@@ -104,20 +115,25 @@ module _ (tells : Bool) (start : DiskView) (wal base : ℕ) where
         (λ b was. subst (λ (h : JournalView Disk). KeepsBase tells b h.state (view h.disk)) same (keeps_base b was)) r)
 
     -- a record was added
-    pub runs_pushed : (added : Batch) (sync : Bool) → Pushes added sync old.state new.state → new.disk ≡ old.disk → AddsRecord tells view added old new → KeepsBases tells view old new
+    pub runs_pushed : (added : Batch) (sync : Bool) → Pushes added sync old.state new.state → new.disk ≡ old.disk
+        → AddsRecord tells view added old new → KeepsBases tells view old new
         → Runs tells start wal base own old.state (view old.disk) → Runs tells start wal base (own ++ added ∷ []) new.state (view new.disk)
     runs_pushed added sync pushes disk keeps keeps_base r =
         let e = pushes.new_is in
         subst (λ (d : Disk). Runs tells start wal base (own ++ added ∷ []) new.state (view d)) (sym disk)
-        (runs_beside own (own ++ added ∷ []) old.state new.state (view old.disk) (ap (λ (s : State). s.wal) e) (ap (λ (s : State). s.base) e) (ap (λ (s : State). s.threshold) e) (ap (λ (s : State). s.dead) e) (ap (λ (s : State). s.segments) e)
+        (runs_beside own (own ++ added ∷ []) old.state new.state (view old.disk) (ap (λ (s : State). s.wal) e)
+        (ap (λ (s : State). s.base) e) (ap (λ (s : State). s.threshold) e) (ap (λ (s : State). s.dead) e)
+        (ap (λ (s : State). s.segments) e)
         (subst (λ (d : Disk). StandsFor tells (own ++ added ∷ []) new.state (view d)) disk (keeps own r.stands))
         (λ b was. subst (λ (d : Disk). KeepsBase tells b new.state (view d)) disk (keeps_base b was)) r)
 
 -- room that was made is no part of what a push says
-pub pushes_over : {Disk : Type 0} (old mid : JournalView Disk) (new : State) (spare : ℕ) (added : Batch) (sync : Bool) → mid ≡ record old { state = record old.state { queue = record old.state.queue { spare = spare } } } → Pushes added sync mid.state new
+pub pushes_over : {Disk : Type 0} (old mid : JournalView Disk) (new : State) (spare : ℕ) (added : Batch) (sync : Bool)
+    → mid ≡ record old { state = record old.state { queue = record old.state.queue { spare = spare } } } → Pushes added sync mid.state new
     → Pushes added sync old.state new
 pushes_over old mid new spare added sync same pushes =
-    let p : Pushes added sync (record old.state { queue = record old.state.queue { spare = spare } }) new = subst (λ (h : JournalView _). Pushes added sync h.state new) same pushes in
+    let p : Pushes added sync (record old.state { queue = record old.state.queue { spare = spare } }) new = subst
+    (λ (h : JournalView _). Pushes added sync h.state new) same pushes in
     record { start = p.start; records = p.records; next = p.next; want = p.want; new_is = p.new_is }
 
 -- no batch came
@@ -126,7 +142,8 @@ runs_on tells old new before after still start wal first own r =
     ([], subst (λ (bs : List Batch). Runs tells start wal first bs new after) (sym (append-nil own)) (still start wal first own r))
 
 -- one after another
-pub runs_then : (tells : Bool) (old mid new : State) (before between after : DiskView) → RunsOn tells old before mid between → RunsOn tells mid between new after → RunsOn tells old before new after
+pub runs_then : (tells : Bool) (old mid new : State) (before between after : DiskView) → RunsOn tells old before mid between
+    → RunsOn tells mid between new after → RunsOn tells old before new after
 runs_then tells old mid new before between after one two start wal first own r =
     let a = one start wal first own r in
     let b = two start wal first (own ++ a.0) a.1 in
@@ -135,7 +152,8 @@ runs_then tells old mid new before between after one two start wal first own r =
 -- ---- the end
 
 -- A segment of this WAL stands nowhere else.
-elsewhere_apart : (wal index synced : ℕ) (ws : List Writer) (p : Place) → AreJoined wal index synced ws → IsElsewhere wal p → AllByRecursion (λ (w : Writer). place_of_writer w ≢ p) ws
+elsewhere_apart : (wal index synced : ℕ) (ws : List Writer) (p : Place) → AreJoined wal index synced ws → IsElsewhere wal p
+    → AllByRecursion (λ (w : Writer). place_of_writer w ≢ p) ws
 unfolding AreJoined
 elsewhere_apart wal index synced [] p joined elsewhere = tt
 elsewhere_apart wal index synced (w ∷ ws) p joined elsewhere = (
@@ -146,20 +164,23 @@ elsewhere_apart wal index synced (w ∷ ws) p joined elsewhere = (
 module _ (tells : Bool) (start : DiskView) (wal base : ℕ) (own : List Batch) (state : State) (v : DiskView) (r : Runs tells start wal base own state v) where
   pub others_same : IsTrue tells → OthersSame wal (files start) (files v)
   others_same told p elsewhere =
-      r.others told p (not_theirs state.segments p (elsewhere_apart state.wal 0 0 state.segments p r.stands.joined (subst (λ (n : ℕ). IsElsewhere n p) (sym r.wal_is) elsewhere)))
+      r.others told p (not_theirs state.segments p (elsewhere_apart state.wal 0 0 state.segments p r.stands.joined
+      (subst (λ (n : ℕ). IsElsewhere n p) (sym r.wal_is) elsewhere)))
 
   none_begun : IsSoundJournal state → own ≡ [] → state.segments ≡ []
   none_begun sound empty = (sound.none (len_is tells own state v r.stands ∙ ap length empty)).0
 
   none_changed : IsSoundJournal state → IsTrue tells → own ≡ [] → (p : Place) → files v p ≡ files start p
   none_changed sound told empty p =
-      r.others told p (λ has. let none : Contains [] p = subst (λ (ws : List Writer). Contains (map place_of_writer ws) p) (none_begun sound empty) has in omega (arith, none.1))
+      r.others told p (λ has. let none : Contains [] p = subst (λ (ws : List Writer). Contains (map place_of_writer ws) p)
+      (none_begun sound empty) has in omega (arith, none.1))
 
   acked_none : state.segments ≡ [] → acked state ≡ 0
   unfolding most_synced
   acked_none empty = ap (λ (ws : List Writer). most_synced 0 ws) empty
 
-  module _ (sound : IsSoundJournal state) (died : Bool) (died_is : died ≡ is_some state.dead) (all : died ≡ false → acked state ≡ len state) (rests : died ≡ false → NothingInFlight v) where
+  module _ (sound : IsSoundJournal state) (died : Bool) (died_is : died ≡ is_some state.dead) (all : died ≡ false → acked state ≡ len state)
+      (rests : died ≡ false → NothingInFlight v) where
     abbrev end : JournalEnd
     end = record { acked = acked state; segments = length state.segments; died = died }
 
@@ -205,11 +226,22 @@ module _ (tells : Bool) (start : DiskView) (wal base : ℕ) (own : List Batch) (
     pub has_ended : HasEnded tells start wal base own end v
     has_ended = record {
       ends = ends;
-      of = record { journal = state; stands = r.stands; wal_is = r.wal_is; base_is = r.base_is; threshold_is = r.threshold; acked_is = refl; segments_is = refl; died_is = died_is };
+      of = record {
+        journal = state;
+        stands = r.stands;
+        wal_is = r.wal_is;
+        base_is = r.base_is;
+        threshold_is = r.threshold;
+        acked_is = refl;
+        segments_is = refl;
+        died_is = died_is;
+      };
       others = others_same;
       nothing = none_changed sound;
       recovers = λ told b opening.
           let keeps = r.kept told b opening in
-          base_recovers state.wal state.base own b (acked state) keeps.opening (files v) keeps.begun (run_kept_now tells own keeps.opening state v told r.stands (record { absent = none_of_opening state.wal state.base b keeps.opening keeps.begun; others = keeps.others told }));
+          base_recovers state.wal state.base own b (acked state) keeps.opening (files v) keeps.begun
+          (run_kept_now tells own keeps.opening state v told r.stands
+          (record { absent = none_of_opening state.wal state.base b keeps.opening keeps.begun; others = keeps.others told }));
       read = λ told rested calm. reads_as_image tells own (files start) state v told r.stands (not_broken calm) rested (r.others told);
     }

@@ -19,11 +19,13 @@ says_all r NoMemory text wrote says = absurd says
 says_all r Limit text wrote says = (text, says, wrote)
 
 -- the sink failed within it
-pub says_part : (r : Run) (status : Status) (text : List ℕ) → Rises r.sink_faults → WrotePart r.written.before r.written.after text → HasToSay r.call status text → Says r Write
+pub says_part : (r : Run) (status : Status) (text : List ℕ) → Rises r.sink_faults → WrotePart r.written.before r.written.after text
+    → HasToSay r.call status text → Says r Write
 says_part r status' text' rose part' says' = (rose, record { status = status'; text = text'; says = says'; part = part' })
 
 -- the sink ran out of memory within it
-pub says_short : (r : Run) (status : Status) (text : List ℕ) → Rises r.shortages → WrotePart r.written.before r.written.after text → HasToSay r.call status text → Says r NoMemory
+pub says_short : (r : Run) (status : Status) (text : List ℕ) → Rises r.shortages → WrotePart r.written.before r.written.after text
+    → HasToSay r.call status text → Says r NoMemory
 says_short r status' text' rose part' says' = inr (rose, record { status = status'; text = text'; says = says'; part = part' })
 
 -- a fault of the sink is said only where it rose

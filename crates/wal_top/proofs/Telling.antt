@@ -26,7 +26,8 @@ told_files inner outer t = ap (λ (h : ℕ → Files). h outer.clock) t.history 
 pub told_idle : (inner outer : DiskView) → TellsOf inner outer → NothingInFlight inner → NothingInFlight outer
 told_idle inner outer t idle id = ap (λ (flights : OpId → Option Flight). flights id) t.in_flight ∙ idle id
 
-module _ (old start v new : DiskView) (before : TellsOf old start) (polls : (side : Side) → start.polls_left side ≡ old.polls_left side) (after : TellsOf new v) where
+module _ (old start v new : DiskView) (before : TellsOf old start) (polls : (side : Side) → start.polls_left side ≡ old.polls_left side)
+    (after : TellsOf new v) where
   faults_of : (side : Side) → start.faults side ≡ old.faults side
   faults_of side = ap (λ (f : Side → ℕ). f side) before.faults
 
@@ -76,12 +77,14 @@ module _ (old start v new : DiskView) (before : TellsOf old start) (polls : (sid
   others_told wal others =
       subst (λ (fs : Files). OthersSame wal fs (files new)) was_files (subst (OthersSame wal (files start)) now_files others)
 
-  ended_told : (tells : Bool) (wal first : ℕ) (own : List Batch) (end : JournalEnd) → HasEnded tells start wal first own end v → HasEnded tells old wal first own end new
+  ended_told : (tells : Bool) (wal first : ℕ) (own : List Batch) (end : JournalEnd) → HasEnded tells start wal first own end v
+      → HasEnded tells old wal first own end new
   ended_told tells wal first own end e = record {
     ends = ends_told (length own) end e.ends;
     of = record {
       journal = e.of.journal;
-      stands = same_stands tells own e.of.journal v new (record { in_flight = sym after.in_flight; clock = sym after.clock; history = sym after.history }) e.of.stands;
+      stands = same_stands tells own e.of.journal v new (record
+          { in_flight = sym after.in_flight; clock = sym after.clock; history = sym after.history }) e.of.stands;
       wal_is = e.of.wal_is;
       base_is = e.of.base_is;
       threshold_is = e.of.threshold_is;
@@ -93,11 +96,13 @@ module _ (old start v new : DiskView) (before : TellsOf old start) (polls : (sid
     nothing = λ told empty p.
         let same : files v p ≡ files start p = e.nothing told empty p in
         ap (λ (fs : Files). fs p) (sym now_files) ∙ same ∙ ap (λ (fs : Files). fs p) was_files;
-    recovers = λ told base opening. subst (RecoversTo base own end.acked) now_files (e.recovers told base (subst (IsOpening wal first base) (sym was_files) opening));
+    recovers = λ told base opening. subst (RecoversTo base own end.acked) now_files
+        (e.recovers told base (subst (IsOpening wal first base) (sym was_files) opening));
     read = λ told rested calm. subst ReadsAsImage now_files (e.read told (subst IsRested (sym was_files) rested) (λ rose. calm (rose_told rose)));
   }
 
-  pub replays_told : (base : List Batch) (acts : List Act) (wal : ℕ) (tells : Bool) (status : Status) (text : List ℕ) → ReplaysOver base acts wal tells start v status text → ReplaysOver base acts wal tells old new status text
+  pub replays_told : (base : List Batch) (acts : List Act) (wal : ℕ) (tells : Bool) (status : Status) (text : List ℕ)
+      → ReplaysOver base acts wal tells start v status text → ReplaysOver base acts wal tells old new status text
   replays_told base acts wal tells status text r = record {
     batches = r.batches;
     end = r.end;
@@ -108,5 +113,6 @@ module _ (old start v new : DiskView) (before : TellsOf old start) (polls : (sid
     ended = ended_told tells wal (end_after _ base) r.batches r.end r.ended;
   }
 
-  pub runs_others : (tells : Bool) (wal first : ℕ) (own : List Batch) (state : State) → Runs tells start wal first own state v → IsTrue tells → OthersSame wal (files old) (files new)
+  pub runs_others : (tells : Bool) (wal first : ℕ) (own : List Batch) (state : State) → Runs tells start wal first own state v
+      → IsTrue tells → OthersSame wal (files old) (files new)
   runs_others tells wal first own state r told = others_told wal (others_same tells start wal first own state v r told)

@@ -36,7 +36,12 @@ no_bad_line script acts number accepted b = b.bad (accepted_at b.before b.line b
 
 -- An accepted script is not refused.
 pub not_refused : (left : Change (Option (List ℕ))) (text : List ℕ) → TellsScript left.before → RefusesScript left text → ⊥
-not_refused left _ told (too_long more) = omega (arith, more.past, told.good.within, not_longer told.script more.front left.after (sym more.taken ∙ told.told_is))
+not_refused left _ told (too_long more) = omega (
+  arith,
+  more.past,
+  told.good.within,
+  not_longer told.script more.front left.after (sym more.taken ∙ told.told_is),
+)
 not_refused left _ told (bad_line number b) =
     let same_script : b.script ≡ told.script = read_is_told left.before left.after b.script told.script b.whole told.told_is in
     no_bad_line told.script told.good.acts number told.good.asks (subst (λ (t : List ℕ). IsFirstBad (lines_of t) number) same_script b.bad)

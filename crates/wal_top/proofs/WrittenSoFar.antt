@@ -22,7 +22,8 @@ pub front_first : (told : Option (List ℕ)) (text : List ℕ) → WroteFront to
 front_first told text = record { front = []; text_is = refl; wrote = wrote_nothing told }
 
 -- a piece more
-front_more : (before mid after : Option (List ℕ)) (text rest : List ℕ) (n : ℕ) → WroteFront before mid text rest → after ≡ told_back mid (take n rest) → WroteFront before after text (drop n rest)
+front_more : (before mid after : Option (List ℕ)) (text rest : List ℕ) (n : ℕ) → WroteFront before mid text rest
+    → after ≡ told_back mid (take n rest) → WroteFront before after text (drop n rest)
 front_more before mid after text rest n h e = record {
   front = h.front ++ take n rest;
   text_is = h.text_is ∙ ap (λ (t : List ℕ). h.front ++ t) (sym (take-append-drop n rest)) ∙ sym (append_assoc h.front (take n rest) (drop n rest));
@@ -36,5 +37,6 @@ pub whole_of : (before after : Option (List ℕ)) (text rest : List ℕ) → Wro
 whole_of before after text rest h e = h.wrote ∙ ap (told_back before) (sym (h.text_is ∙ ap (λ (t : List ℕ). h.front ++ t) e ∙ append-nil h.front))
 
 -- a piece more, with the rest as a slice has it
-pub front_next : (before mid after : Option (List ℕ)) (text rest : List ℕ) (n : ℕ) → WroteFront before mid text rest → after ≡ told_back mid (take n rest) → WroteFront before after text (take (length rest - n) (drop n rest))
+pub front_next : (before mid after : Option (List ℕ)) (text rest : List ℕ) (n : ℕ) → WroteFront before mid text rest
+    → after ≡ told_back mid (take n rest) → WroteFront before after text (take (length rest - n) (drop n rest))
 front_next before mid after text rest n h e = rw (take_rest rest n) (front_more before mid after text rest n h e)

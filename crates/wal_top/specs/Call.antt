@@ -21,7 +21,8 @@ pub record Invocation : Type 0 where
   pub tells : Bool
   pub disk : Change DiskView
 
-abbrev pub call_of : {Source Disk : Type 0} → List (List ℕ) → (Source → Option (List ℕ)) → (Source → ℕ) → Source → Source → Bool → (Disk → DiskView) → Disk → Disk → Invocation
+abbrev pub call_of : {Source Disk : Type 0} → List (List ℕ) → (Source → Option (List ℕ)) → (Source → ℕ) → Source → Source → Bool
+    → (Disk → DiskView) → Disk → Disk → Invocation
 call_of words left faults source source_then tells view disk disk_then = record {
   words = words;
   left = change_in left source source_then;

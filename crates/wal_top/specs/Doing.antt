@@ -41,7 +41,13 @@ pub record Stage : Type 0 where
   pub limited : Bool
 
 abbrev pub stage_of : {Disk : Type 0} → (Disk → DiskView) → InCourse Disk → Stage
-stage_of view course = record { batches = course.batches; journal = course.journal.state; view = view course.journal.disk; text = course.text; limited = course.limited }
+stage_of view course = record {
+  batches = course.batches;
+  journal = course.journal.state;
+  view = view course.journal.disk;
+  text = course.text;
+  limited = course.limited;
+}
 
 -- The batch was pushed, no sync was asked for, and the journal stepped as long as a step moved.
 pub record Logs (batch : Batch) (old : State) (before : DiskView) (new : State) (after : DiskView) : Type 0 where
@@ -74,7 +80,8 @@ pub record OnlyReplies (line : List ℕ) (limited : Bool) (old new : Stage) : Ty
 -- What a commit does: it adds its batch, reaches the limit, or finds a journal that has died.
 pub data DoesCommit (tells : Bool) (entries : List Entry) (old new : Stage) : Type 0 where
   commits : Commits tells entries old new → DoesCommit tells entries old new
-  past : old.journal.dead ≡ None → NUMBER_MAX < end_after NUMBER_FIRST old.batches + count_of entries → OnlyReplies (limit_line 0) true old new → DoesCommit tells entries old new
+  past : old.journal.dead ≡ None → NUMBER_MAX < end_after NUMBER_FIRST old.batches + count_of entries
+      → OnlyReplies (limit_line 0) true old new → DoesCommit tells entries old new
   died : old.journal.dead ≢ None → OnlyReplies (dead_line 0) old.limited old new → DoesCommit tells entries old new
 
 -- A read is answered.
@@ -96,7 +103,8 @@ pub record Closes (tells died : Bool) (old new : Stage) : Type 0 where
   pub limited : new.limited ≡ old.limited
   pub lives : died ≡ false → old.journal.dead ≡ None
   pub ended : IsSoundJournal new.journal → (start : DiskView) (wal first : ℕ) (own : List Batch) → Runs tells start wal first own old.journal old.view
-      → (len new.journal ≡ length own) × HasEnded tells start wal first own (record { acked = acked new.journal; segments = length new.journal.segments; died = died }) new.view
+      → (len new.journal ≡ length own) × HasEnded tells start wal first own
+      (record { acked = acked new.journal; segments = length new.journal.segments; died = died }) new.view
 
 -- The journal was closed, or died, and the last line says so.
 pub record EndsRun (tells : Bool) (end : JournalEnd) (old new : Stage) : Type 0 where
@@ -106,12 +114,14 @@ pub record EndsRun (tells : Bool) (end : JournalEnd) (old new : Stage) : Type 0 
   pub numbered : IsContiguous NUMBER_FIRST old.batches
   pub within : end_after NUMBER_FIRST old.batches ≤ NUMBER_MAX
   pub reply : new.text ≡ old.text ++ end_line (end_after NUMBER_FIRST old.batches) (len new.journal) end
-  pub ended : (start : DiskView) (wal first : ℕ) (own : List Batch) → Runs tells start wal first own old.journal old.view → (len new.journal ≡ length own) × HasEnded tells start wal first own end new.view
+  pub ended : (start : DiskView) (wal first : ℕ) (own : List Batch) → Runs tells start wal first own old.journal old.view
+      → (len new.journal ≡ length own) × HasEnded tells start wal first own end new.view
 
 -- The acts were done one after another.
 pub data DoesAll (tells : Bool) (first : Stage) : List Act → Stage → Type 0 where
   none : DoesAll tells first [] first
-  one_more : (acts : List Act) (act : Act) (mid new : Stage) → DoesAll tells first acts mid → DoesAct tells act mid new → DoesAll tells first (acts ++ act ∷ []) new
+  one_more : (acts : List Act) (act : Act) (mid new : Stage) → DoesAll tells first acts mid → DoesAct tells act mid new
+      → DoesAll tells first (acts ++ act ∷ []) new
 
 -- The acts were done, none of which asked for a sync, and then the journal was closed, or died.
 pub record DoesRun (tells : Bool) (acts : List Act) (end : JournalEnd) (old new : Stage) : Type 0 where

@@ -45,7 +45,8 @@ pub record HasEnded (tells : Bool) (start : DiskView) (wal first : ℕ) (own : L
 -- It went on so, and some batches may have come after the others.
 abbrev pub RunsOn : Bool → State → DiskView → State → DiskView → Type 0
 RunsOn tells old before new after =
-    (start : DiskView) (wal first : ℕ) (own : List Batch) → Runs tells start wal first own old before → (more : List Batch) × Runs tells start wal first (own ++ more) new after
+    (start : DiskView) (wal first : ℕ) (own : List Batch) → Runs tells start wal first own old before → (more : List Batch)
+    × Runs tells start wal first (own ++ more) new after
 
 -- It went on with the same batches.
 abbrev pub RunsStill : Bool → State → DiskView → State → DiskView → Type 0

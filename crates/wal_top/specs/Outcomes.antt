@@ -101,13 +101,15 @@ pub record ShowsSegments (c : Invocation) (text : List ℕ) : Type 0 where
 
 -- What was done, and its text: a replay of which each batch is committed and synced, the store that was recovered, or the segments that were read.
 pub data IsDoneRun (c : Invocation) (text : List ℕ) : Type 0 where
-  replayed : (acts : List Act) (batches : List Batch) (end : JournalEnd) → Replays c acts batches end text → end.died ≡ false → AllCommitted acts batches → IsDoneRun c text
+  replayed : (acts : List Act) (batches : List Batch) (end : JournalEnd) → Replays c acts batches end text → end.died ≡ false
+      → AllCommitted acts batches → IsDoneRun c text
   recovered : ShowsStore c text → IsDoneRun c text
   dumped : ShowsSegments c text → IsDoneRun c text
 
 -- A limit was reached: the script was replayed but for commits that would end past the numbers, or the last WAL is taken.
 pub data IsLimited (c : Invocation) (text : List ℕ) : Type 0 where
-  of_numbers : (acts : List Act) (batches : List Batch) (end : JournalEnd) → Replays c acts batches end text → end.died ≡ false → LacksBatch acts batches → IsLimited c text
+  of_numbers : (acts : List Act) (batches : List Batch) (end : JournalEnd) → Replays c acts batches end text → end.died ≡ false
+      → LacksBatch acts batches → IsLimited c text
   of_wals : LacksWal c text → IsLimited c text
 
 -- A side failed in recovery, and is named. No file was begun, and nothing is in flight.

@@ -15,10 +15,12 @@ SaysUnread IsWords tells disk status text = (words : List (List ℕ)) (left : Ch
 
 -- By a replay of these acts, this is said of the disk.
 abbrev pub SaysOfActs : List Act → Bool → Change DiskView → Status → List ℕ → Type 0
-SaysOfActs acts tells disk status text = (words : List (List ℕ)) (left : Change (Option (List ℕ))) (faults : Change ℕ) → IsReplay words → ReadsScript left.before acts left.after
+SaysOfActs acts tells disk status text = (words : List (List ℕ)) (left : Change (Option (List ℕ))) (faults : Change ℕ) → IsReplay words
+    → ReadsScript left.before acts left.after
     → HasToSay (record { words = words; left = left; source_faults = faults; tells = tells; disk = disk }) status text
 
 -- By a replay of a script of these bytes, this is said of the disk.
 abbrev pub SaysOfScript : List ℕ → Bool → Change DiskView → Status → List ℕ → Type 0
-SaysOfScript bytes tells disk status text = (words : List (List ℕ)) (left : Change (Option (List ℕ))) (faults : Change ℕ) → IsReplay words → ReadsWhole left.before bytes left.after
+SaysOfScript bytes tells disk status text = (words : List (List ℕ)) (left : Change (Option (List ℕ))) (faults : Change ℕ) → IsReplay words
+    → ReadsWhole left.before bytes left.after
     → HasToSay (record { words = words; left = left; source_faults = faults; tells = tells; disk = disk }) status text

@@ -32,7 +32,8 @@ printed_answer (Some value) = codes " = " ++ printed value
 
 -- `sS get K = V @N`, or `sS get K none @N`
 unfoldable pub get_line : ℕ → List ℕ → Option (List ℕ) → ℕ → List ℕ
-get_line session key value visible = codes "s" ++ decimal session ++ codes " get " ++ printed key ++ printed_answer value ++ codes " @" ++ decimal visible ++ 10 ∷ []
+get_line session key value visible = codes "s" ++ decimal session ++ codes " get " ++ printed key ++ printed_answer value ++ codes " @" ++
+    decimal visible ++ 10 ∷ []
 
 -- how a journal ended: ` dead`, or ` closed`
 abbrev pub how_ended : Bool → List ℕ
@@ -42,12 +43,14 @@ how_ended false = codes " closed\n"
 -- `end visible V batches B acked A segments G W`
 unfoldable pub end_line : ℕ → ℕ → JournalEnd → List ℕ
 end_line visible batches end =
-    codes "end visible " ++ decimal visible ++ codes " batches " ++ decimal batches ++ codes " acked " ++ decimal end.acked ++ codes " segments " ++ decimal end.segments ++ how_ended end.died
+    codes "end visible " ++ decimal visible ++ codes " batches " ++ decimal batches ++ codes " acked " ++ decimal end.acked ++ codes
+    " segments " ++ decimal end.segments ++ how_ended end.died
 
 -- what is said of a segment and its batches
 abbrev pub report_lines : SegReport → List ℕ
 report_lines report =
-    segment_line (record { side = report.side; name = report.name; len = report.len; ends_at = report.ends_at; torn = report.torn }) (length report.batches) ++ flat_map batch_lines report.batches
+    segment_line (record { side = report.side; name = report.name; len = report.len; ends_at = report.ends_at; torn = report.torn })
+    (length report.batches) ++ flat_map batch_lines report.batches
 
 -- what is said of all segments
 abbrev pub segments_text : List SegReport → List ℕ

@@ -27,8 +27,10 @@ visible_after store n = end_after NUMBER_FIRST (take n store)
 -- How an act is answered after the first n batches of the store, and how many batches then stand. Where the journal is dead, a
 -- commit is told so; else it is the next batch, or would end past the numbers. A read answers after those n.
 pub data Answers (store : List Batch) (is_dead : Bool) (n : ℕ) : Act → ℕ → List ℕ → Type 0 where
-  numbered : (batch : Batch) → is_dead ≡ false → slice_get store n ≡ Some batch → Answers store is_dead n (Commit batch.entries) (n + 1) (commit_line 0 batch.first (count_of batch.entries))
-  limited : (entries : List Entry) → is_dead ≡ false → NUMBER_MAX < visible_after store n + count_of entries → Answers store is_dead n (Commit entries) n (limit_line 0)
+  numbered : (batch : Batch) → is_dead ≡ false → slice_get store n ≡ Some batch
+      → Answers store is_dead n (Commit batch.entries) (n + 1) (commit_line 0 batch.first (count_of batch.entries))
+  limited : (entries : List Entry) → is_dead ≡ false → NUMBER_MAX < visible_after store n + count_of entries
+      → Answers store is_dead n (Commit entries) n (limit_line 0)
   dead : (entries : List Entry) → is_dead ≡ true → Answers store is_dead n (Commit entries) n (dead_line 0)
   read : (key : List ℕ) → Answers store is_dead n (Get key) n (get_line 0 key (answer store n key) (visible_after store n))
 
@@ -41,7 +43,8 @@ StaysDead was_dead is_dead = IsTrue was_dead → IsTrue is_dead
 unfoldable pub AnswersAll : List Batch → Bool → Bool → ℕ → List Act → ℕ → List ℕ → Type 0
 AnswersAll store was_dead died n [] end lines = StaysDead was_dead died × (end ≡ n) × (lines ≡ [])
 AnswersAll store was_dead died n (act ∷ acts) end lines =
-    (is_dead : Bool) × (next : ℕ) × (line : List ℕ) × (rest : List ℕ) × StaysDead was_dead is_dead × Answers store is_dead n act next line × AnswersAll store is_dead died next acts end rest × (lines ≡ line ++ rest)
+    (is_dead : Bool) × (next : ℕ) × (line : List ℕ) × (rest : List ℕ) × StaysDead was_dead is_dead × Answers store is_dead n act next line
+    × AnswersAll store is_dead died next acts end rest × (lines ≡ line ++ rest)
 
 -- The text answers the acts over a store that begins with the base, adds these batches to it, and then says how the run and its
 -- journal ended.

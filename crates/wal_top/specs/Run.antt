@@ -98,12 +98,17 @@ end_of_script begin = end_after NUMBER_FIRST begin.base + sum_by numbers_taken b
 pub record ComesExactly (r : Run) (status : Status) : Type 0 where
   pub no_command : (IsCommand r.call.words → ⊥) → YieldsTo Usage status
   pub no_script : ReadsSource r.call.words → TellsNoScript r.call.left.before → HasCalmSource r.call → YieldsTo Script status
-  pub refused : (mode : Mode) (fault : RecoverFault) → RecoversIn r.call.words mode → (ReadsSource r.call.words → TellsScript r.call.left.before) → IsTrue r.call.tells
+  pub refused : (mode : Mode) (fault : RecoverFault) → RecoversIn r.call.words mode
+      → (ReadsSource r.call.words → TellsScript r.call.left.before) → IsTrue r.call.tells
       → IsRefusedBy mode (directories r.call.disk.before) fault → HasCalmSource r.call → HasCalmDisk r.call → YieldsTo Refused status
-  pub limited : (begin : MayBegin r.call) → (WAL_MAX < begin.next) ⊎ (NUMBER_MAX < end_of_script begin) → HasCalmSource r.call → HasCalmDisk r.call → YieldsTo Limit status
-  pub replays : (begin : MayBegin r.call) → begin.next ≤ WAL_MAX → end_of_script begin ≤ NUMBER_MAX → HasCalmSource r.call → HasCalmDisk r.call → IsDoneUnless r.sink_faults status
-  pub shows_store : IsRecover r.call.words → IsTrue r.call.tells → (batches : List Batch) → Recovers (directories r.call.disk.before) batches → HasCalmDisk r.call → IsDoneUnless r.sink_faults status
-  pub shows_segments : IsDump r.call.words → IsTrue r.call.tells → (batches : List Batch) → RecoversLenient (directories r.call.disk.before) batches → HasCalmDisk r.call → IsDoneUnless r.sink_faults status
+  pub limited : (begin : MayBegin r.call) → (WAL_MAX < begin.next) ⊎ (NUMBER_MAX < end_of_script begin) → HasCalmSource r.call
+      → HasCalmDisk r.call → YieldsTo Limit status
+  pub replays : (begin : MayBegin r.call) → begin.next ≤ WAL_MAX → end_of_script begin ≤ NUMBER_MAX → HasCalmSource r.call
+      → HasCalmDisk r.call → IsDoneUnless r.sink_faults status
+  pub shows_store : IsRecover r.call.words → IsTrue r.call.tells → (batches : List Batch)
+      → Recovers (directories r.call.disk.before) batches → HasCalmDisk r.call → IsDoneUnless r.sink_faults status
+  pub shows_segments : IsDump r.call.words → IsTrue r.call.tells → (batches : List Batch)
+      → RecoversLenient (directories r.call.disk.before) batches → HasCalmDisk r.call → IsDoneUnless r.sink_faults status
 
 -- ---- what is left, whatever the status
 

@@ -12,7 +12,8 @@ returns-clause-only c = λ batch s. is_only c.args.text.now c.outcome.result bat
 
 pub returns-clause-written : goal.returns-clause-written
 returns-clause-written c = λ batch fits within e.
-    is_only c.args.text.now c.outcome.result batch c.outcome.ensures.met (subst (λ (x : List ℕ). SpellsBatch x batch) (sym e) (written_spells batch fits within))
+    is_only c.args.text.now c.outcome.result batch c.outcome.ensures.met
+    (subst (λ (x : List ℕ). SpellsBatch x batch) (sym e) (written_spells batch fits within))
 
 pub returns-clause-first : goal.returns-clause-first
 returns-clause-first c = λ fault f. is_first c.args.text.now c.outcome.result fault c.outcome.ensures.met f

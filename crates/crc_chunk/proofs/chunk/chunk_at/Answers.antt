@@ -33,11 +33,13 @@ returns-then-masked-u32_at-clause-none c = λ kind payload h.
     let same : length payload ≡ c.u16_at.result = same_16 (omega (arith, h.within)) (omega arith) f.len c.u16_at.ensures in
     let cut : slice_range c.args.block.now (c.args.at + 6) (c.args.at + 11 + c.from-len.result) ≡ covered kind c.args.log payload =
     covered_is c.args.block.now c.args.at (c.args.at + 11 + c.from-len.result) c.args.log kind payload f.body (omega arith) (omega arith) in
-    let said : masked_of (checksum (covered kind c.args.log payload)) ≡ c.u32_at-2.result = same_32 (mod_below _ (2 ^ 32) (omega arith)) (omega arith) f.crc c.u32_at-2.ensures in
+    let said : masked_of (checksum (covered kind c.args.log payload)) ≡ c.u32_at-2.result = same_32 (mod_below _ (2 ^ 32) (omega arith))
+    (omega arith) f.crc c.u32_at-2.ensures in
     c.if-masked-u32_at.true (c.masked.ensures ∙ ap masked_of (c.crc32c.ensures ∙ ap checksum cut) ∙ said)
 
 pub returns-clause-found : goal.returns-clause-found
 returns-clause-found c =
     chunk_from c.args.block.now c.args.at (c.args.at + 11 + c.from-len.result) c.args.log c.in-Some.kind c.u32_at-2.result c.u16_at.result
-    c.requires (omega arith) (omega arith) c.u16_at.ensures (subst (λ (n : ℕ). StandsAt c.args.block.now (c.args.at + 7) (to_le_bytes w32 n)) c.if-u32_at-log.false c.u32_at.ensures)
+    c.requires (omega arith) (omega arith) c.u16_at.ensures (subst
+    (λ (n : ℕ). StandsAt c.args.block.now (c.args.at + 7) (to_le_bytes w32 n)) c.if-u32_at-log.false c.u32_at.ensures)
     (sym c.in-Some.ensures.found) c.u32_at-2.ensures (ap masked_of (sym c.crc32c.ensures) ∙ sym c.masked.ensures ∙ c.if-masked-u32_at.false)

@@ -5,7 +5,8 @@ use Rattle.crc_chunk.proofs.crc.extended.Goals as goal
 pub loop-first-preserved-in-Some-split_first_chunk : goal.loop-first-preserved-in-Some-split_first_chunk
 loop-first-preserved-in-Some-split_first_chunk c =
     let one = cut_at 8 c.loop-first.rest.now c.in-Some.first.now c.in-Some.behind.now c.in-Some.ensures.cases.0 c.in-Some.ensures.cases.1 in
-    let two = cut_at 8 c.in-Some.behind.now c.in-Some-split_first_chunk.second.now c.in-Some-split_first_chunk.behind.now c.in-Some-split_first_chunk.ensures.cases.0 c.in-Some-split_first_chunk.ensures.cases.1 in
+    let two = cut_at 8 c.in-Some.behind.now c.in-Some-split_first_chunk.second.now c.in-Some-split_first_chunk.behind.now
+    c.in-Some-split_first_chunk.ensures.cases.0 c.in-Some-split_first_chunk.ensures.cases.1 in
     goes_on c.loop-first.rest.now _ _ c.loop-first.register _ _ (cut_twice _ _ _ _ _ one two) c.after_sixteen-register.ensures c.loop-first.invariant
 
 pub loop-first-preserved : goal.loop-first-preserved

@@ -7,6 +7,7 @@ use Rattle.crc_chunk.proofs.crc.with_register.Goals as goal
 pub returns-clause-sum : goal.returns-clause-sum
 returns-clause-sum c =
     ap (from_le_bytes w64) c.to_le_bytes.ensures
-    ∙ from_le_bytes-to_le_bytes_8 (bit_xor c.from_le_bytes.result c.from.result) (xor_lt 64 c.from_le_bytes.result c.from.result c.from_le_bytes.type_inv c.from.type_inv)
+    ∙ from_le_bytes-to_le_bytes_8 (bit_xor c.from_le_bytes.result c.from.result)
+    (xor_lt 64 c.from_le_bytes.result c.from.result c.from_le_bytes.type_inv c.from.type_inv)
     ∙ ap (bit_xor c.from_le_bytes.result) c.from.ensures
     ∙ ap (λ n. bit_xor n c.args.register) c.from_le_bytes.ensures

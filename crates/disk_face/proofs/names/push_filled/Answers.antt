@@ -6,7 +6,14 @@ use Rattle.disk_face.proofs.names.push_filled.Goals as goal
 pub push_all-requires : goal.push_all-requires
 push_all-requires c =
     let size = ap length (c.as_bytes-digits.ensures.value ∙ c.format.ensures.text) in
-    omega (arith, size, length-decimal-le 20 c.args.number (omega arith) (omega (arith, c.ranges.number.fits)) (omega (arith, c.ranges.number.fits)), c.loop-zero.invariant.len, c.saturating_sub-zero-end.ensures)
+    omega (
+      arith,
+      size,
+      length-decimal-le 20 c.args.number (omega arith) (omega (arith, c.ranges.number.fits))
+          (omega (arith, c.ranges.number.fits)),
+      c.loop-zero.invariant.len,
+      c.saturating_sub-zero-end.ensures,
+    )
 
 pub returns-clause-items : goal.returns-clause-items
 returns-clause-items c =
@@ -21,4 +28,11 @@ returns-clause-items c =
 pub returns-clause-len : goal.returns-clause-len
 returns-clause-len c =
     let size = ap length (c.as_bytes-digits.ensures.value ∙ c.format.ensures.text) in
-    omega (arith, size, length-decimal-le 20 c.args.number (omega arith) (omega (arith, c.ranges.number.fits)) (omega (arith, c.ranges.number.fits)), c.loop-zero.invariant.len, c.saturating_sub-zero-end.ensures)
+    omega (
+      arith,
+      size,
+      length-decimal-le 20 c.args.number (omega arith) (omega (arith, c.ranges.number.fits))
+          (omega (arith, c.ranges.number.fits)),
+      c.loop-zero.invariant.len,
+      c.saturating_sub-zero-end.ensures,
+    )

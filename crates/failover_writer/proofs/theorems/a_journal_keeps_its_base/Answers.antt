@@ -7,4 +7,5 @@ use Rattle.failover_writer.proofs.theorems.a_journal_keeps_its_base.Goals as goa
 pub returns : goal.returns
 returns c tells records base state v told stands keeps =
     base_recovers state.wal state.base records base (acked state) keeps.opening (files v) keeps.begun
-    (run_kept_now tells records keeps.opening state v told stands (record { absent = none_of_opening state.wal state.base base keeps.opening keeps.begun; others = keeps.others told }))
+    (run_kept_now tells records keeps.opening state v told stands
+    (record { absent = none_of_opening state.wal state.base base keeps.opening keeps.begun; others = keeps.others told }))

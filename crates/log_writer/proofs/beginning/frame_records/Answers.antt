@@ -15,10 +15,12 @@ stays standing low = let same : (standing.place + 0) % 32768 ≡ standing.place 
 
 moves : (standing : Standing) (first more : List ℕ) → standing_after (standing_after standing first) more ≡ standing_after standing (first ++ more)
 moves standing first more =
-    let same : ((standing.place + length first) % 32768 + length more) % 32768 ≡ (standing.place + length (first ++ more)) % 32768 = omega (arith, length-append first more) in
+    let same : ((standing.place + length first) % 32768 + length more) % 32768 ≡ (standing.place + length (first ++ more)) % 32768 = omega
+    (arith, length-append first more) in
     ap (λ (n : ℕ). record standing { place = n }) same
 
-module _ (queue : Queue) (standing : Standing) (from number : ℕ) (rec : Batch) (low : queue.start ≤ from) (le : from ≤ number) (found : IsRecordOf queue number rec) where
+module _ (queue : Queue) (standing : Standing) (from number : ℕ) (rec : Batch) (low : queue.start ≤ from) (le : from ≤ number)
+    (found : IsRecordOf queue number rec) where
   abbrev frames : ℕ → List ℕ
   frames to = frames_from queue standing.log standing.place from to
 
@@ -27,7 +29,8 @@ module _ (queue : Queue) (standing : Standing) (from number : ℕ) (rec : Batch)
 
   out_more : (before out after : List ℕ) → out ≡ before ++ frames number → after ≡ out ++ next → after ≡ before ++ frames (number + 1)
   out_more before out after is more =
-      more ∙ ap (λ (t : List ℕ). t ++ next) is ∙ append_assoc before (frames number) next ∙ ap (λ (t : List ℕ). before ++ t) (sym (framed_more queue standing from number rec low le found))
+      more ∙ ap (λ (t : List ℕ). t ++ next) is ∙ append_assoc before (frames number) next
+      ∙ ap (λ (t : List ℕ). before ++ t) (sym (framed_more queue standing from number rec low le found))
 
   standing_more : standing_after (standing_after standing (frames number)) next ≡ standing_after standing (frames (number + 1))
   standing_more = moves standing (frames number) next ∙ ap (standing_after standing) (sym (framed_more queue standing from number rec low le found))
@@ -61,12 +64,14 @@ loop-number-preserved c =
           (made.framed ∙ ap (λ (s : Standing). c.loop-number.out ++ framed s.log s.place c.bytes.result.now) was.moved
           ∙ ap (λ (b : List ℕ). c.loop-number.out ++ framed standing.log ((standing.place + length before) % 32768) b) c.bytes.ensures.written);
       moved = made.moved ∙ ap (λ (s : Standing). standing_after s (framed s.log s.place c.bytes.result.now)) was.moved
-          ∙ ap (λ (b : List ℕ). standing_after (standing_after standing before) (framed standing.log ((standing.place + length before) % 32768) b)) c.bytes.ensures.written
+          ∙ ap (λ (b : List ℕ). standing_after (standing_after standing before)
+          (framed standing.log ((standing.place + length before) % 32768) b)) c.bytes.ensures.written
           ∙ standing_more c.args.queue.now standing c.args.from number rec low le found;
     }
 
 -- What is framed at the end is what is framed up to `to`.
-at_end : (queue : Queue) (standing : Standing) (from number to : ℕ) → from ≤ number → number ≤ max from to → to ≤ number → frames_from queue standing.log standing.place from number ≡ frames_from queue standing.log standing.place from to
+at_end : (queue : Queue) (standing : Standing) (from number to : ℕ) → from ≤ number → number ≤ max from to → to ≤ number
+    → frames_from queue standing.log standing.place from number ≡ frames_from queue standing.log standing.place from to
 at_end queue standing from number to low high end = elim (dec_le from to) [
   | yes le ↦ let same : number ≡ to = omega (arith, low, high, end, le) in ap (frames_from queue standing.log standing.place from) same
   | no h ↦ none queue standing from number (omega (arith, low, high, h)) ∙ sym (none queue standing from to (omega (arith, h)))
@@ -75,9 +80,11 @@ at_end queue standing from number to low high end = elim (dec_le from to) [
 pub returns-clause-framed : goal.returns-clause-framed
 returns-clause-framed c =
     c.loop-number.invariant.framed
-    ∙ ap (λ (t : List ℕ). c.args.out.now ++ t) (at_end c.args.queue.now c.args.framer.now c.args.from c.loop-number.number c.args.to c.loop-number.auto.number c.loop-number.invariant.within c.loop-number-test.false)
+    ∙ ap (λ (t : List ℕ). c.args.out.now ++ t) (at_end c.args.queue.now c.args.framer.now c.args.from c.loop-number.number c.args.to
+    c.loop-number.auto.number c.loop-number.invariant.within c.loop-number-test.false)
 
 pub returns-clause-moved : goal.returns-clause-moved
 returns-clause-moved c =
     c.loop-number.invariant.moved
-    ∙ ap (standing_after c.args.framer.now) (at_end c.args.queue.now c.args.framer.now c.args.from c.loop-number.number c.args.to c.loop-number.auto.number c.loop-number.invariant.within c.loop-number-test.false)
+    ∙ ap (standing_after c.args.framer.now) (at_end c.args.queue.now c.args.framer.now c.args.from c.loop-number.number c.args.to
+    c.loop-number.auto.number c.loop-number.invariant.within c.loop-number-test.false)

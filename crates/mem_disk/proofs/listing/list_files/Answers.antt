@@ -11,4 +11,5 @@ pub returns-clause-numbers : goal.returns-clause-numbers
 returns-clause-numbers c = subst AreSegmentNames (sym c.in_ok-names.ensures) (listing_named c.args.side c.args.files.now)
 
 pub returns-clause-listed : goal.returns-clause-listed
-returns-clause-listed c = subst (IsListing (files_held c.args.files.now) c.args.side) (sym c.in_ok-names.ensures) (listing_of c.args.side c.args.files.now c.requires.ordered)
+returns-clause-listed c = subst (IsListing (files_held c.args.files.now) c.args.side) (sym c.in_ok-names.ensures)
+    (listing_of c.args.side c.args.files.now c.requires.ordered)

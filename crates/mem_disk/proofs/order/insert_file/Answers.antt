@@ -8,10 +8,13 @@ use Rattle.mem_disk.proofs.order.insert_file.Goals as goal
 
 pub returns-clause-ok : goal.returns-clause-ok
 returns-clause-ok c =
-    let items : c.insert.new.self.items ≡ put c.args.file c.args.files.now.items = c.in_ok-insert.ensures.items ∙ sym (c.place_for-at.ensures.place c.args.file refl refl) in
-    subst (λ (l : List MemFile). ChangesAt (segment c.args.file.side c.args.file.name) (λ f g. g ≡ Some (file_of c.args.file)) (files_held c.args.files.now.items) (files_held l)) (sym items) (put_changes c.args.file c.args.files.now.items c.requires.absent)
+    let items : c.insert.new.self.items ≡ put c.args.file c.args.files.now.items = c.in_ok-insert.ensures.items
+    ∙ sym (c.place_for-at.ensures.place c.args.file refl refl) in
+    subst (λ (l : List MemFile). ChangesAt (segment c.args.file.side c.args.file.name) (λ f g. g ≡ Some (file_of c.args.file))
+    (files_held c.args.files.now.items) (files_held l)) (sym items) (put_changes c.args.file c.args.files.now.items c.requires.absent)
 
 pub returns-clause-ordered : goal.returns-clause-ordered
 returns-clause-ordered c up =
-    let items : c.insert.new.self.items ≡ put c.args.file c.args.files.now.items = c.in_ok-insert.ensures.items ∙ sym (c.place_for-at.ensures.place c.args.file refl refl) in
+    let items : c.insert.new.self.items ≡ put c.args.file c.args.files.now.items = c.in_ok-insert.ensures.items
+    ∙ sym (c.place_for-at.ensures.place c.args.file refl refl) in
     subst AreInOrder (sym items) (put_ordered c.args.file c.args.files.now.items c.requires.absent up)

@@ -18,7 +18,8 @@ loop-segment-preserved c =
     let segments = c.args.segs in
     let i = length c.loop-segment.yielded in
     let turn = YieldsList-turn (YieldsList-from_vec {s = c.into_iter-segment-iterator.result} segments (search rules) (search rules))
-    c.loop-segment.yielded c.loop-segment.segment-iterator c.loop-segment.yielded_by c.next.result c.next.new.self c.in-Some.segment c.in-Some.is c.next.ensures.steps in
+    c.loop-segment.yielded c.loop-segment.segment-iterator c.loop-segment.yielded_by c.next.result c.next.new.self c.in-Some.segment
+    c.in-Some.is c.next.ensures.steps in
     subst (λ n. KeepsMerged c.args.first (batches_in (take n segments)) c.merge_segment.new.kept) (sym (length_push c.loop-segment.yielded c.in-Some.segment))
     (subst (λ s. KeepsMerged c.args.first (batches_in s) c.merge_segment.new.kept) (sym (row_more segments i c.in-Some.segment turn.0 turn.1))
     (c.in_ok-merge_segment.ensures c.args.first (take i segments) c.loop-segment.invariant))
@@ -29,7 +30,8 @@ refused c =
     let segments = c.args.segs in
     let i = length c.loop-segment.yielded in
     let turn = YieldsList-turn (YieldsList-from_vec {s = c.into_iter-segment-iterator.result} segments (search rules) (search rules))
-    c.loop-segment.yielded c.loop-segment.segment-iterator c.loop-segment.yielded_by c.next.result c.next.new.self c.in-Some.segment c.in-Some.is c.next.ensures.steps in
+    c.loop-segment.yielded c.loop-segment.segment-iterator c.loop-segment.yielded_by c.next.result c.next.new.self c.in-Some.segment
+    c.in-Some.is c.next.ensures.steps in
     let is : c.from_residual.result ≡ Err c.in_err-merge_segment.field-0.0 = search rules in
     let here : MemoryOrRefusal (IsRowRefused c.args.first segments) c.in_err-merge_segment.field-0.0 =
     subst (λ s. MemoryOrRefusal (IsRowRefused c.args.first s) c.in_err-merge_segment.field-0.0) (whole_row segments i c.in-Some.segment turn.0 turn.1)

@@ -8,7 +8,8 @@ use Rattle.segment_merge.proofs.tests.see_row.Goals as goal
 pub loop-segment-preserved : goal.loop-segment-preserved
 loop-segment-preserved g c =
     let below : c.loop-segment.segment-index < length c.args.segments.now = search rules in
-    all_more IsNumberedSegment c.args.segments.now c.loop-segment.segment-index c.segment-item.result below c.segment-item.is c.loop-segment.invariant (search rules)
+    all_more IsNumberedSegment c.args.segments.now c.loop-segment.segment-index c.segment-item.result below c.segment-item.is
+    c.loop-segment.invariant (search rules)
 
 pub returns : goal.returns
 returns g c = record {

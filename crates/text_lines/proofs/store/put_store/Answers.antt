@@ -15,6 +15,11 @@ returns c =
     let answers = λ (key : List ℕ). c.in_ok-holding.ensures key ∙ changed_answer key batches in
     let store : IsStoreOf batches (map shown entries) = record {
       ascends = ascends entries c.put_holding.ensures.ordered;
-      same = λ key value. subst (λ (o : Option (List ℕ)). Contains (map shown entries) (record { key = key; value = value }) ↔ (o ≡ Some value)) (answers key) (same entries c.put_holding.ensures.ordered key value);
+      same = λ key value. subst (λ (o : Option (List ℕ)). Contains (map shown entries) (record { key = key; value = value }) ↔
+          (o ≡ Some value)) (answers key) (same entries c.put_holding.ensures.ordered key value);
     } in
-    on_ok_weaker c.put_holding.result (λ is. (flat_map held_line (map shown entries), record { store = map shown entries; is = store; text_is = refl }, is)) c.put_holding.ensures.lines
+    on_ok_weaker c.put_holding.result (λ is. (
+      flat_map held_line (map shown entries),
+      record { store = map shown entries; is = store; text_is = refl },
+      is,
+    )) c.put_holding.ensures.lines

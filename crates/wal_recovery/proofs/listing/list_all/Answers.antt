@@ -21,7 +21,8 @@ returns-clause-ascends g c =
     let ones = c.as_slice.result.now in
     let others = c.as_slice-2.result.now in
     ok_map (λ (row : List Found). Weaves row ones others [] []) Ascends c.in_order.result
-    (λ row w. row_ascends row ones others [] [] w (subst IsAscending (sym c.as_slice.ensures) c.in_ok-primary.ensures.ascending) (subst IsAscending (sym c.as_slice-2.ensures) c.in_ok-secondary.ensures.ascending))
+    (λ row w. row_ascends row ones others [] [] w (subst IsAscending (sym c.as_slice.ensures) c.in_ok-primary.ensures.ascending)
+    (subst IsAscending (sym c.as_slice-2.ensures) c.in_ok-secondary.ensures.ascending))
     c.in_order.ensures.woven
 
 pub returns-clause-numbers : goal.returns-clause-numbers
@@ -30,8 +31,10 @@ returns-clause-numbers g c =
     let others = c.as_slice-2.result.now in
     ok_map (λ (row : List Found). Weaves row ones others [] []) (All (λ (f : Found). IsSegmentName f.name)) c.in_order.result
     (λ row w. row_named row ones others w
-    (subst IsAscending (sym c.as_slice.ensures) c.in_ok-primary.ensures.ascending) (subst IsAscending (sym c.as_slice-2.ensures) c.in_ok-secondary.ensures.ascending)
-    (subst AreSegmentNames (sym c.as_slice.ensures) c.in_ok-primary.ensures.numbers) (subst AreSegmentNames (sym c.as_slice-2.ensures) c.in_ok-secondary.ensures.numbers))
+    (subst IsAscending (sym c.as_slice.ensures) c.in_ok-primary.ensures.ascending)
+    (subst IsAscending (sym c.as_slice-2.ensures) c.in_ok-secondary.ensures.ascending)
+    (subst AreSegmentNames (sym c.as_slice.ensures) c.in_ok-primary.ensures.numbers)
+    (subst AreSegmentNames (sym c.as_slice-2.ensures) c.in_ok-secondary.ensures.numbers))
     c.in_order.ensures.woven
 
 pub returns-clause-listed : goal.returns-clause-listed
@@ -39,12 +42,16 @@ returns-clause-listed g c =
     let ones = c.as_slice.result.now in
     let others = c.as_slice-2.result.now in
     let now : Files = files (g.D.Disk.view c.args.disk.now) in
-    let same : files (g.D.Disk.view c.names_on.new.disk) ≡ now = same_files (g.D.Disk.view c.args.disk.now) (g.D.Disk.view c.names_on.new.disk) c.names_on.ensures.same in
+    let same : files (g.D.Disk.view c.names_on.new.disk) ≡ now = same_files (g.D.Disk.view c.args.disk.now)
+    (g.D.Disk.view c.names_on.new.disk) c.names_on.ensures.same in
     ok_map (λ (row : List Found). Weaves row ones others [] []) (λ (row : List Found). IsTrue g.D.Disk.tells → IsRowOf now row) c.in_order.result
     (λ row w told. row_of now ones others
-    (subst IsAscending (sym c.as_slice.ensures) c.in_ok-primary.ensures.ascending) (subst IsAscending (sym c.as_slice-2.ensures) c.in_ok-secondary.ensures.ascending)
+    (subst IsAscending (sym c.as_slice.ensures) c.in_ok-primary.ensures.ascending)
+    (subst IsAscending (sym c.as_slice-2.ensures) c.in_ok-secondary.ensures.ascending)
     (both_listed now ones others (subst (λ (names : List Listed). IsListing now Primary names) (sym c.as_slice.ensures) (c.in_ok-primary.ensures.names told))
-    (subst (λ (fs : Files). IsListing fs Secondary others) same (subst (λ (names : List Listed). IsListing (files (g.D.Disk.view c.names_on.new.disk)) Secondary names) (sym c.as_slice-2.ensures) (c.in_ok-secondary.ensures.names told))))
+    (subst (λ (fs : Files). IsListing fs Secondary others) same
+    (subst (λ (names : List Listed). IsListing (files (g.D.Disk.view c.names_on.new.disk)) Secondary names) (sym c.as_slice-2.ensures)
+    (c.in_ok-secondary.ensures.names told))))
     row w)
     c.in_order.ensures.woven
 
@@ -53,25 +60,32 @@ returns-clause-refused g c =
     let ones = c.as_slice.result.now in
     let others = c.as_slice-2.result.now in
     let now : Files = files (g.D.Disk.view c.args.disk.now) in
-    let same : files (g.D.Disk.view c.names_on.new.disk) ≡ now = same_files (g.D.Disk.view c.args.disk.now) (g.D.Disk.view c.names_on.new.disk) c.names_on.ensures.same in
+    let same : files (g.D.Disk.view c.names_on.new.disk) ≡ now = same_files (g.D.Disk.view c.args.disk.now)
+    (g.D.Disk.view c.names_on.new.disk) c.names_on.ensures.same in
     err_map (MeetsOrMemory ones others) (λ fault. IsTrue g.D.Disk.tells → DiskMemoryOr (RefusesTwice (dirs_as_read now)) fault) c.in_order.result
     (λ fault met told. met_refused now ones others
-    (subst IsAscending (sym c.as_slice.ensures) c.in_ok-primary.ensures.ascending) (subst IsAscending (sym c.as_slice-2.ensures) c.in_ok-secondary.ensures.ascending)
+    (subst IsAscending (sym c.as_slice.ensures) c.in_ok-primary.ensures.ascending)
+    (subst IsAscending (sym c.as_slice-2.ensures) c.in_ok-secondary.ensures.ascending)
     (both_listed now ones others (subst (λ (names : List Listed). IsListing now Primary names) (sym c.as_slice.ensures) (c.in_ok-primary.ensures.names told))
-    (subst (λ (fs : Files). IsListing fs Secondary others) same (subst (λ (names : List Listed). IsListing (files (g.D.Disk.view c.names_on.new.disk)) Secondary names) (sym c.as_slice-2.ensures) (c.in_ok-secondary.ensures.names told))))
+    (subst (λ (fs : Files). IsListing fs Secondary others) same
+    (subst (λ (names : List Listed). IsListing (files (g.D.Disk.view c.names_on.new.disk)) Secondary names) (sym c.as_slice-2.ensures)
+    (c.in_ok-secondary.ensures.names told))))
     fault met)
     c.in_order.ensures.refused
 
 pub returns-in_err-primary-clause-asks : goal.returns-in_err-primary-clause-asks
-returns-in_err-primary-clause-asks g c = lists_one (names_given c.names_on.result) (g.D.Disk.view c.args.disk.now) (g.D.Disk.view c.names_on.new.disk) c.names_on.ensures.asks
+returns-in_err-primary-clause-asks g c = lists_one (names_given c.names_on.result) (g.D.Disk.view c.args.disk.now)
+    (g.D.Disk.view c.names_on.new.disk) c.names_on.ensures.asks
 
 pub returns-in_err-secondary-clause-asks : goal.returns-in_err-secondary-clause-asks
 returns-in_err-secondary-clause-asks g c =
-    lists_two (names_given c.names_on.result) (names_given c.names_on-2.result) (g.D.Disk.view c.args.disk.now) (g.D.Disk.view c.names_on.new.disk) (g.D.Disk.view c.names_on-2.new.disk) c.names_on.ensures.asks c.names_on-2.ensures.asks
+    lists_two (names_given c.names_on.result) (names_given c.names_on-2.result) (g.D.Disk.view c.args.disk.now)
+    (g.D.Disk.view c.names_on.new.disk) (g.D.Disk.view c.names_on-2.new.disk) c.names_on.ensures.asks c.names_on-2.ensures.asks
 
 pub returns-clause-asks : goal.returns-clause-asks
 returns-clause-asks g c =
-    lists_two (names_given c.names_on.result) (names_given c.names_on-2.result) (g.D.Disk.view c.args.disk.now) (g.D.Disk.view c.names_on.new.disk) (g.D.Disk.view c.names_on-2.new.disk) c.names_on.ensures.asks c.names_on-2.ensures.asks
+    lists_two (names_given c.names_on.result) (names_given c.names_on-2.result) (g.D.Disk.view c.args.disk.now)
+    (g.D.Disk.view c.names_on.new.disk) (g.D.Disk.view c.names_on-2.new.disk) c.names_on.ensures.asks c.names_on-2.ensures.asks
 
 pub returns-clause-lists : goal.returns-clause-lists
 returns-clause-lists g c =
@@ -80,6 +94,10 @@ returns-clause-lists g c =
     let new = g.D.Disk.view c.names_on-2.new.disk in
     let ones = c.as_slice.result.now in
     let others = c.as_slice-2.result.now in
-    let first : Makes (was_listed Primary ones ∷ []) old mid = subst (λ (names : List Listed). Makes (was_listed Primary names ∷ []) old mid) (sym c.as_slice.ensures) c.in_ok-primary.ensures.asks in
-    let then : Makes (was_listed Secondary others ∷ []) mid new = subst (λ (names : List Listed). Makes (was_listed Secondary names ∷ []) mid new) (sym c.as_slice-2.ensures) c.in_ok-secondary.ensures.asks in
-    ok_map (λ (row : List Found). Weaves row ones others [] []) (λ (row : List Found). ListsRow row old new) c.in_order.result (λ row w. lists_row row ones others old mid new first then w) c.in_order.ensures.woven
+    let first : Makes (was_listed Primary ones ∷ []) old mid = subst
+    (λ (names : List Listed). Makes (was_listed Primary names ∷ []) old mid) (sym c.as_slice.ensures) c.in_ok-primary.ensures.asks in
+    let then : Makes (was_listed Secondary others ∷ []) mid new = subst
+    (λ (names : List Listed). Makes (was_listed Secondary names ∷ []) mid new) (sym c.as_slice-2.ensures) c.in_ok-secondary.ensures.asks
+    in
+    ok_map (λ (row : List Found). Weaves row ones others [] []) (λ (row : List Found). ListsRow row old new) c.in_order.result
+    (λ row w. lists_row row ones others old mid new first then w) c.in_order.ensures.woven

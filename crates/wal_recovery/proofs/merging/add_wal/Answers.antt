@@ -17,21 +17,25 @@ returns-in_err-row-clause-refused g c = λ before m.
     let at = files (g.D.Disk.view c.args.disk.now) in
     let fault = c.in_err-row.field-0.0 in
     let is : c.from_residual.result ≡ Err fault = search rules in
-    subst (λ (r : Result (List Batch) RecoverFault). IfErr r (λ fault. IsTrue g.D.Disk.tells → AreAsListed at c.args.wal.now.segments.items → DiskMemoryOr (IsLenientlyRefusedWal before (wal_in at c.args.wal.now)) fault)) (sym is)
+    subst (λ (r : Result (List Batch) RecoverFault). IfErr r (λ fault. IsTrue g.D.Disk.tells → AreAsListed at c.args.wal.now.segments.items
+    → DiskMemoryOr (IsLenientlyRefusedWal before (wal_in at c.args.wal.now)) fault)) (sym is)
     (λ told listed. read_refused_behind g.D.Disk.tells at c.args.wal.now c.requires.own before fault (c.in_err-row.ensures.bad told listed))
 
 pub returns-in-Ok-clause-merged : goal.returns-in-Ok-clause-merged
 returns-in-Ok-clause-merged g c =
     let old = c.args.reports.now in
-    reports_more g.D.Disk.tells (files (g.D.Disk.view c.args.disk.now)) c.args.wal.now old c.read_wal.new.reports c.in_ok-row.row c.args.so_far c.in-Ok.more c.in_ok-row.ensures.gathered c.requires.so_far
+    reports_more g.D.Disk.tells (files (g.D.Disk.view c.args.disk.now)) c.args.wal.now old c.read_wal.new.reports c.in_ok-row.row
+    c.args.so_far c.in-Ok.more c.in_ok-row.ensures.gathered c.requires.so_far
     (c.in-Ok.ensures.found (as_row old) (reports_merged_of old c.args.so_far c.requires.so_far))
 
 pub returns-in-Ok-clause-reports : goal.returns-in-Ok-clause-reports
 returns-in-Ok-clause-reports g c =
-    wal_reports g.D.Disk.tells (files (g.D.Disk.view c.args.disk.now)) c.args.wal.now c.requires.own c.args.reports.now c.read_wal.new.reports c.in_ok-row.ensures.gathered.added
+    wal_reports g.D.Disk.tells (files (g.D.Disk.view c.args.disk.now)) c.args.wal.now c.requires.own c.args.reports.now
+    c.read_wal.new.reports c.in_ok-row.ensures.gathered.added
 
 pub returns-in-Err-clause-refused : goal.returns-in-Err-clause-refused
 returns-in-Err-clause-refused g c = λ before m told listed.
     let at = files (g.D.Disk.view c.args.disk.now) in
     subst (DiskMemoryOr (IsLenientlyRefusedWal before (wal_in at c.args.wal.now))) (sym c.refusal.ensures)
-    (row_refused_behind g.D.Disk.tells at c.args.wal.now c.requires.own before c.args.reports.now c.read_wal.new.reports c.in_ok-row.row c.in-Err.fault c.in_ok-row.ensures.gathered (c.in-Err.ensures.refused before m) told listed)
+    (row_refused_behind g.D.Disk.tells at c.args.wal.now c.requires.own before c.args.reports.now c.read_wal.new.reports c.in_ok-row.row
+    c.in-Err.fault c.in_ok-row.ensures.gathered (c.in-Err.ensures.refused before m) told listed)

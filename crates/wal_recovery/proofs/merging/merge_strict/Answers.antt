@@ -69,16 +69,22 @@ loop-wal-preserved g c =
       goes = goes_on_further first mid new c.loop-wal.invariant.goes c.in_ok-own.ensures.goes_on;
       same = same_further first mid new c.loop-wal.invariant.same c.in_ok-own.ensures.same;
       asks = reads_wal c.args.wals.now c.loop-wal.wal-index c.wal-item.result first mid new at c.loop-wal.invariant.asks c.in_ok-own.ensures.asks;
-      next = ends ∙ ap (λ (n : ℕ). end_after n own) c.loop-wal.invariant.next ∙ sym (end_append NUMBER_FIRST c.loop-wal.batches own) ∙ ap (end_after NUMBER_FIRST) (sym longer);
+      next = ends ∙ ap (λ (n : ℕ). end_after n own) c.loop-wal.invariant.next ∙ sym (end_append NUMBER_FIRST c.loop-wal.batches own)
+          ∙ ap (end_after NUMBER_FIRST) (sym longer);
       contiguous = subst (IsContiguous NUMBER_FIRST) (sym longer)
-          (contiguous_append NUMBER_FIRST c.loop-wal.batches own c.loop-wal.invariant.contiguous (subst (λ (n : ℕ). IsContiguous n own) c.loop-wal.invariant.next c.in_ok-own.ensures.contiguous));
+          (contiguous_append NUMBER_FIRST c.loop-wal.batches own c.loop-wal.invariant.contiguous
+          (subst (λ (n : ℕ). IsContiguous n own) c.loop-wal.invariant.next c.in_ok-own.ensures.contiguous));
       within = let low = end_within c.loop-wal.next own c.loop-wal.invariant.within c.in_ok-own.ensures.numbered in omega (arith, low, ends);
-      merged = λ told listed. merged_at (files first) c.args.wals.now c.loop-wal.wal-index c.wal-item.result at NUMBER_FIRST c.loop-wal.next c.loop-wal.batches own c.append.new.batches c.loop-wal.invariant.next longer
+      merged = λ told listed. merged_at (files first) c.args.wals.now c.loop-wal.wal-index c.wal-item.result at NUMBER_FIRST c.loop-wal.next
+          c.loop-wal.batches own c.append.new.batches c.loop-wal.invariant.next longer
           (c.loop-wal.invariant.merged told listed)
-          (subst (λ (fs : Files). AreAsListed fs c.wal-item.result.segments.items → WalMerges c.loop-wal.next (wal_in fs c.wal-item.result) own) now (c.in_ok-own.ensures.merged told)) listed;
+          (subst (λ (fs : Files). AreAsListed fs c.wal-item.result.segments.items
+          → WalMerges c.loop-wal.next (wal_in fs c.wal-item.result) own) now (c.in_ok-own.ensures.merged told)) listed;
       reports = λ told listed. reports_at (files first) c.args.wals.now c.loop-wal.wal-index c.wal-item.result at c.loop-wal.reports c.merge_wal.new.reports
           (c.loop-wal.invariant.reports told listed)
-          (subst (λ (fs : Files). AreAsListed fs c.wal-item.result.segments.items → AddsReports (wal_in fs c.wal-item.result) c.loop-wal.reports c.merge_wal.new.reports) now (c.in_ok-own.ensures.reports told)) listed;
+          (subst (λ (fs : Files). AreAsListed fs c.wal-item.result.segments.items
+          → AddsReports (wal_in fs c.wal-item.result) c.loop-wal.reports c.merge_wal.new.reports) now
+          (c.in_ok-own.ensures.reports told)) listed;
     }
 
 pub returns-in_err-own-clause-refused : goal.returns-in_err-own-clause-refused
@@ -89,25 +95,34 @@ returns-in_err-own-clause-refused g c =
     let at : StandsAt c.args.wals.now c.loop-wal.wal-index c.wal-item.result = stands_at c.as_slice-wal-items.ensures c.loop-wal-test.true c.wal-item.is in
     let fault = c.in_err-own.field-0.0 in
     let is : c.from_residual.result ≡ Err fault = search rules in
-    subst (λ (r : Result Merged RecoverFault). IfErr r (λ fault. IsTrue g.D.Disk.tells → AreListedWals (files first) c.args.wals.now → DiskMemoryOr (IsRefused (dirs_as_read (files first))) fault)) (sym is)
-    (λ told listed. refused_at (files first) c.args.wals.now c.loop-wal.wal-index c.wal-item.result at c.loop-wal.next c.loop-wal.batches fault c.loop-wal.invariant.next (c.loop-wal.invariant.merged told listed)
-    (subst (λ (fs : Files). AreAsListed fs c.wal-item.result.segments.items → DiskMemoryOr (IsRefusedWal c.loop-wal.next (wal_in fs c.wal-item.result)) fault) now (c.in_err-own.ensures.refused told)) listed)
+    subst (λ (r : Result Merged RecoverFault). IfErr r (λ fault. IsTrue g.D.Disk.tells → AreListedWals (files first) c.args.wals.now
+    → DiskMemoryOr (IsRefused (dirs_as_read (files first))) fault)) (sym is)
+    (λ told listed. refused_at (files first) c.args.wals.now c.loop-wal.wal-index c.wal-item.result at c.loop-wal.next c.loop-wal.batches
+    fault c.loop-wal.invariant.next (c.loop-wal.invariant.merged told listed)
+    (subst (λ (fs : Files). AreAsListed fs c.wal-item.result.segments.items
+    → DiskMemoryOr (IsRefusedWal c.loop-wal.next (wal_in fs c.wal-item.result)) fault) now (c.in_err-own.ensures.refused told)) listed)
 
 pub returns-in_err-own-clause-asks : goal.returns-in_err-own-clause-asks
 returns-in_err-own-clause-asks g c =
     let first = g.D.Disk.view c.args.disk.now in
     let mid = g.D.Disk.view c.loop-wal.disk in
     let at : StandsAt c.args.wals.now c.loop-wal.wal-index c.wal-item.result = stands_at c.as_slice-wal-items.ensures c.loop-wal-test.true c.wal-item.is in
-    reads_wal_within c.args.wals.now c.loop-wal.wal-index c.wal-item.result first mid (g.D.Disk.view c.merge_wal.new.disk) at c.loop-wal.invariant.asks c.in_err-own.ensures.asks
+    reads_wal_within c.args.wals.now c.loop-wal.wal-index c.wal-item.result first mid (g.D.Disk.view c.merge_wal.new.disk) at
+    c.loop-wal.invariant.asks c.in_err-own.ensures.asks
 
 pub returns-in_err-append-clause-asks : goal.returns-in_err-append-clause-asks
 returns-in_err-append-clause-asks g c =
     let first = g.D.Disk.view c.args.disk.now in
     let mid = g.D.Disk.view c.loop-wal.disk in
     let at : StandsAt c.args.wals.now c.loop-wal.wal-index c.wal-item.result = stands_at c.as_slice-wal-items.ensures c.loop-wal-test.true c.wal-item.is in
-    reads_wal_within c.args.wals.now c.loop-wal.wal-index c.wal-item.result first mid (g.D.Disk.view c.merge_wal.new.disk) at c.loop-wal.invariant.asks c.in_ok-own.ensures.asks
+    reads_wal_within c.args.wals.now c.loop-wal.wal-index c.wal-item.result first mid (g.D.Disk.view c.merge_wal.new.disk) at
+    c.loop-wal.invariant.asks c.in_ok-own.ensures.asks
 
 pub returns-clause-asks : goal.returns-clause-asks
 returns-clause-asks g c =
     subst (λ (l : List FoundWal). ReadsOnly (found_in l) (g.D.Disk.view c.args.disk.now) (g.D.Disk.view c.loop-wal.disk))
-    (take_all c.loop-wal.wal-index c.args.wals.now (omega (arith, c.loop-wal-test.false, ap (λ (l : List FoundWal). length l) c.as_slice-wal-items.ensures))) c.loop-wal.invariant.asks
+    (take_all c.loop-wal.wal-index c.args.wals.now (omega (
+      arith,
+      c.loop-wal-test.false,
+      ap (λ (l : List FoundWal). length l) c.as_slice-wal-items.ensures,
+    ))) c.loop-wal.invariant.asks

@@ -28,8 +28,10 @@ returns-in_err-merged-clause-refused g c =
     let now : Files = files (g.D.Disk.view c.args.disk.now) in
     let fault = c.in_err-merged.field-0.0 in
     let is : c.from_residual-in_err-merged.result ≡ Err fault = search rules in
-    subst (λ (r : Result Recovered RecoverFault). IfErr r (λ fault. IsTrue g.D.Disk.tells → DiskMemoryOr (IsRefusedBy Lenient (dirs_as_read now)) fault)) (sym is)
-    (λ told. c.in_err-merged.ensures.refused told (wals_listed now c.in_ok-wals.wals c.args.segments.now c.in_ok-wals.ensures c.requires.ascends (c.requires.listed told)))
+    subst (λ (r : Result Recovered RecoverFault). IfErr r (λ fault. IsTrue g.D.Disk.tells
+    → DiskMemoryOr (IsRefusedBy Lenient (dirs_as_read now)) fault)) (sym is)
+    (λ told. c.in_err-merged.ensures.refused told (wals_listed now c.in_ok-wals.wals c.args.segments.now c.in_ok-wals.ensures
+    c.requires.ascends (c.requires.listed told)))
 
 pub returns-clause-recovered : goal.returns-clause-recovered
 returns-clause-recovered g c = λ told.
@@ -39,13 +41,16 @@ returns-clause-recovered g c = λ told.
 pub returns-clause-reports : goal.returns-clause-reports
 returns-clause-reports g c = λ told.
     let now : Files = files (g.D.Disk.view c.args.disk.now) in
-    let listed : AreListedWals now c.in_ok-wals.wals = wals_listed now c.in_ok-wals.wals c.args.segments.now c.in_ok-wals.ensures c.requires.ascends (c.requires.listed told) in
+    let listed : AreListedWals now c.in_ok-wals.wals = wals_listed now c.in_ok-wals.wals c.args.segments.now c.in_ok-wals.ensures
+    c.requires.ascends (c.requires.listed told) in
     record { wals = wals_in now c.in_ok-wals.wals; listed = listed.listed; reported = c.in_ok-merged.ensures.reports told listed }
 
 pub returns-in_err-merged-clause-asks : goal.returns-in_err-merged-clause-asks
 returns-in_err-merged-clause-asks g c =
-    subst (λ (r : List Found). ReadsOnly r (g.D.Disk.view c.args.disk.now) (g.D.Disk.view c.merge_all.new.disk)) (found_of c.in_ok-wals.wals c.args.segments.now c.in_ok-wals.ensures) c.in_err-merged.ensures.asks
+    subst (λ (r : List Found). ReadsOnly r (g.D.Disk.view c.args.disk.now) (g.D.Disk.view c.merge_all.new.disk))
+    (found_of c.in_ok-wals.wals c.args.segments.now c.in_ok-wals.ensures) c.in_err-merged.ensures.asks
 
 pub returns-clause-asks : goal.returns-clause-asks
 returns-clause-asks g c =
-    subst (λ (r : List Found). ReadsOnly r (g.D.Disk.view c.args.disk.now) (g.D.Disk.view c.merge_all.new.disk)) (found_of c.in_ok-wals.wals c.args.segments.now c.in_ok-wals.ensures) c.in_ok-merged.ensures.asks
+    subst (λ (r : List Found). ReadsOnly r (g.D.Disk.view c.args.disk.now) (g.D.Disk.view c.merge_all.new.disk))
+    (found_of c.in_ok-wals.wals c.args.segments.now c.in_ok-wals.ensures) c.in_ok-merged.ensures.asks

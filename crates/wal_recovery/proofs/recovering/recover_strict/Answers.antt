@@ -32,54 +32,66 @@ returns-in_err-merged-clause-refused g c =
     let now : Files = files (g.D.Disk.view c.args.disk.now) in
     let fault = c.in_err-merged.field-0.0 in
     let is : c.from_residual-in_err-merged.result ≡ Err fault = search rules in
-    subst (λ (r : Result Recovered RecoverFault). IfErr r (λ fault. IsTrue g.D.Disk.tells → DiskMemoryOr (IsRefusedBy Strict (dirs_as_read now)) fault)) (sym is)
-    (λ told. c.in_err-merged.ensures.refused told (wals_listed now c.in_ok-wals.wals c.args.segments.now c.in_ok-wals.ensures c.requires.ascends (c.requires.listed told)))
+    subst (λ (r : Result Recovered RecoverFault). IfErr r (λ fault. IsTrue g.D.Disk.tells
+    → DiskMemoryOr (IsRefusedBy Strict (dirs_as_read now)) fault)) (sym is)
+    (λ told. c.in_err-merged.ensures.refused told (wals_listed now c.in_ok-wals.wals c.args.segments.now c.in_ok-wals.ensures
+    c.requires.ascends (c.requires.listed told)))
 
 pub sync_all-requires-clause-there : goal.sync_all-requires-clause-there
 sync_all-requires-clause-there g c = λ told.
     let now = g.D.Disk.view c.args.disk.now in
     let same : files (g.D.Disk.view c.merge_strict.new.disk) ≡ files now = same_files now (g.D.Disk.view c.merge_strict.new.disk) c.in_ok-merged.ensures.same in
-    subst (λ (fs : Files). All (λ (f : Found). MayStart syncing (fs (place_listed f))) c.args.segments.now) (sym same) (may_sync (files now) c.args.segments.now (c.requires.listed told))
+    subst (λ (fs : Files). All (λ (f : Found). MayStart syncing (fs (place_listed f))) c.args.segments.now) (sym same)
+    (may_sync (files now) c.args.segments.now (c.requires.listed told))
 
 pub returns-in_err-sync_all-clause-each_moment : goal.returns-in_err-sync_all-clause-each_moment
 returns-in_err-sync_all-clause-each_moment g c = λ told.
-    same_then (g.D.Disk.view c.args.disk.now) (g.D.Disk.view c.merge_strict.new.disk) (g.D.Disk.view c.sync_all.new.disk) OnlySynced c.in_ok-merged.ensures.same (c.in_err-sync_all.ensures.each_moment told)
+    same_then (g.D.Disk.view c.args.disk.now) (g.D.Disk.view c.merge_strict.new.disk) (g.D.Disk.view c.sync_all.new.disk) OnlySynced
+    c.in_ok-merged.ensures.same (c.in_err-sync_all.ensures.each_moment told)
 
 pub returns-clause-recovered : goal.returns-clause-recovered
 returns-clause-recovered g c = λ told.
     let now : Files = files (g.D.Disk.view c.args.disk.now) in
-    let listed : AreListedWals now c.in_ok-wals.wals = wals_listed now c.in_ok-wals.wals c.args.segments.now c.in_ok-wals.ensures c.requires.ascends (c.requires.listed told) in
+    let listed : AreListedWals now c.in_ok-wals.wals = wals_listed now c.in_ok-wals.wals c.args.segments.now c.in_ok-wals.ensures
+    c.requires.ascends (c.requires.listed told) in
     record { wals = wals_in now c.in_ok-wals.wals; listed = listed.listed; merges = c.in_ok-merged.ensures.merged told listed }
 
 pub returns-clause-reports : goal.returns-clause-reports
 returns-clause-reports g c = λ told.
     let now : Files = files (g.D.Disk.view c.args.disk.now) in
-    let listed : AreListedWals now c.in_ok-wals.wals = wals_listed now c.in_ok-wals.wals c.args.segments.now c.in_ok-wals.ensures c.requires.ascends (c.requires.listed told) in
+    let listed : AreListedWals now c.in_ok-wals.wals = wals_listed now c.in_ok-wals.wals c.args.segments.now c.in_ok-wals.ensures
+    c.requires.ascends (c.requires.listed told) in
     record { wals = wals_in now c.in_ok-wals.wals; listed = listed.listed; reported = c.in_ok-merged.ensures.reports told listed }
 
 pub returns-clause-each_moment : goal.returns-clause-each_moment
 returns-clause-each_moment g c = λ told.
-    same_then (g.D.Disk.view c.args.disk.now) (g.D.Disk.view c.merge_strict.new.disk) (g.D.Disk.view c.sync_all.new.disk) OnlySynced c.in_ok-merged.ensures.same (c.in_ok-sync_all.ensures.each_moment told)
+    same_then (g.D.Disk.view c.args.disk.now) (g.D.Disk.view c.merge_strict.new.disk) (g.D.Disk.view c.sync_all.new.disk) OnlySynced
+    c.in_ok-merged.ensures.same (c.in_ok-sync_all.ensures.each_moment told)
 
 pub returns-clause-stable : goal.returns-clause-stable
 returns-clause-stable g c = λ told rested.
     let now = g.D.Disk.view c.args.disk.now in
     let new = g.D.Disk.view c.sync_all.new.disk in
     let mid = g.D.Disk.view c.merge_strict.new.disk in
-    let each : AtEachMoment now.clock new (OnlySynced (files now)) = same_then now mid new OnlySynced c.in_ok-merged.ensures.same (c.in_ok-sync_all.ensures.each_moment told) in
+    let each : AtEachMoment now.clock new (OnlySynced (files now)) = same_then now mid new OnlySynced c.in_ok-merged.ensures.same
+    (c.in_ok-sync_all.ensures.each_moment told) in
     all_stable (files now) (files new) c.args.segments.now (c.requires.listed told) rested
-    (each new.clock (omega (arith, c.in_ok-merged.ensures.goes_on.clock, c.in_ok-sync_all.ensures.goes_on.clock)) (omega arith)) (c.in_ok-sync_all.ensures.synced told)
+    (each new.clock (omega (arith, c.in_ok-merged.ensures.goes_on.clock, c.in_ok-sync_all.ensures.goes_on.clock)) (omega arith))
+    (c.in_ok-sync_all.ensures.synced told)
 
 pub returns-in_err-merged-clause-asks : goal.returns-in_err-merged-clause-asks
 returns-in_err-merged-clause-asks g c =
-    subst (λ (r : List Found). ReadsOnly r (g.D.Disk.view c.args.disk.now) (g.D.Disk.view c.merge_strict.new.disk)) (found_of c.in_ok-wals.wals c.args.segments.now c.in_ok-wals.ensures) c.in_err-merged.ensures.asks
+    subst (λ (r : List Found). ReadsOnly r (g.D.Disk.view c.args.disk.now) (g.D.Disk.view c.merge_strict.new.disk))
+    (found_of c.in_ok-wals.wals c.args.segments.now c.in_ok-wals.ensures) c.in_err-merged.ensures.asks
 
 pub returns-in_err-sync_all-clause-asks : goal.returns-in_err-sync_all-clause-asks
 returns-in_err-sync_all-clause-asks g c =
     reads_then_nothing c.args.segments.now (g.D.Disk.view c.args.disk.now) (g.D.Disk.view c.merge_strict.new.disk) (g.D.Disk.view c.sync_all.new.disk)
-    (subst (λ (r : List Found). ReadsOnly r (g.D.Disk.view c.args.disk.now) (g.D.Disk.view c.merge_strict.new.disk)) (found_of c.in_ok-wals.wals c.args.segments.now c.in_ok-wals.ensures) c.in_ok-merged.ensures.asks) c.in_err-sync_all.ensures.asks
+    (subst (λ (r : List Found). ReadsOnly r (g.D.Disk.view c.args.disk.now) (g.D.Disk.view c.merge_strict.new.disk))
+    (found_of c.in_ok-wals.wals c.args.segments.now c.in_ok-wals.ensures) c.in_ok-merged.ensures.asks) c.in_err-sync_all.ensures.asks
 
 pub returns-clause-asks : goal.returns-clause-asks
 returns-clause-asks g c =
     reads_then_nothing c.args.segments.now (g.D.Disk.view c.args.disk.now) (g.D.Disk.view c.merge_strict.new.disk) (g.D.Disk.view c.sync_all.new.disk)
-    (subst (λ (r : List Found). ReadsOnly r (g.D.Disk.view c.args.disk.now) (g.D.Disk.view c.merge_strict.new.disk)) (found_of c.in_ok-wals.wals c.args.segments.now c.in_ok-wals.ensures) c.in_ok-merged.ensures.asks) c.in_ok-sync_all.ensures.asks
+    (subst (λ (r : List Found). ReadsOnly r (g.D.Disk.view c.args.disk.now) (g.D.Disk.view c.merge_strict.new.disk))
+    (found_of c.in_ok-wals.wals c.args.segments.now c.in_ok-wals.ensures) c.in_ok-merged.ensures.asks) c.in_ok-sync_all.ensures.asks

@@ -17,7 +17,8 @@ loop-segment-preserved g c =
       goes = goes_on_further first mid new c.loop-segment.invariant.goes c.in_ok-sync.ensures.goes_on;
       asks = reads_nothing first mid new c.loop-segment.invariant.asks c.in_ok-sync.ensures.asks;
       idle = c.in_ok-sync.ensures.idle;
-      moments = λ told. moments_of_both first mid new c.loop-segment.invariant.goes c.in_ok-sync.ensures.goes_on (c.loop-segment.invariant.moments told) (c.in_ok-sync.ensures.each_moment told);
+      moments = λ told. moments_of_both first mid new c.loop-segment.invariant.goes c.in_ok-sync.ensures.goes_on
+          (c.loop-segment.invariant.moments told) (c.in_ok-sync.ensures.each_moment told);
       synced = λ told.
           synced_more (files mid) (files new) c.args.segments.now c.loop-segment.segment-index _ c.loop-segment-test.true (c.loop-segment.invariant.synced told)
           (c.in_ok-sync.ensures.each_moment told new.clock c.in_ok-sync.ensures.goes_on.clock (omega arith)) (c.in_ok-sync.ensures.synced told);
@@ -30,4 +31,5 @@ returns-clause-synced g c = λ told.
 
 pub returns-in_err-sync-clause-asks : goal.returns-in_err-sync-clause-asks
 returns-in_err-sync-clause-asks g c =
-    reads_nothing (g.D.Disk.view c.args.disk.now) (g.D.Disk.view c.loop-segment.disk) (g.D.Disk.view c.sync.new.disk) c.loop-segment.invariant.asks c.in_err-sync.ensures.asks
+    reads_nothing (g.D.Disk.view c.args.disk.now) (g.D.Disk.view c.loop-segment.disk)
+    (g.D.Disk.view c.sync.new.disk) c.loop-segment.invariant.asks c.in_err-sync.ensures.asks

@@ -12,6 +12,7 @@ invariant-loop-segment g l = record {
   goes : GoesOn (g.D.Disk.view l.initial.disk) (g.D.Disk.view l.disk);
   asks : ReadsOnly [] (g.D.Disk.view l.initial.disk) (g.D.Disk.view l.disk);
   idle : NothingInFlight (g.D.Disk.view l.disk);
-  moments : IsTrue g.D.Disk.tells → AtEachMoment ((g.D.Disk.view l.initial.disk).clock) (g.D.Disk.view l.disk) (OnlySynced (files (g.D.Disk.view l.initial.disk)));
+  moments : IsTrue g.D.Disk.tells → AtEachMoment ((g.D.Disk.view l.initial.disk).clock) (g.D.Disk.view l.disk)
+      (OnlySynced (files (g.D.Disk.view l.initial.disk)));
   synced : IsTrue g.D.Disk.tells → All (λ (f : Found). IsSynced (files (g.D.Disk.view l.disk) (place_listed f))) (take l.segment-index l.segments);
 }

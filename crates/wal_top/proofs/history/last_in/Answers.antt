@@ -8,9 +8,12 @@ use Rattle.wal_top.proofs.history.last_in.Goals as goal
 
 pub returns-in-Some : goal.returns-in-Some
 returns-in-Some c =
-    let hit : last_or None (filter (is_about c.args.key.now) (get_or c.args.batches.now (c.loop-end.end - 1) c.index-batches-end.result).entries) ≡ Some c.in-Some.entry.now =
+    let hit : last_or None (filter (is_about c.args.key.now) (get_or c.args.batches.now
+    (c.loop-end.end - 1) c.index-batches-end.result).entries) ≡ Some c.in-Some.entry.now =
     ap (λ (t : List Entry). last_or None (filter (is_about c.args.key.now) t)) (sym c.as_slice.ensures) ∙ sym c.in-Some.ensures in
-    sym (found_in_part_before (is_about c.args.key.now) (λ (b : Batch). b.entries) c.args.batches.now c.loop-end.end c.index-batches-end.result c.in-Some.entry.now c.loop-end-test.true c.loop-end.invariant.within hit c.loop-end.invariant.none_behind)
+    sym (found_in_part_before (is_about c.args.key.now) (λ (b : Batch). b.entries) c.args.batches.now c.loop-end.end
+    c.index-batches-end.result c.in-Some.entry.now c.loop-end-test.true c.loop-end.invariant.within hit
+    c.loop-end.invariant.none_behind)
 
 pub loop-end-preserved : goal.loop-end-preserved
 loop-end-preserved c =
@@ -18,5 +21,6 @@ loop-end-preserved c =
     ap (λ (t : List Entry). last_or None (filter (is_about c.args.key.now) t)) (sym c.as_slice.ensures) ∙ sym c.in_default.ensures in
     record {
       within = omega arith;
-      none_behind = none_from_part_before (is_about c.args.key.now) (λ (b : Batch). b.entries) c.args.batches.now c.loop-end.end c.index-batches-end.result c.loop-end-test.true c.loop-end.invariant.within miss c.loop-end.invariant.none_behind;
+      none_behind = none_from_part_before (is_about c.args.key.now) (λ (b : Batch). b.entries) c.args.batches.now c.loop-end.end
+          c.index-batches-end.result c.loop-end-test.true c.loop-end.invariant.within miss c.loop-end.invariant.none_behind;
     }

@@ -14,5 +14,16 @@ returns-in-Err-BadLine-clause-says g c =
     let line = c.in-Err-BadLine.line in
     let is_bad = c.in-Err-BadLine.ensures.bad line (ap (λ x. Err x) c.in-Err-BadLine.field-0-is) in
     ok_map c.bad_line_said.result c.bad_line_said.ensures (λ said p words' left' faults is reads.
-    let call : Invocation = record { words = words'; left = left'; source_faults = faults; tells = g.D.Disk.tells; disk = change_in g.D.Disk.view c.args.disk c.args.disk } in
-    as_told (HasToSay call) said.status _ said.text _ (is, bad_line line (record { script = c.args.script.now; whole = reads; within = c.requires.within; bad = is_bad }), refl) p.0 p.1)
+    let call : Invocation = record {
+      words = words';
+      left = left';
+      source_faults = faults;
+      tells = g.D.Disk.tells;
+      disk = change_in g.D.Disk.view c.args.disk c.args.disk;
+    } in
+    as_told (HasToSay call) said.status _ said.text _ (
+      is,
+      bad_line line
+          (record { script = c.args.script.now; whole = reads; within = c.requires.within; bad = is_bad }),
+      refl,
+    ) p.0 p.1)

@@ -4,7 +4,12 @@ use Rattle.batch_repr.proofs.Written.{header_stands, first_stands}
 use Rattle.batch_repr.proofs.numbered.Numbered.first.Goals as goal
 
 pub unreachable-requires : goal.unreachable-requires
-unreachable-requires c = omega (arith, c.in_default.ensures.cases, ap length c.deref.ensures.value, header_stands c.self.inside.bytes.items c.self.inside.batch.value c.self.inside.count c.self.invariant)
+unreachable-requires c = omega (
+  arith,
+  c.in_default.ensures.cases,
+  ap length c.deref.ensures.value,
+  header_stands c.self.inside.bytes.items c.self.inside.batch.value c.self.inside.count c.self.invariant,
+)
 
 pub returns : goal.returns
 returns c =

@@ -9,9 +9,12 @@ use Rattle.batch_repr.proofs.unnumbered.Unnumbered.number_keeping_entries.Goals 
 
 pub invariant_of-numbered : goal.invariant_of-numbered
 invariant_of-numbered c =
-    let whole : take c.self.inside.bytes.len (c.put_header.new.bytes ++ drop (length c.put_header.new.bytes) c.self.inside.bytes.items) ≡ c.put_header.new.bytes =
+    let whole : take c.self.inside.bytes.len (c.put_header.new.bytes ++ drop (length c.put_header.new.bytes) c.self.inside.bytes.items) ≡
+    c.put_header.new.bytes =
     take_at c.put_header.new.bytes (drop (length c.put_header.new.bytes) c.self.inside.bytes.items) c.self.inside.bytes.len
     (omega (arith, c.put_header.auto.bytes, c.deref_mut.ensures.len)) in
-    let within : c.args.first + count_of c.self.inside.entries ≤ NUMBER_MAX = subst (λ (es : List Entry). c.args.first + count_of es ≤ NUMBER_MAX) (sym c.self.view_is) c.requires in
-    rw (whole, c.of.ensures) (draft_written c.self.inside.bytes.items c.put_header.new.bytes c.self.inside.entries c.args.first c.self.inside.count c.self.invariant.is_draft c.self.invariant.count_is c.self.invariant.some within
+    let within : c.args.first + count_of c.self.inside.entries ≤ NUMBER_MAX = subst
+    (λ (es : List Entry). c.args.first + count_of es ≤ NUMBER_MAX) (sym c.self.view_is) c.requires in
+    rw (whole, c.of.ensures) (draft_written c.self.inside.bytes.items c.put_header.new.bytes c.self.inside.entries c.args.first
+    c.self.inside.count c.self.invariant.is_draft c.self.invariant.count_is c.self.invariant.some within
     (c.put_header.ensures ∙ ap (λ t. to_le_bytes w64 c.args.first ++ to_le_bytes w32 c.self.inside.count ++ drop 12 t) c.deref_mut.ensures.value))

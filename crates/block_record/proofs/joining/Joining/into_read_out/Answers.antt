@@ -13,7 +13,8 @@ returns-clause-records c =
     let whole = s.whole.items in
     let cut : bytes ≡ take limit s.bytes.items = c.shrink_to_fit.ensures.items ∙ c.truncate.ensures.items in
     let kept : take limit bytes ≡ take limit s.bytes.items = ap (take limit) cut ∙ take-take limit limit s.bytes.items (omega arith) in
-    let same : map (rec_in bytes) whole ≡ map (rec_in s.bytes.items) whole = kept_records s.bytes.items bytes limit whole kept (all_end 0 limit whole c.self.invariant.before) in
+    let same : map (rec_in bytes) whole ≡ map (rec_in s.bytes.items) whole = kept_records s.bytes.items bytes limit whole kept
+    (all_end 0 limit whole c.self.invariant.before) in
     c.in_ok-add_shared.ensures
     ∙ ap (λ (rs : List Rec). rs ++ map (rec_in bytes) c.deref.result.now) c.in_ok-records.ensures
     ∙ ap (map (rec_in bytes)) c.deref.ensures.value

@@ -15,7 +15,8 @@ pub loop-init : goal.loop-init
 loop-init g c = record { steps = answered.none; want = refl; lasts = lasts_none g.D.Disk.tells g.D.Disk.view c.args.self.now; still = λ dead. refl }
 
 -- A dead journal stays as it was.
-stays : {Disk : Type 0} (old now new : JournalView Disk) → (old.state.dead ≢ None → now ≡ old) → ((now.state.dead ≢ None) ⊎ IsIdle now.state → new ≡ now) → old.state.dead ≢ None → new ≡ old
+stays : {Disk : Type 0} (old now new : JournalView Disk) → (old.state.dead ≢ None → now ≡ old)
+    → ((now.state.dead ≢ None) ⊎ IsIdle now.state → new ≡ now) → old.state.dead ≢ None → new ≡ old
 stays old now new so_far step dead = step (inl (subst (λ h. h.state.dead ≢ None) (sym (so_far dead)) dead)) ∙ so_far dead
 
 pub returns-in_err-step-clause-still : goal.returns-in_err-step-clause-still
@@ -31,10 +32,13 @@ returns-in_err-step-clause-drains g c =
     let did = c.step.ensures in
     let marked : IsMarked new.state fault = subst (λ (r : Result Step JournalFault). IfErr r (IsMarked new.state)) came did.dead in
     subst (Drains g.D.Disk.tells g.D.Disk.view c.args.self.now new) (sym answers)
-    (drained g.D.Disk.tells g.D.Disk.view c.args.self.now c.loop.self new c.step.result (Err fault) came so_far.steps so_far.want so_far.lasts did.rule did.want did.lasts tt marked)
+    (drained g.D.Disk.tells g.D.Disk.view c.args.self.now c.loop.self new c.step.result (Err fault) came so_far.steps so_far.want
+    so_far.lasts did.rule did.want did.lasts tt marked)
 
-ruled : (g : _) (c : goal.In-Moved g) → StepsBy c.loop.self.state c.step.new.self.state (g.D.Disk.view c.loop.self.disk) (g.D.Disk.view c.step.new.self.disk) (Ok c.in_ok-step.field-0)
-ruled g c = subst (StepsBy c.loop.self.state c.step.new.self.state (g.D.Disk.view c.loop.self.disk) (g.D.Disk.view c.step.new.self.disk)) c.in_ok-step.was c.step.ensures.rule
+ruled : (g : _) (c : goal.In-Moved g) → StepsBy c.loop.self.state c.step.new.self.state (g.D.Disk.view c.loop.self.disk)
+    (g.D.Disk.view c.step.new.self.disk) (Ok c.in_ok-step.field-0)
+ruled g c = subst (StepsBy c.loop.self.state c.step.new.self.state (g.D.Disk.view c.loop.self.disk) (g.D.Disk.view c.step.new.self.disk))
+    c.in_ok-step.was c.step.ensures.rule
 
 busy : (g : _) (c : goal.In-Moved g) → c.in_ok-step.field-0 ≢ steps.Idle
 busy g c is = elim c.in-Moved.is [
@@ -45,7 +49,8 @@ busy g c is = elim c.in-Moved.is [
 pub loop-smaller : goal.loop-smaller
 loop-smaller g c =
     let falls : Falls c.loop.self.state c.step.new.self.state (g.D.Disk.view c.loop.self.disk) (g.D.Disk.view c.step.new.self.disk) (Ok c.in_ok-step.field-0) =
-    subst (Falls c.loop.self.state c.step.new.self.state (g.D.Disk.view c.loop.self.disk) (g.D.Disk.view c.step.new.self.disk)) c.in_ok-step.was c.step.ensures.falls in
+    subst (Falls c.loop.self.state c.step.new.self.state (g.D.Disk.view c.loop.self.disk) (g.D.Disk.view c.step.new.self.disk))
+    c.in_ok-step.was c.step.ensures.falls in
     falls (busy g c)
 
 pub loop-preserved : goal.loop-preserved

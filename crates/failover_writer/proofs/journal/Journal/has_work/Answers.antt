@@ -14,10 +14,17 @@ returns-then-written-end g c =
     let current = subst (λ (ws : List Writer). slice_get ws (length ws - 1) ≡ Some c.in-Some.current.now) c.deref.ensures.value (sym c.in-Some.ensures.value) in
     let behind = c.is_behind.ensures.0 c.if-not-is_behind.false in
     elim c.if-broken.branch [
-      | then-broken w ↦ (λ t. works_by _ c.args.self.now.state c.in-Some.current.now same current behind (inl (c.broken.ensures.0 w.if-broken.true)), λ h. c.if-written-end.true)
+      | then-broken w ↦ (
+        λ t. works_by _ c.args.self.now.state c.in-Some.current.now same current behind
+            (inl (c.broken.ensures.0 w.if-broken.true)),
+        λ h. c.if-written-end.true,
+      )
       | else-broken w ↦
-          let below : w.written.result < w.end.result = ltb-true _ _ (sym w.value-is ∙ c.if-written-end.true) in
-          (λ t. works_by _ c.args.self.now.state c.in-Some.current.now same current behind (inr (inl (omega (arith, below, w.written.ensures, w.end.ensures)))), λ h. c.if-written-end.true)
+          let below : w.written.result < w.end.result = ltb-true _ _ (sym w.value-is ∙ c.if-written-end.true) in (
+            λ t. works_by _ c.args.self.now.state c.in-Some.current.now same current behind
+                (inr (inl (omega (arith, below, w.written.ensures, w.end.ensures)))),
+            λ h. c.if-written-end.true,
+          )
     ]
 
 pub returns-else-written-end : goal.returns-else-written-end
@@ -29,7 +36,9 @@ returns-else-written-end g c =
       | then-broken w ↦ absurd (both_ways c.if-broken.value c.if-written-end.false (w.value-is ∙ w.if-broken.true))
       | else-broken w ↦
           let covered : w.end.result ≤ w.written.result = ltb-false _ _ (sym w.value-is ∙ c.if-written-end.false) in (
-            λ t. works_by _ c.args.self.now.state c.in-Some.current.now same current behind (inr (inr (let wanted = ltb-true c.self.inside.acked c.self.inside.want t in omega (arith, wanted, c.self.invariant.acked)))),
+            λ t. works_by _ c.args.self.now.state c.in-Some.current.now same current behind
+                (inr (inr (let wanted = ltb-true c.self.inside.acked c.self.inside.want t in omega
+                (arith, wanted, c.self.invariant.acked)))),
             λ h. elim (more_by _ c.args.self.now.state c.in-Some.current.now same current h) [
               | inl broken ↦ absurd (both_ways c.broken.result w.if-broken.false (c.broken.ensures.1 broken))
               | inr (inl less) ↦ absurd (omega (arith, less, covered, w.written.ensures, w.end.ensures))

@@ -15,7 +15,8 @@ pub loop-init : goal.loop-init
 loop-init g c = record { steps = answered.none; want = refl; lasts = lasts_none g.D.Disk.tells g.D.Disk.view c.args.self.now; still = λ rests. refl }
 
 -- A dead or idle journal stays as it was.
-stays : {Disk : Type 0} (old now new : JournalView Disk) → ((old.state.dead ≢ None) ⊎ IsIdle old.state → now ≡ old) → ((now.state.dead ≢ None) ⊎ IsIdle now.state → new ≡ now) → (old.state.dead ≢ None) ⊎ IsIdle old.state → new ≡ old
+stays : {Disk : Type 0} (old now new : JournalView Disk) → ((old.state.dead ≢ None) ⊎ IsIdle old.state → now ≡ old)
+    → ((now.state.dead ≢ None) ⊎ IsIdle now.state → new ≡ now) → (old.state.dead ≢ None) ⊎ IsIdle old.state → new ≡ old
 stays old now new so_far step rests = step (subst (λ h. (h.state.dead ≢ None) ⊎ IsIdle h.state) (sym (so_far rests)) rests) ∙ so_far rests
 
 pub returns-in_err-step-clause-still : goal.returns-in_err-step-clause-still
@@ -39,8 +40,10 @@ returns-in_err-step-clause-moves g c =
     let so_far = c.loop.invariant in
     let did = c.step.ensures in
     subst (Moves tells g.D.Disk.view old new) (sym answers)
-    (moved_to tells g.D.Disk.view old mid new (Err fault) so_far.steps so_far.want so_far.lasts (subst (StepsBy mid.state new.state (g.D.Disk.view mid.disk) (g.D.Disk.view new.disk)) came did.rule) did.want did.lasts
-    (λ e. let clash : Err fault ≡ Ok steps.Moved = e in cc) (λ e. let clash : Err fault ≡ Ok steps.Idle = e in cc) (λ e. let clash : Err fault ≡ Ok steps.Waited = e in cc)
+    (moved_to tells g.D.Disk.view old mid new (Err fault) so_far.steps so_far.want so_far.lasts
+    (subst (StepsBy mid.state new.state (g.D.Disk.view mid.disk) (g.D.Disk.view new.disk)) came did.rule) did.want did.lasts
+    (λ e. let clash : Err fault ≡ Ok steps.Moved = e in cc) (λ e. let clash : Err fault ≡ Ok steps.Idle = e in cc)
+    (λ e. let clash : Err fault ≡ Ok steps.Waited = e in cc)
     (subst (λ (r : Result Step JournalFault). IfErr r (IsMarked new.state)) came did.dead))
 
 pub returns-in-Idle-clause-moves : goal.returns-in-Idle-clause-moves
@@ -53,8 +56,11 @@ returns-in-Idle-clause-moves g c =
     let so_far = c.loop.invariant in
     let did = c.step.ensures in
     let rests : IsIdle mid.state = did.idle.0 came in
-    moved_to tells g.D.Disk.view old mid new (Ok steps.Idle) so_far.steps so_far.want so_far.lasts (subst (StepsBy mid.state new.state (g.D.Disk.view mid.disk) (g.D.Disk.view new.disk)) came did.rule) did.want did.lasts
-    (λ e. let clash : Ok steps.Idle ≡ Ok steps.Moved = e in cc) (λ _. subst (λ (h : JournalView _). IsIdle h.state) (sym (did.still (inr rests))) rests) (λ e. let clash : Ok steps.Idle ≡ Ok steps.Waited = e in cc) tt
+    moved_to tells g.D.Disk.view old mid new (Ok steps.Idle) so_far.steps so_far.want so_far.lasts
+    (subst (StepsBy mid.state new.state (g.D.Disk.view mid.disk) (g.D.Disk.view new.disk)) came did.rule) did.want did.lasts
+    (λ e. let clash : Ok steps.Idle ≡ Ok steps.Moved = e in cc)
+    (λ _. subst (λ (h : JournalView _). IsIdle h.state) (sym (did.still (inr rests))) rests)
+    (λ e. let clash : Ok steps.Idle ≡ Ok steps.Waited = e in cc) tt
 
 pub returns-in-Waited-clause-moves : goal.returns-in-Waited-clause-moves
 returns-in-Waited-clause-moves g c =
@@ -65,7 +71,8 @@ returns-in-Waited-clause-moves g c =
     let new = c.step.new.self in
     let so_far = c.loop.invariant in
     let did = c.step.ensures in
-    moved_to tells g.D.Disk.view old mid new (Ok steps.Waited) so_far.steps so_far.want so_far.lasts (subst (StepsBy mid.state new.state (g.D.Disk.view mid.disk) (g.D.Disk.view new.disk)) came did.rule) did.want did.lasts
+    moved_to tells g.D.Disk.view old mid new (Ok steps.Waited) so_far.steps so_far.want so_far.lasts
+    (subst (StepsBy mid.state new.state (g.D.Disk.view mid.disk) (g.D.Disk.view new.disk)) came did.rule) did.want did.lasts
     (λ e. let clash : Ok steps.Waited ≡ Ok steps.Moved = e in cc) (λ e. let clash : Ok steps.Waited ≡ Ok steps.Idle = e in cc) (λ _. did.waited came) tt
 
 pub loop-smaller : goal.loop-smaller
@@ -83,7 +90,8 @@ loop-preserved g c =
     let did = c.step.ensures in
     let came : c.step.result ≡ Ok steps.Moved = c.in_ok-step.was ∙ ap (λ (s : Step). Ok s) c.in-Moved.is in
     record {
-      steps = answered.one_more mid.state new.state (g.D.Disk.view mid.disk) (g.D.Disk.view new.disk) so_far.steps (subst (StepsBy mid.state new.state (g.D.Disk.view mid.disk) (g.D.Disk.view new.disk)) came did.rule);
+      steps = answered.one_more mid.state new.state (g.D.Disk.view mid.disk) (g.D.Disk.view new.disk) so_far.steps
+          (subst (StepsBy mid.state new.state (g.D.Disk.view mid.disk) (g.D.Disk.view new.disk)) came did.rule);
       want = did.want ∙ so_far.want;
       lasts = lasts_further g.D.Disk.tells g.D.Disk.view c.args.self.now mid new so_far.lasts did.lasts;
       still = stays c.args.self.now mid new so_far.still did.still;

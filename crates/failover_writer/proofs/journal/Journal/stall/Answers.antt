@@ -9,7 +9,11 @@ pub invariant_of-self : goal.invariant_of-self
 invariant_of-self g c =
     let in_order = c.self.invariant in
     record {
-      stands = (in_order.stands.0, same_stands g.D.Disk.tells in_order.stands.0 _ (g.D.Disk.view c.self.inside.disk) (g.D.Disk.view c.stall.new.self) c.stall.ensures.same in_order.stands.1);
+      stands = (
+        in_order.stands.0,
+        same_stands g.D.Disk.tells in_order.stands.0 _ (g.D.Disk.view c.self.inside.disk)
+            (g.D.Disk.view c.stall.new.self) c.stall.ensures.same in_order.stands.1,
+      );
       acked = in_order.acked;
       failed = in_order.failed;
       rested = in_order.rested;

@@ -9,7 +9,8 @@ use Rattle.failover_writer.proofs.journal.Journal.start.Goals as goal
 
 pub returns-clause-stands : goal.returns-clause-stands
 returns-clause-stands g c =
-    nothing_stands g.D.Disk.tells _ (g.D.Disk.view c.args.disk) c.in-Ok-with_capacity.ensures.items c.in-Ok.ensures.start c.in-Ok.ensures.records refl refl c.requires.idle c.requires.absent c.requires.wal
+    nothing_stands g.D.Disk.tells _ (g.D.Disk.view c.args.disk) c.in-Ok-with_capacity.ensures.items c.in-Ok.ensures.start
+    c.in-Ok.ensures.records refl refl c.requires.idle c.requires.absent c.requires.wal
 
 pub invariant_of-result : goal.invariant_of-result
 unfolding most_synced

@@ -24,7 +24,8 @@ pub returns-in-Some-clause-rule : goal.returns-in-Some-clause-rule
 returns-in-Some-clause-rule g c = record {
   one = None;
   other = None;
-  rule = was_dead c.in-Some.mark.side c.in-Some.mark.faults (subst (λ (held : JournalView _). held.state.dead ≡ Some c.in-Some.mark) c.self.view_is c.in-Some.is);
+  rule = was_dead c.in-Some.mark.side c.in-Some.mark.faults (subst (λ (held : JournalView _). held.state.dead ≡ Some c.in-Some.mark)
+      c.self.view_is c.in-Some.is);
   one_told = tt;
   other_told = tt;
   taken = omega arith;
@@ -33,10 +34,12 @@ returns-in-Some-clause-rule g c = record {
 
 pub returns-then-not-is_up-clause-rule : goal.returns-then-not-is_up-clause-rule
 returns-then-not-is_up-clause-rule g c =
-    subst (λ (held : JournalView _). StepsBy c.args.self.now.state held.state (g.D.Disk.view c.args.self.now.disk) (g.D.Disk.view held.disk) (Ok steps.Idle)) (sym c.if-not-is_up.ensures.same) (record {
+    subst (λ (held : JournalView _). StepsBy c.args.self.now.state held.state (g.D.Disk.view c.args.self.now.disk) (g.D.Disk.view held.disk)
+    (Ok steps.Idle)) (sym c.if-not-is_up.ensures.same) (record {
       one = None;
       other = None;
-      rule = idle (subst (λ (held : JournalView _). held.state.dead ≡ None) c.self.view_is c.in_default.is) c.if-not-is_up.ensures.up.0 c.if-not-is_up.ensures.up.1;
+      rule = idle (subst (λ (held : JournalView _). held.state.dead ≡ None) c.self.view_is c.in_default.is) c.if-not-is_up.ensures.up.0
+          c.if-not-is_up.ensures.up.1;
       one_told = tt;
       other_told = tt;
       taken = omega arith;
@@ -44,28 +47,36 @@ returns-then-not-is_up-clause-rule g c =
     })
 
 -- the step that `advance` did
-steps_by : (g : _) (c : goal.After-advance g) → StepsBy c.args.self.now.state c.advance.new.self.state (g.D.Disk.view c.args.self.now.disk) (g.D.Disk.view c.advance.new.self.disk) c.advance.result
+steps_by : (g : _) (c : goal.After-advance g) → StepsBy c.args.self.now.state c.advance.new.self.state (g.D.Disk.view c.args.self.now.disk)
+    (g.D.Disk.view c.advance.new.self.disk) c.advance.result
 steps_by g c =
-    subst (λ (held : JournalView _). StepsBy held.state c.advance.new.self.state (g.D.Disk.view held.disk) (g.D.Disk.view c.advance.new.self.disk) c.advance.result) c.is_up.ensures.same c.advance.ensures.rule
+    subst (λ (held : JournalView _). StepsBy held.state c.advance.new.self.state (g.D.Disk.view held.disk)
+    (g.D.Disk.view c.advance.new.self.disk) c.advance.result) c.is_up.ensures.same c.advance.ensures.rule
 
 pub returns-clause-idle : goal.returns-clause-idle
-returns-clause-idle g c = idle_of c.args.self.now.state c.advance.new.self.state (g.D.Disk.view c.args.self.now.disk) (g.D.Disk.view c.advance.new.self.disk) c.advance.result (steps_by g c)
+returns-clause-idle g c = idle_of c.args.self.now.state c.advance.new.self.state (g.D.Disk.view c.args.self.now.disk)
+    (g.D.Disk.view c.advance.new.self.disk) c.advance.result (steps_by g c)
 
 pub returns-clause-waited : goal.returns-clause-waited
-returns-clause-waited g c = waited_of c.args.self.now.state c.advance.new.self.state (g.D.Disk.view c.args.self.now.disk) (g.D.Disk.view c.advance.new.self.disk) c.advance.result (steps_by g c)
+returns-clause-waited g c = waited_of c.args.self.now.state c.advance.new.self.state (g.D.Disk.view c.args.self.now.disk)
+    (g.D.Disk.view c.advance.new.self.disk) c.advance.result (steps_by g c)
 
 pub returns-clause-dead : goal.returns-clause-dead
-returns-clause-dead g c = dead_of c.args.self.now.state c.advance.new.self.state (g.D.Disk.view c.args.self.now.disk) (g.D.Disk.view c.advance.new.self.disk) c.advance.result (steps_by g c)
+returns-clause-dead g c = dead_of c.args.self.now.state c.advance.new.self.state (g.D.Disk.view c.args.self.now.disk)
+    (g.D.Disk.view c.advance.new.self.disk) c.advance.result (steps_by g c)
 
-passes : (g : _) (c : goal.After-advance g) → Passes g.D.Disk.tells c.args.self.now.state c.advance.new.self.state (g.D.Disk.view c.args.self.now.disk) (g.D.Disk.view c.advance.new.self.disk)
+passes : (g : _) (c : goal.After-advance g) → Passes g.D.Disk.tells c.args.self.now.state c.advance.new.self.state
+    (g.D.Disk.view c.args.self.now.disk) (g.D.Disk.view c.advance.new.self.disk)
 passes g c =
-    subst (λ (held : JournalView _). Passes g.D.Disk.tells held.state c.advance.new.self.state (g.D.Disk.view held.disk) (g.D.Disk.view c.advance.new.self.disk)) c.is_up.ensures.same c.advance.ensures.passes
+    subst (λ (held : JournalView _). Passes g.D.Disk.tells held.state c.advance.new.self.state (g.D.Disk.view held.disk)
+    (g.D.Disk.view c.advance.new.self.disk)) c.is_up.ensures.same c.advance.ensures.passes
 
 keeps : (g : _) (c : goal.After-advance g) → KeepsRecords g.D.Disk.tells g.D.Disk.view c.args.self.now c.advance.new.self
 keeps g c = subst (λ (held : JournalView _). KeepsRecords g.D.Disk.tells g.D.Disk.view held c.advance.new.self) c.is_up.ensures.same c.advance.ensures.keeps
 
 goes_on : (g : _) (c : goal.After-advance g) → GoesOn (g.D.Disk.view c.args.self.now.disk) (g.D.Disk.view c.advance.new.self.disk)
-goes_on g c = subst (λ (held : JournalView _). GoesOn (g.D.Disk.view held.disk) (g.D.Disk.view c.advance.new.self.disk)) c.is_up.ensures.same c.advance.ensures.goes_on
+goes_on g c = subst (λ (held : JournalView _). GoesOn (g.D.Disk.view held.disk) (g.D.Disk.view c.advance.new.self.disk))
+    c.is_up.ensures.same c.advance.ensures.goes_on
 
 -- ---- what it leaves as it was, and what is left to do
 
@@ -79,13 +90,15 @@ pub returns-clause-falls : goal.returns-clause-falls
 returns-clause-falls g c =
     let stands = subst (λ (held : JournalView _). Stands g.D.Disk.tells held.state (g.D.Disk.view held.disk)) c.self.view_is c.self.invariant.stands in
     falls c.args.self.now.state c.advance.new.self.state (g.D.Disk.view c.args.self.now.disk) (g.D.Disk.view c.advance.new.self.disk) c.advance.result
-    (omega (arith, stands.1.want, records_are g.D.Disk.tells stands.0 c.args.self.now.state (g.D.Disk.view c.args.self.now.disk) stands.1)) stands.1.few (goes_on g c) (steps_by g c)
+    (omega (arith, stands.1.want, records_are g.D.Disk.tells stands.0 c.args.self.now.state (g.D.Disk.view c.args.self.now.disk) stands.1))
+    stands.1.few (goes_on g c) (steps_by g c)
 
 pub returns-in-Some-clause-lasts : goal.returns-in-Some-clause-lasts
 returns-in-Some-clause-lasts g c = lasts_none g.D.Disk.tells g.D.Disk.view c.args.self.now
 
 pub returns-then-not-is_up-clause-lasts : goal.returns-then-not-is_up-clause-lasts
-returns-then-not-is_up-clause-lasts g c = subst (Lasts g.D.Disk.tells g.D.Disk.view c.args.self.now) (sym c.if-not-is_up.ensures.same) (lasts_none g.D.Disk.tells g.D.Disk.view c.args.self.now)
+returns-then-not-is_up-clause-lasts g c = subst (Lasts g.D.Disk.tells g.D.Disk.view c.args.self.now) (sym c.if-not-is_up.ensures.same)
+    (lasts_none g.D.Disk.tells g.D.Disk.view c.args.self.now)
 
 pub returns-clause-lasts : goal.returns-clause-lasts
 returns-clause-lasts g c =
@@ -107,12 +120,15 @@ returns-clause-lasts g c =
 pub returns-in-Some-clause-survives : goal.returns-in-Some-clause-survives
 returns-in-Some-clause-survives g c =
     let old = c.args.self.now in
-    survives g.D.Disk.tells g.D.Disk.view old old (λ records stands. stands) (passes_still g.D.Disk.tells old.state old.state (g.D.Disk.view old.disk) refl refl refl)
+    survives g.D.Disk.tells g.D.Disk.view old old (λ records stands. stands)
+    (passes_still g.D.Disk.tells old.state old.state (g.D.Disk.view old.disk) refl refl refl)
 
 pub returns-then-not-is_up-clause-survives : goal.returns-then-not-is_up-clause-survives
 returns-then-not-is_up-clause-survives g c =
     let old = c.args.self.now in
-    subst (Survives g.D.Disk.tells g.D.Disk.view old) (sym c.if-not-is_up.ensures.same) (survives g.D.Disk.tells g.D.Disk.view old old (λ records stands. stands) (passes_still g.D.Disk.tells old.state old.state (g.D.Disk.view old.disk) refl refl refl))
+    subst (Survives g.D.Disk.tells g.D.Disk.view old) (sym c.if-not-is_up.ensures.same)
+    (survives g.D.Disk.tells g.D.Disk.view old old (λ records stands. stands)
+    (passes_still g.D.Disk.tells old.state old.state (g.D.Disk.view old.disk) refl refl refl))
 
 pub returns-clause-survives : goal.returns-clause-survives
 returns-clause-survives g c = survives g.D.Disk.tells g.D.Disk.view c.args.self.now c.advance.new.self (keeps g c) (passes g c)

@@ -6,4 +6,5 @@ use Rattle.failover_writer.specs.Ranges.{side_at}
 use Rattle.failover_writer.proofs.tests.Fresh.journal_from.Goals as goal
 
 pub start-requires-clause-absent : goal.start-requires-clause-absent
-start-requires-clause-absent g c told index low high = subst IsUnsent (sym (c.args.self.empty (segment (side_at index) (record { wal = 1; index = index })))) (tt, λ f is. cc)
+start-requires-clause-absent g c told index low high = subst IsUnsent
+    (sym (c.args.self.empty (segment (side_at index) (record { wal = 1; index = index })))) (tt, λ f is. cc)

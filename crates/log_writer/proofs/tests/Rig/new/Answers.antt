@@ -7,5 +7,8 @@ no_file = (tt, λ g is. absurd cc)
 
 pub invariant_of-result : goal.invariant_of-result
 invariant_of-result g c =
-    let fits = rw c.expect-writer.ensures at c.new.ensures.fits in
-    (fits g.D.Disk.tells c.args.queue.records (g.D.Disk.view c.args.disk) (omega arith) c.requires.free (λ told. subst IsUnsent (sym (c.requires.absent told)) no_file), c.requires.whole)
+    let fits = rw c.expect-writer.ensures at c.new.ensures.fits in (
+      fits g.D.Disk.tells c.args.queue.records (g.D.Disk.view c.args.disk) (omega arith) c.requires.free
+          (λ told. subst IsUnsent (sym (c.requires.absent told)) no_file),
+      c.requires.whole,
+    )

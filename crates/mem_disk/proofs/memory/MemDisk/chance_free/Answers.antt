@@ -13,6 +13,10 @@ use Rattle.mem_disk.proofs.memory.MemDisk.chance_free.Goals as goal
 pub returns : goal.returns
 unfolding mem_view
 returns c =
-    subst (λ (f : Files). IfOk c.is_chance_free.result (λ free. IsTrue free ↔ IsChanceFree IsChunkOf f (picked_dirs f c.args.pick.now.files))) (sym (now_held c.args.self.now.undos.items (files_held c.args.self.now.files.items)))
-    (subst (λ (l : List FilePick). IfOk c.is_chance_free.result (λ free. IsTrue free ↔ IsChanceFree IsChunkOf (files_held c.args.self.now.files.items) (picked_dirs (files_held c.args.self.now.files.items) l))) c.as_slice.ensures
-    (subst (λ (l : List MemFile). IfOk c.is_chance_free.result (λ free. IsTrue free ↔ IsChanceFree IsChunkOf (files_held l) (picked_dirs (files_held l) c.as_slice.result.now))) c.deref.ensures.value c.is_chance_free.ensures))
+    subst (λ (f : Files). IfOk c.is_chance_free.result (λ free. IsTrue free ↔ IsChanceFree IsChunkOf f
+    (picked_dirs f c.args.pick.now.files))) (sym (now_held c.args.self.now.undos.items (files_held c.args.self.now.files.items)))
+    (subst (λ (l : List FilePick). IfOk c.is_chance_free.result
+    (λ free. IsTrue free ↔ IsChanceFree IsChunkOf (files_held c.args.self.now.files.items)
+    (picked_dirs (files_held c.args.self.now.files.items) l))) c.as_slice.ensures
+    (subst (λ (l : List MemFile). IfOk c.is_chance_free.result (λ free. IsTrue free ↔ IsChanceFree IsChunkOf (files_held l)
+    (picked_dirs (files_held l) c.as_slice.result.now))) c.deref.ensures.value c.is_chance_free.ensures))

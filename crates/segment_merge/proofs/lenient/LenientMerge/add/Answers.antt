@@ -10,7 +10,8 @@ use Rattle.segment_merge.proofs.LenientRows.{keeps_before, keeps_on, answers_ok}
 use Rattle.segment_merge.proofs.lenient.LenientMerge.add.Goals as goal
 
 -- a segment that is refused refuses the row after those before it
-refused : (c : goal.After-drop-kept-inside) → (before : List SegmentRead) → AreMergedOf before c.args.self → Answers (before ++ c.args.row) c.from_residual.result
+refused : (c : goal.After-drop-kept-inside) → (before : List SegmentRead) → AreMergedOf before c.args.self
+    → Answers (before ++ c.args.row) c.from_residual.result
 refused c before m =
     let kept = c.self.inside.kept in
     let view : c.args.self ≡ kept.batches = search rules in
@@ -25,7 +26,8 @@ pub returns-in_err-merge_row-clause-refused : goal.returns-in_err-merge_row-clau
 returns-in_err-merge_row-clause-refused c = λ before m. why_refused (before ++ c.args.row) c.from_residual.result (refused c before m)
 
 pub returns-in_err-merge_row-clause-conflict : goal.returns-in_err-merge_row-clause-conflict
-returns-in_err-merge_row-clause-conflict c = λ before index number m. only_conflict (before ++ c.args.row) c.from_residual.result (refused c before m) index number
+returns-in_err-merge_row-clause-conflict c = λ before index number m. only_conflict (before ++ c.args.row) c.from_residual.result
+    (refused c before m) index number
 
 pub invariant_of-result : goal.invariant_of-result
 invariant_of-result c = keeps_on c.args.row c.self.inside.kept c.merge_row.new.kept c.in_ok-merge_row.field-0 c.self.invariant c.in_ok-merge_row.ensures
@@ -41,4 +43,5 @@ pub returns-clause-merged : goal.returns-clause-merged
 returns-clause-merged c = λ before merged m. only_merged (before ++ c.args.row) (Ok c.merge_row.new.kept.batches) (returns-clause-found c before m) merged
 
 pub returns-clause-conflict : goal.returns-clause-conflict
-returns-clause-conflict c = λ before index number m. only_conflict (before ++ c.args.row) (Ok c.merge_row.new.kept.batches) (returns-clause-found c before m) index number
+returns-clause-conflict c = λ before index number m. only_conflict (before ++ c.args.row) (Ok c.merge_row.new.kept.batches)
+    (returns-clause-found c before m) index number

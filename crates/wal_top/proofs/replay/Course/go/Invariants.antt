@@ -9,7 +9,8 @@ use Rattle.wal_top.proofs.replay.Course.go.Given as goal
 abbrev pub invariant-loop-act : goal.invariant-loop-act
 invariant-loop-act g l =
     RunsOn g.D.Disk.tells l.initial.self.journal.state (g.D.Disk.view l.initial.self.journal.disk) l.self.journal.state (g.D.Disk.view l.self.journal.disk)
-    × ((base : List Batch) (start : DiskView) (wal : ℕ) → IsBegun g.D.Disk.tells base start wal (stage_of g.D.Disk.view l.initial.self) → GoesOn g.D.Disk.tells base start wal l.initial.acts.items (stage_of g.D.Disk.view l.self) l.acts.items)
+    × ((base : List Batch) (start : DiskView) (wal : ℕ) → IsBegun g.D.Disk.tells base start wal (stage_of g.D.Disk.view l.initial.self)
+    → GoesOn g.D.Disk.tells base start wal l.initial.acts.items (stage_of g.D.Disk.view l.self) l.acts.items)
     × Done g.D.Disk.tells l.initial.acts.items (stage_of g.D.Disk.view l.initial.self) (stage_of g.D.Disk.view l.self) l.acts.items
 
 abbrev pub decreases-loop-act : goal.decreases-loop-act
