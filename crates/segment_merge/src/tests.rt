@@ -1,8 +1,6 @@
 ghost use Rattle.std.specs.Prelude.{All, IsTrue};
 ghost use Rattle.segment_merge.specs.Rows.{IsNumbered, IsRow};
 
-use crate::numbers::count;
-use crate::same::same_batch;
 use crate::{LenientMerge, MergeFault, SegmentRead, Segments, merge, merge_lenient};
 use batch_repr::{Batch, Batches, NUMBER_MAX};
 use std::alloc::Global;
@@ -22,7 +20,7 @@ fn batch(rt: &impl Abort, alloc: Global, first: u64, value: u8) -> Batch {
 fn is_numbered(batch: &Batch) -> bool
     ensures { IsTrue result → IsNumbered batch.now }
 {
-    let taken = count(batch.entries.as_slice());
+    let taken = batch.count();
     0 < taken && taken <= NUMBER_MAX && batch.first <= NUMBER_MAX - taken
 }
 
@@ -80,7 +78,7 @@ fn gives(
     };
     assert_eq!(rt; merged.len(), wanted.len());
     for ((first, value), found) in wanted.iter().zip(merged.as_slice()) {
-        assert!(rt; same_batch(found, &batch(rt, alloc, *first, *value)));
+        assert!(rt; found.same_as(&batch(rt, alloc, *first, *value)));
     }
 }
 
