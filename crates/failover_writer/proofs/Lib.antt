@@ -26,3 +26,4 @@ mod Settling
 mod Opening
 mod Reading
 mod Limits
+mod Running

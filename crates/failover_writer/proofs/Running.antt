@@ -12,6 +12,7 @@ use Rattle.disk_face.specs.Calls.{GoesOn}
 use Rattle.disk_face.proofs.Laws.{goes_on_further, rose_later, rose_earlier}
 use Rattle.log_writer.specs.Writer.{Writer}
 use Rattle.log_writer.specs.Fits.{place_of_writer}
+use Rattle.stall_monitor.specs.declared.verdict.TheConstants.{SEGMENTS_MAX}
 use Rattle.failover_writer.specs.declared.fault.DeadMark.{DeadMark}
 use Rattle.failover_writer.specs.State.{State, JournalView, with_room, len, acked, most_synced, broken_count}
 use Rattle.failover_writer.specs.Ranges.{AreJoined, StandsFor, KeepsRecords, AddsRecord}
@@ -20,11 +21,12 @@ use Rattle.failover_writer.specs.Moves.{Pushes}
 use Rattle.failover_writer.specs.Keeping.{IsElsewhere, KeepsBase, KeepsBases}
 use Rattle.failover_writer.specs.Lasting.{Lasts}
 use Rattle.failover_writer.specs.Sound.{IsSoundJournal}
-use Rattle.failover_writer.proofs.Laws.{not_theirs, synced_within, run_kept_now, reads_as_image, base_recovers, none_of_opening}
-use Rattle.wal_top.specs.declared.replies.JournalEnd.{JournalEnd}
-use Rattle.wal_top.specs.Log.{PollsLeft, EndsAs}
-use Rattle.wal_top.specs.Journaling.{Runs, RunsOn, RunsStill, OthersSame, HasEnded}
-use Rattle.wal_top.proofs.Limits.{threshold}
+use Rattle.failover_writer.proofs.Kept.{run_kept_now}
+use Rattle.failover_writer.proofs.OverBase.{base_recovers, none_of_opening}
+use Rattle.failover_writer.proofs.Reading.{reads_as_image}
+use Rattle.failover_writer.proofs.Segments.{not_theirs, synced_within}
+use Rattle.failover_writer.specs.declared.fault.JournalEnd.{JournalEnd}
+use Rattle.failover_writer.specs.Running.{PollsLeft, EndsAs, Runs, RunsOn, RunsStill, OthersSame, HasEnded}
 
 -- ---- what a run's journal keeps
 
@@ -41,17 +43,18 @@ rose_then start mid new later goes (side, rose) = (
 rose_now : (start mid new : DiskView) → GoesOn start mid → FaultsRose mid new → FaultsRose start new
 rose_now start mid new goes (side, rose) = (side, rose_later (start.faults side) (mid.faults side) (new.faults side) (goes.faults side) rose)
 
-module _ (tells : Bool) (start : DiskView) (wal base : ℕ) where
+module _ (threshold : ℕ) (tells : Bool) (start : DiskView) (wal base : ℕ) where
   -- nothing but the queue, or the numbers after the last record, changed
   pub runs_beside : (own own' : List Batch) (old new : State) (v : DiskView) → new.wal ≡ old.wal → new.base ≡ old.base
       → new.threshold ≡ old.threshold → new.dead ≡ old.dead → new.segments ≡ old.segments
       → StandsFor tells own' new v → ((b : List Batch) → KeepsBase tells b old v → KeepsBase tells b new v)
-      → Runs tells start wal base own old v → Runs tells start wal base own' new v
-  runs_beside own own' old new v wal_same base_same threshold dead segments stands keeps r = record {
+      → Runs threshold tells start wal base own old v → Runs threshold tells start wal base own' new v
+  runs_beside own own' old new v wal_same base_same same_threshold dead segments stands keeps r = record {
     stands = stands;
     wal_is = wal_same ∙ r.wal_is;
     base_is = base_same ∙ r.base_is;
-    threshold = threshold ∙ r.threshold;
+    threshold_is = same_threshold ∙ r.threshold_is;
+    least = r.least;
     goes = r.goes;
     harmed = λ harmed. r.harmed (was_harmed harmed);
     smooth = was_smooth r.smooth;
@@ -74,13 +77,14 @@ module _ (tells : Bool) (start : DiskView) (wal base : ℕ) where
 
   module _ {Disk : Type 0} (view : Disk → DiskView) (own : List Batch) (old new : JournalView Disk) where
     -- a call that steps
-    pub runs_further : Lasts tells view old new → KeepsBases tells view old new → Runs tells start wal base own old.state (view old.disk)
-        → Runs tells start wal base own new.state (view new.disk)
+    pub runs_further : Lasts tells view old new → KeepsBases tells view old new → Runs threshold tells start wal base own old.state (view old.disk)
+        → Runs threshold tells start wal base own new.state (view new.disk)
     runs_further lasts keeps_base r = record {
       stands = lasts.keeps own r.stands;
       wal_is = lasts.setting.wal ∙ r.wal_is;
       base_is = lasts.setting.base ∙ r.base_is;
-      threshold = lasts.setting.threshold ∙ r.threshold;
+      threshold_is = lasts.setting.threshold ∙ r.threshold_is;
+      least = r.least;
       goes = goes_on_further start (view old.disk) (view new.disk) r.goes lasts.goes_on;
       harmed = λ h. by_harm (lasts.harmed h);
       smooth = by_smooth r.smooth;
@@ -100,16 +104,16 @@ module _ (tells : Bool) (start : DiskView) (wal base : ℕ) where
 
         by_smooth : IsSmooth old.state ⊎ (FaultsRose start (view old.disk) ⊎ PollsLeft start) → IsSmooth new.state
             ⊎ (FaultsRose start (view new.disk) ⊎ PollsLeft start)
-        by_smooth (inl s) = by_new (lasts.smooth (omega (arith, r.threshold, threshold)) s)
+        by_smooth (inl s) = by_new (lasts.smooth (omega (arith, r.threshold_is, r.least)) s)
         by_smooth (inr (inl rose)) = inr (inl (rose_then start (view old.disk) (view new.disk) lasts.goes_on r.goes rose))
         by_smooth (inr (inr left)) = inr (inr left)
 
     -- room was made
     pub runs_reserved : (spare : ℕ) → new ≡ with_room spare old → KeepsRecords tells view old new → KeepsBases tells view old new
-        → Runs tells start wal base own old.state (view old.disk) → Runs tells start wal base own new.state (view new.disk)
+        → Runs threshold tells start wal base own old.state (view old.disk) → Runs threshold tells start wal base own new.state (view new.disk)
     runs_reserved spare same keeps keeps_base r =
         let roomy : State = record old.state { queue = record old.state.queue { spare = spare } } in
-        subst (λ (h : JournalView Disk). Runs tells start wal base own h.state (view h.disk)) (sym same)
+        subst (λ (h : JournalView Disk). Runs threshold tells start wal base own h.state (view h.disk)) (sym same)
         (runs_beside own own old.state roomy (view old.disk) refl refl refl refl refl
         (subst (λ (h : JournalView Disk). StandsFor tells own h.state (view h.disk)) same (keeps own r.stands))
         (λ b was. subst (λ (h : JournalView Disk). KeepsBase tells b h.state (view h.disk)) same (keeps_base b was)) r)
@@ -117,10 +121,10 @@ module _ (tells : Bool) (start : DiskView) (wal base : ℕ) where
     -- a record was added
     pub runs_pushed : (added : Batch) (sync : Bool) → Pushes added sync old.state new.state → new.disk ≡ old.disk
         → AddsRecord tells view added old new → KeepsBases tells view old new
-        → Runs tells start wal base own old.state (view old.disk) → Runs tells start wal base (own ++ added ∷ []) new.state (view new.disk)
+        → Runs threshold tells start wal base own old.state (view old.disk) → Runs threshold tells start wal base (own ++ added ∷ []) new.state (view new.disk)
     runs_pushed added sync pushes disk keeps keeps_base r =
         let e = pushes.new_is in
-        subst (λ (d : Disk). Runs tells start wal base (own ++ added ∷ []) new.state (view d)) (sym disk)
+        subst (λ (d : Disk). Runs threshold tells start wal base (own ++ added ∷ []) new.state (view d)) (sym disk)
         (runs_beside own (own ++ added ∷ []) old.state new.state (view old.disk) (ap (λ (s : State). s.wal) e)
         (ap (λ (s : State). s.base) e) (ap (λ (s : State). s.threshold) e) (ap (λ (s : State). s.dead) e)
         (ap (λ (s : State). s.segments) e)
@@ -137,17 +141,17 @@ pushes_over old mid new spare added sync same pushes =
     record { start = p.start; records = p.records; next = p.next; want = p.want; new_is = p.new_is }
 
 -- no batch came
-pub runs_on : (tells : Bool) (old new : State) (before after : DiskView) → RunsStill tells old before new after → RunsOn tells old before new after
-runs_on tells old new before after still start wal first own r =
-    ([], subst (λ (bs : List Batch). Runs tells start wal first bs new after) (sym (append-nil own)) (still start wal first own r))
+pub runs_on : (threshold : ℕ) (tells : Bool) (old new : State) (before after : DiskView) → RunsStill threshold tells old before new after → RunsOn threshold tells old before new after
+runs_on threshold tells old new before after still start wal first own r =
+    ([], subst (λ (bs : List Batch). Runs threshold tells start wal first bs new after) (sym (append-nil own)) (still start wal first own r))
 
 -- one after another
-pub runs_then : (tells : Bool) (old mid new : State) (before between after : DiskView) → RunsOn tells old before mid between
-    → RunsOn tells mid between new after → RunsOn tells old before new after
-runs_then tells old mid new before between after one two start wal first own r =
+pub runs_then : (threshold : ℕ) (tells : Bool) (old mid new : State) (before between after : DiskView) → RunsOn threshold tells old before mid between
+    → RunsOn threshold tells mid between new after → RunsOn threshold tells old before new after
+runs_then threshold tells old mid new before between after one two start wal first own r =
     let a = one start wal first own r in
     let b = two start wal first (own ++ a.0) a.1 in
-    (a.0 ++ b.0, subst (λ (bs : List Batch). Runs tells start wal first bs new after) (append_assoc own a.0 b.0) b.1)
+    (a.0 ++ b.0, subst (λ (bs : List Batch). Runs threshold tells start wal first bs new after) (append_assoc own a.0 b.0) b.1)
 
 -- ---- the end
 
@@ -161,7 +165,8 @@ elsewhere_apart wal index synced (w ∷ ws) p joined elsewhere = (
   elsewhere_apart wal (suc index) (max synced w.synced) ws p joined.2 elsewhere,
 )
 
-module _ (tells : Bool) (start : DiskView) (wal base : ℕ) (own : List Batch) (state : State) (v : DiskView) (r : Runs tells start wal base own state v) where
+module _ (threshold : ℕ) (tells : Bool) (start : DiskView) (wal base : ℕ) (own : List Batch) (state : State) (v : DiskView)
+    (r : Runs threshold tells start wal base own state v) where
   pub others_same : IsTrue tells → OthersSame wal (files start) (files v)
   others_same told p elsewhere =
       r.others told p (not_theirs state.segments p (elsewhere_apart state.wal 0 0 state.segments p r.stands.joined
@@ -187,10 +192,10 @@ module _ (tells : Bool) (start : DiskView) (wal base : ℕ) (own : List Batch) (
     dead : IsTrue died → state.dead ≢ None
     dead d none = let clash : IsTrue (is_some {T = DeadMark} None) = subst (λ (o : Option DeadMark). IsTrue (is_some o)) none (subst IsTrue died_is d) in cc
 
-    ten : state.dead ≢ None → length state.segments ≡ 10
+    ten : state.dead ≢ None → length state.segments ≡ SEGMENTS_MAX
     ten dead = go state.dead refl
       where
-        go : (o : Option DeadMark) → state.dead ≡ o → length state.segments ≡ 10
+        go : (o : Option DeadMark) → state.dead ≡ o → length state.segments ≡ SEGMENTS_MAX
         go None is = absurd (dead is)
         go (Some mark) is = (sound.dead mark is).all
 
@@ -223,7 +228,7 @@ module _ (tells : Bool) (start : DiskView) (wal base : ℕ) (own : List Batch) (
       | no none ↦ omega (arith, none)
     ]
 
-    pub has_ended : HasEnded tells start wal base own end v
+    pub has_ended : HasEnded threshold tells start wal base own end v
     has_ended = record {
       ends = ends;
       of = record {
@@ -231,7 +236,7 @@ module _ (tells : Bool) (start : DiskView) (wal base : ℕ) (own : List Batch) (
         stands = r.stands;
         wal_is = r.wal_is;
         base_is = r.base_is;
-        threshold_is = r.threshold;
+        threshold_is = r.threshold_is;
         acked_is = refl;
         segments_is = refl;
         died_is = died_is;

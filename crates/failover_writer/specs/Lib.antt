@@ -11,3 +11,4 @@ pub mod Moves
 pub mod Inside
 pub mod Closing
 pub mod Theorems
+pub mod Running

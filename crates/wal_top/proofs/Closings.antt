@@ -1,4 +1,5 @@
 -- What a commit and a closing leave of a replay in its course.
+use Rattle.wal_top.specs.declared.replay.TheConstants.{THRESHOLD}
 use Rattle.std.specs.Prelude.{is_some}
 use Rattle.std.proofs.Common.{◌≡◌, ℕ, ◌+◌, ◌≤◌, Bool, true, false, List, [], ◌∷◌, ◌++◌, length, Option, None, refl, sym, ap, ◌∙◌, subst, arith}
 use Rattle.wal_base.specs.declared.entry.Entry.{Entry}
@@ -13,11 +14,11 @@ use Rattle.failover_writer.specs.declared.fault.JournalFault.TheVariants as faul
 use Rattle.failover_writer.specs.Answered.{IsMarked}
 use Rattle.failover_writer.specs.Sound.{IsSoundJournal}
 use Rattle.failover_writer.specs.State.{State, len, acked}
-use Rattle.wal_top.specs.declared.replies.JournalEnd.{JournalEnd}
+use Rattle.failover_writer.specs.declared.fault.JournalEnd.{JournalEnd}
 use Rattle.wal_top.specs.Printing.{commit_line, end_line}
-use Rattle.wal_top.specs.Journaling.{Runs, RunsStill, HasEnded}
+use Rattle.failover_writer.specs.Running.{Runs, RunsStill, HasEnded}
 use Rattle.wal_top.specs.Doing.{numbered_behind, Stage, Logs, Commits, Closes, EndsRun}
-use Rattle.wal_top.proofs.Running.{len_is, has_ended}
+use Rattle.failover_writer.proofs.Laws.{len_is, has_ended}
 
 -- a journal with the mark of it is dead
 pub marked_dead : (state : State) (fault : JournalFault) (side : Side) (count : ℕ) → fault ≡ faults.Dead side count → IsMarked state fault
@@ -30,7 +31,7 @@ pub unmarked_lives : (state : State) → state.dead ≡ None → false ≡ is_so
 unmarked_lives state lives = ap (λ (o : Option DeadMark). is_some o) (sym lives)
 
 pub closes_stage : (tells died : Bool) (batches : List Batch) (text : List ℕ) (limited : Bool) (old new : State) (before after : DiskView)
-    → RunsStill tells old before new after
+    → RunsStill THRESHOLD tells old before new after
     → (died ≡ false → old.dead ≡ None) → (died ≡ is_some new.dead) → (died ≡ false → acked new ≡ len new) → (died ≡ false → NothingInFlight after)
     → Closes tells died (record { batches = batches; journal = old; view = before; text = text; limited = limited })
     (record { batches = batches; journal = new; view = after; text = text; limited = limited })
@@ -41,7 +42,7 @@ closes_stage tells died batches text limited old new before after runs lives dea
   lives = lives;
   ended = λ sound start wal first own r.
       let now = runs start wal first own r in
-      (len_is tells own new after now.stands, has_ended tells start wal first own new after now sound died dead all rests);
+      (len_is tells own new after now.stands, has_ended THRESHOLD tells start wal first own new after now sound died dead all rests);
 }
 
 -- the last line after a closing
@@ -65,7 +66,7 @@ ends_run tells died old mid acked_now begun visible count text c sound acked_is 
           ∙ ap (λ (n : ℕ). old.text ++ end_line n count end) (visible_is ∙ ap (end_after NUMBER_FIRST) c.batches)
           ∙ ap (λ (n : ℕ). old.text ++ end_line (end_after NUMBER_FIRST old.batches) n end) count_is;
       ended = λ start wal first own r. let e = c.ended sound start wal first own r
-          in (e.0, subst (λ (x : JournalEnd). HasEnded tells start wal first own x mid.view) same e.1);
+          in (e.0, subst (λ (x : JournalEnd). HasEnded THRESHOLD tells start wal first own x mid.view) same e.1);
     }
 
 -- ---- a commit
@@ -76,7 +77,7 @@ pub commits_stage : (tells : Bool) (entries : List Entry) (old : Stage) (batches
     → batches ≡ old.batches ++ numbered_behind old.batches entries ∷ [] → numbered ≡ numbered_behind old.batches entries
     → first ≡ numbered.first → count ≡ count_of numbered.entries → text ≡ old.text ++ commit_line 0 first count
     → Logs numbered old.journal old.view journal view → ((start : DiskView) (wal number : ℕ) (own : List Batch)
-    → Runs tells start wal number own old.journal old.view → Runs tells start wal number (own ++ numbered ∷ []) journal view)
+    → Runs THRESHOLD tells start wal number own old.journal old.view → Runs THRESHOLD tells start wal number (own ++ numbered ∷ []) journal view)
     → Commits tells entries old (record { batches = batches; journal = journal; view = view; text = text; limited = old.limited })
 commits_stage tells entries old batches journal view text numbered first count lives room added is first_is count_is text_is logs runs = record {
   lives = lives;
@@ -87,5 +88,5 @@ commits_stage tells entries old batches journal view text numbered first count l
       (count_is ∙ ap (λ (b : Batch). count_of b.entries) is);
   limited = refl;
   logs = subst (λ (b : Batch). Logs b old.journal old.view journal view) is logs;
-  runs = λ start wal number own r. subst (λ (b : Batch). Runs tells start wal number (own ++ b ∷ []) journal view) is (runs start wal number own r);
+  runs = λ start wal number own r. subst (λ (b : Batch). Runs THRESHOLD tells start wal number (own ++ b ∷ []) journal view) is (runs start wal number own r);
 }

@@ -14,7 +14,7 @@ use Rattle.wal_recovery.specs.Answers.{IsRefusedBy}
 use Rattle.wal_recovery.proofs.Laws.{recovers_once, recovered_or_refused, lenient_or_refused}
 use Rattle.disk_face.specs.declared.names.TheConstants.{WAL_MAX}
 use Rattle.wal_top.specs.declared.script.Act.{Act}
-use Rattle.wal_top.specs.declared.replies.JournalEnd.{JournalEnd}
+use Rattle.failover_writer.specs.declared.fault.JournalEnd.{JournalEnd}
 use Rattle.wal_top.specs.declared.status.Status.{Status}
 use Rattle.wal_top.specs.declared.status.Status.TheVariants.{Done, Usage, Script, Read, Write, Disk, Refused, NoMemory, Limit}
 use Rattle.wal_top.specs.Call.{Invocation, Rises, HasCalmSource, HasCalmDisk}

@@ -1,4 +1,5 @@
 -- What a replay does after a recovery, told of the disk as it was before.
+use Rattle.wal_top.specs.declared.replay.TheConstants.{THRESHOLD}
 use Rattle.batch_repr.specs.declared.limits.TheConstants.{NUMBER_FIRST}
 use Rattle.std.proofs.Common.{◌≡◌, ◌⊎◌, inl, inr, ℕ, suc, ◌≤◌, Bool, true, false, List, [], length, Option, Some, None, IsTrue, refl, sym, ap, ◌∙◌, arith, subst}
 use Rattle.batch_repr.specs.declared.batch.Batch.{Batch}
@@ -17,11 +18,10 @@ use Rattle.wal_recovery.specs.Listing.{Stored, StandsIn, name_in, IsNextWal}
 use Rattle.wal_recovery.specs.Recovering.{Recovers}
 use Rattle.wal_recovery.specs.Resting.{AreSegmentsStable, IsAsOrSynced, OnlySynced}
 use Rattle.wal_top.specs.declared.script.Act.{Act}
-use Rattle.wal_top.specs.declared.replies.JournalEnd.{JournalEnd}
+use Rattle.failover_writer.specs.declared.fault.JournalEnd.{JournalEnd}
 use Rattle.wal_top.specs.declared.status.Status.{Status}
 use Rattle.disk_face.specs.declared.names.TheConstants.{WAL_MAX}
-use Rattle.wal_top.specs.Log.{OthersOnlySynced, PollsLeft, EndsAs, LogsBatches}
-use Rattle.wal_top.specs.Journaling.{OthersSame, HasEnded}
+use Rattle.failover_writer.specs.Running.{OthersOnlySynced, PollsLeft, EndsAs, LogsBatches, OthersSame, HasEnded}
 use Rattle.wal_top.specs.Outcomes.{ReplaysActs}
 use Rattle.wal_top.specs.Doing.{ReplaysOver}
 
@@ -67,7 +67,7 @@ module _ (old mid new : DiskView) (wal : ℕ) (tells : Bool) (only : IsTrue tell
   others_stay same told p elsewhere = subst (IsAsOrSynced (files old p)) (sym (same told p elsewhere)) (only told p)
 
   module _ (base batches : List Batch) (end : JournalEnd) (goes : GoesOn old mid)
-      (ended : HasEnded tells mid wal (end_after NUMBER_FIRST base) batches end new) where
+      (ended : HasEnded THRESHOLD tells mid wal (end_after NUMBER_FIRST base) batches end new) where
     rose_since : FaultsRose mid new → FaultsRose old new
     rose_since (side, rose) = (side, rose_later (old.faults side) (mid.faults side) (new.faults side) (goes.faults side) rose)
 

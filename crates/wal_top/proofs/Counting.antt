@@ -11,7 +11,7 @@ use Rattle.batch_repr.specs.Batches.{count_of, end_of, IsContiguous, end_after}
 use Rattle.wal_top.proofs.Numbering.{end_after-append}
 use Rattle.wal_top.specs.declared.script.Act.{Act}
 use Rattle.wal_top.specs.declared.script.Act.TheVariants.{Commit, Get}
-use Rattle.wal_top.specs.declared.replies.JournalEnd.{JournalEnd}
+use Rattle.failover_writer.specs.declared.fault.JournalEnd.{JournalEnd}
 use Rattle.wal_top.specs.Replay.{committed, numbers_taken, visible_after, Answers, numbered, limited, dead, read, StaysDead, AnswersAll, IsReplayText, AllCommitted, LacksBatch}
 
 -- ---- all numbers

@@ -1,4 +1,5 @@
 -- A replay that goes on act by act: whatever batches follow, the acts so far are answered by the text so far, and the journal has the batches so far.
+use Rattle.wal_top.specs.declared.replay.TheConstants.{THRESHOLD}
 use Rattle.std.proofs.Common.{◌≡◌, ◌≢◌, ℕ, suc, ◌+◌, ◌<◌, ◌≤◌, Bool, true, false, List, [], ◌∷◌, ◌++◌, length, take, map, Option, Some, None, refl, sym, ap, ◌∙◌, arith, append_assoc, subst}
 use Rattle.std.specs.Prelude.{slice_get, is_some}
 use Rattle.std.specs.List.{filter_map}
@@ -12,11 +13,11 @@ use Rattle.failover_writer.specs.declared.fault.DeadMark.{DeadMark}
 use Rattle.failover_writer.specs.State.{State, len}
 use Rattle.wal_top.specs.declared.script.Act.{Act}
 use Rattle.wal_top.specs.declared.script.Act.TheVariants.{Commit, Get}
-use Rattle.wal_top.specs.declared.replies.JournalEnd.{JournalEnd}
+use Rattle.failover_writer.specs.declared.fault.JournalEnd.{JournalEnd}
 use Rattle.wal_top.specs.declared.status.Status.{Status}
 use Rattle.wal_top.specs.Printing.{commit_line, limit_line, dead_line, get_line, end_line}
 use Rattle.wal_top.specs.Replay.{committed, visible_after, Answers, numbered, limited, dead, read, StaysDead, AnswersAll, LacksBatch}
-use Rattle.wal_top.specs.Journaling.{Runs}
+use Rattle.failover_writer.specs.Running.{Runs}
 use Rattle.wal_top.specs.Doing.{numbered_behind, Stage, Commits, OnlyReplies, DoesCommit, commits, past, died, DoesGet, DoesAct, DoesAll, DoesRun, IsShort, EndsRun, IsBegun, ReplaysOver, status_after}
 use Rattle.wal_top.specs.Doing as doing
 
@@ -91,7 +92,7 @@ pub record GoesOn (tells : Bool) (base : List Batch) (start : DiskView) (wal : �
   pub acts_are : acts ≡ front ++ rest
   pub own : List Batch
   pub store_is : stage.batches ≡ base ++ own
-  pub runs : Runs tells start wal (end_after NUMBER_FIRST base) own stage.journal stage.view
+  pub runs : Runs THRESHOLD tells start wal (end_after NUMBER_FIRST base) own stage.journal stage.view
   pub answered : (more : List Batch) → AnswersAll (stage.batches ++ more) false (is_dead stage.journal) (length base) front (length stage.batches) stage.text
   pub short : stage.journal.dead ≡ None → IsShort stage.limited front own
 
@@ -209,8 +210,8 @@ module _ (tells : Bool) (base : List Batch) (start : DiskView) (wal : ℕ) (acts
     acts_are = acts_split;
     own = g.own;
     store_is = o.batches ∙ g.store_is;
-    runs = subst (λ (s : State). Runs tells start wal (end_after NUMBER_FIRST base) g.own s new.view) (sym o.journal)
-        (subst (λ (v : DiskView). Runs tells start wal (end_after NUMBER_FIRST base) g.own old.journal v) (sym o.view) g.runs);
+    runs = subst (λ (s : State). Runs THRESHOLD tells start wal (end_after NUMBER_FIRST base) g.own s new.view) (sym o.journal)
+        (subst (λ (v : DiskView). Runs THRESHOLD tells start wal (end_after NUMBER_FIRST base) g.own old.journal v) (sym o.view) g.runs);
     answered = λ more.
         subst (λ (l : List ℕ). AnswersAll (new.batches ++ more) false (is_dead new.journal) (length base) (g.front ++ act ∷ [])
         (length new.batches) l) (sym o.reply)

@@ -10,7 +10,7 @@ use Rattle.wal_top.specs.declared.reading.TheConstants.{SCRIPT_MAX}
 use Rattle.wal_top.specs.Call.{Invocation, Stays}
 use Rattle.wal_top.specs.Words.{IsReplay, StartsOperations}
 use Rattle.wal_top.specs.Reading.{TookAtMost}
-use Rattle.wal_top.specs.Log.{OthersOnlySynced}
+use Rattle.failover_writer.specs.Running.{OthersOnlySynced}
 use Rattle.wal_top.specs.Run.{WritesNoJournal, Leaves}
 use Rattle.wal_top.proofs.Taking.{took_none}
 

@@ -1,7 +1,6 @@
 mod Examples
 mod Limits
 mod OneScript
-mod Running
 mod Closings
 mod Telling
 mod Saying

@@ -1,4 +1,5 @@
 -- What a journal tells of the disk that a script stalls, told of the disk within.
+use Rattle.wal_top.specs.declared.replay.TheConstants.{THRESHOLD}
 use Rattle.std.proofs.Common.{◌≡◌, ◌⊎◌, inl, inr, ℕ, Bool, List, length, Option, IsTrue, sym, ap, ◌∙◌, arith, subst}
 use Rattle.batch_repr.specs.declared.batch.Batch.{Batch}
 use Rattle.batch_repr.specs.Batches.{end_after}
@@ -12,13 +13,11 @@ use Rattle.failover_writer.specs.State.{State}
 use Rattle.failover_writer.specs.Answered.{FaultsRose}
 use Rattle.failover_writer.specs.Keeping.{IsOpening, RecoversTo}
 use Rattle.wal_top.specs.declared.script.Act.{Act}
-use Rattle.wal_top.specs.declared.replies.JournalEnd.{JournalEnd}
+use Rattle.failover_writer.specs.declared.fault.JournalEnd.{JournalEnd}
 use Rattle.wal_top.specs.declared.status.Status.{Status}
-use Rattle.wal_top.specs.Log.{PollsLeft, EndsAs}
-use Rattle.failover_writer.proofs.Laws.{same_stands}
-use Rattle.wal_top.specs.Journaling.{Runs, OthersSame, ReadsAsImage, HasEnded}
+use Rattle.failover_writer.specs.Running.{PollsLeft, EndsAs, Runs, OthersSame, ReadsAsImage, HasEnded}
+use Rattle.failover_writer.proofs.Laws.{same_stands, others_same}
 use Rattle.wal_top.specs.Doing.{ReplaysOver}
-use Rattle.wal_top.proofs.Running.{others_same}
 
 pub told_files : (inner outer : DiskView) → TellsOf inner outer → files outer ≡ files inner
 told_files inner outer t = ap (λ (h : ℕ → Files). h outer.clock) t.history ∙ ap inner.history t.clock
@@ -77,8 +76,8 @@ module _ (old start v new : DiskView) (before : TellsOf old start) (polls : (sid
   others_told wal others =
       subst (λ (fs : Files). OthersSame wal fs (files new)) was_files (subst (OthersSame wal (files start)) now_files others)
 
-  ended_told : (tells : Bool) (wal first : ℕ) (own : List Batch) (end : JournalEnd) → HasEnded tells start wal first own end v
-      → HasEnded tells old wal first own end new
+  ended_told : (tells : Bool) (wal first : ℕ) (own : List Batch) (end : JournalEnd) → HasEnded THRESHOLD tells start wal first own end v
+      → HasEnded THRESHOLD tells old wal first own end new
   ended_told tells wal first own end e = record {
     ends = ends_told (length own) end e.ends;
     of = record {
@@ -113,6 +112,6 @@ module _ (old start v new : DiskView) (before : TellsOf old start) (polls : (sid
     ended = ended_told tells wal (end_after _ base) r.batches r.end r.ended;
   }
 
-  pub runs_others : (tells : Bool) (wal first : ℕ) (own : List Batch) (state : State) → Runs tells start wal first own state v
+  pub runs_others : (tells : Bool) (wal first : ℕ) (own : List Batch) (state : State) → Runs THRESHOLD tells start wal first own state v
       → IsTrue tells → OthersSame wal (files old) (files new)
-  runs_others tells wal first own state r told = others_told wal (others_same tells start wal first own state v r told)
+  runs_others tells wal first own state r told = others_told wal (others_same THRESHOLD tells start wal first own state v r told)

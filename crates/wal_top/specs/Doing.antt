@@ -1,4 +1,5 @@
 -- How a replay goes on, act by act, and what it comes to. Nothing of it is seen from outside.
+use Rattle.wal_top.specs.declared.replay.TheConstants.{THRESHOLD}
 use Rattle.std.specs.Prelude.{◌≡◌, ◌≢◌, ℕ, ◌+◌, ◌<◌, ◌≤◌, Bool, true, false, MatchBool, List, [], ◌∷◌, ◌++◌, length, None, Result, Err}
 use Rattle.wal_base.specs.declared.entry.Entry.{Entry}
 use Rattle.batch_repr.specs.declared.batch.Batch.{Batch}
@@ -14,12 +15,12 @@ use Rattle.failover_writer.specs.Moves.{Pushes}
 use Rattle.failover_writer.specs.Sound.{IsSoundJournal}
 use Rattle.wal_top.specs.declared.script.Act.{Act}
 use Rattle.wal_top.specs.declared.script.Act.TheVariants.{Commit, Get}
-use Rattle.wal_top.specs.declared.replies.JournalEnd.{JournalEnd}
+use Rattle.failover_writer.specs.declared.fault.JournalEnd.{JournalEnd}
 use Rattle.wal_top.specs.declared.status.Status.{Status}
 use Rattle.wal_top.specs.declared.status.Status.TheVariants.{Done, Disk, Limit}
 use Rattle.wal_top.specs.Printing.{commit_line, limit_line, dead_line, get_line, end_line}
 use Rattle.wal_top.specs.Replay.{IsReplayText, AllCommitted, LacksBatch}
-use Rattle.wal_top.specs.Journaling.{Runs, HasEnded, RunsOn, RunsStill}
+use Rattle.failover_writer.specs.Running.{Runs, HasEnded, RunsOn, RunsStill}
 
 -- the batch of these entries, numbered after the others
 abbrev pub numbered_behind : List Batch → List Entry → Batch
@@ -66,8 +67,8 @@ pub record Commits (tells : Bool) (entries : List Entry) (old new : Stage) : Typ
   pub reply : new.text ≡ old.text ++ commit_line 0 (end_after NUMBER_FIRST old.batches) (count_of entries)
   pub limited : new.limited ≡ old.limited
   pub logs : Logs (numbered_behind old.batches entries) old.journal old.view new.journal new.view
-  pub runs : (start : DiskView) (wal first : ℕ) (own : List Batch) → Runs tells start wal first own old.journal old.view
-      → Runs tells start wal first (own ++ numbered_behind old.batches entries ∷ []) new.journal new.view
+  pub runs : (start : DiskView) (wal first : ℕ) (own : List Batch) → Runs THRESHOLD tells start wal first own old.journal old.view
+      → Runs THRESHOLD tells start wal first (own ++ numbered_behind old.batches entries ∷ []) new.journal new.view
 
 -- Nothing but a reply is added.
 pub record OnlyReplies (line : List ℕ) (limited : Bool) (old new : Stage) : Type 0 where
@@ -102,8 +103,8 @@ pub record Closes (tells died : Bool) (old new : Stage) : Type 0 where
   pub text : new.text ≡ old.text
   pub limited : new.limited ≡ old.limited
   pub lives : died ≡ false → old.journal.dead ≡ None
-  pub ended : IsSoundJournal new.journal → (start : DiskView) (wal first : ℕ) (own : List Batch) → Runs tells start wal first own old.journal old.view
-      → (len new.journal ≡ length own) × HasEnded tells start wal first own
+  pub ended : IsSoundJournal new.journal → (start : DiskView) (wal first : ℕ) (own : List Batch) → Runs THRESHOLD tells start wal first own old.journal old.view
+      → (len new.journal ≡ length own) × HasEnded THRESHOLD tells start wal first own
       (record { acked = acked new.journal; segments = length new.journal.segments; died = died }) new.view
 
 -- The journal was closed, or died, and the last line says so.
@@ -114,8 +115,8 @@ pub record EndsRun (tells : Bool) (end : JournalEnd) (old new : Stage) : Type 0 
   pub numbered : IsContiguous NUMBER_FIRST old.batches
   pub within : end_after NUMBER_FIRST old.batches ≤ NUMBER_MAX
   pub reply : new.text ≡ old.text ++ end_line (end_after NUMBER_FIRST old.batches) (len new.journal) end
-  pub ended : (start : DiskView) (wal first : ℕ) (own : List Batch) → Runs tells start wal first own old.journal old.view
-      → (len new.journal ≡ length own) × HasEnded tells start wal first own end new.view
+  pub ended : (start : DiskView) (wal first : ℕ) (own : List Batch) → Runs THRESHOLD tells start wal first own old.journal old.view
+      → (len new.journal ≡ length own) × HasEnded THRESHOLD tells start wal first own end new.view
 
 -- The acts were done one after another.
 pub data DoesAll (tells : Bool) (first : Stage) : List Act → Stage → Type 0 where
@@ -142,7 +143,7 @@ pub record IsBegun (tells : Bool) (base : List Batch) (start : DiskView) (wal : 
   pub text : stage.text ≡ []
   pub limited : stage.limited ≡ false
   pub unasked : stage.journal.want ≡ 0
-  pub runs : Runs tells start wal (end_after NUMBER_FIRST base) [] stage.journal stage.view
+  pub runs : Runs THRESHOLD tells start wal (end_after NUMBER_FIRST base) [] stage.journal stage.view
 
 -- What a replay of the acts over the base comes to on a disk: its text, how its journal ended, and what that leaves.
 pub record ReplaysOver (base : List Batch) (acts : List Act) (wal : ℕ) (tells : Bool) (old new : DiskView) (status : Status) (text : List ℕ) : Type 0 where
@@ -152,17 +153,17 @@ pub record ReplaysOver (base : List Batch) (acts : List Act) (wal : ℕ) (tells 
   pub status_is : status ≡ status_after end.died limited
   pub answers : IsReplayText base acts batches end text
   pub short : end.died ≡ false → IsShort limited acts batches
-  pub ended : HasEnded tells old wal (end_after NUMBER_FIRST base) batches end new
+  pub ended : HasEnded THRESHOLD tells old wal (end_after NUMBER_FIRST base) batches end new
 
 -- ---- what a course promises
 
 -- The run goes on, and some batches may have come after the others.
 abbrev pub GoesOnRunning : Bool → Stage → Stage → Type 0
-GoesOnRunning tells old new = RunsOn tells old.journal old.view new.journal new.view
+GoesOnRunning tells old new = RunsOn THRESHOLD tells old.journal old.view new.journal new.view
 
 -- The run goes on with the same batches.
 abbrev pub StaysRunning : Bool → Stage → Stage → Type 0
-StaysRunning tells old new = RunsStill tells old.journal old.view new.journal new.view
+StaysRunning tells old new = RunsStill THRESHOLD tells old.journal old.view new.journal new.view
 
 -- The run ended, and this is its status.
 abbrev pub EndsAnswering : Bool → Stage → Stage → Status → Type 0

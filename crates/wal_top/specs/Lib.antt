@@ -5,9 +5,7 @@ pub mod Cutting
 pub mod Script
 pub mod Printing
 pub mod Replay
-pub mod Log
 pub mod Kept
-pub mod Journaling
 pub mod Reading
 pub mod Call
 pub mod Outcomes

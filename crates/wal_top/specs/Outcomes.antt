@@ -1,4 +1,5 @@
 -- What a run has to say, by its status (docs/FORMATS.md, "Statuses").
+use Rattle.wal_top.specs.declared.replay.TheConstants.{THRESHOLD}
 use Rattle.batch_repr.specs.declared.limits.TheConstants.{NUMBER_FIRST}
 use Rattle.std.specs.Prelude.{◌≡◌, ℕ, ◌<◌, Bool, false, IsTrue, List, ◌++◌, length, Option}
 use Rattle.wal_base.specs.Faults.{Rose}
@@ -21,13 +22,13 @@ use Rattle.wal_recovery.specs.Answers.{IsRefusedBy, IsRefusal}
 use Rattle.wal_top.specs.declared.status.Status.{Status}
 use Rattle.wal_top.specs.declared.status.Status.TheVariants.{Done, Usage, Script, Read, Write, Disk, Refused, NoMemory, Limit}
 use Rattle.wal_top.specs.declared.script.Act.{Act}
-use Rattle.wal_top.specs.declared.replies.JournalEnd.{JournalEnd}
+use Rattle.failover_writer.specs.declared.fault.JournalEnd.{JournalEnd}
 use Rattle.disk_face.specs.declared.names.TheConstants.{WAL_MAX}
 use Rattle.wal_top.specs.Call.{Change, Invocation, Stays, Rises}
 use Rattle.wal_top.specs.Words.{IsCommand, IsReplay, IsRecover, IsDump, RecoversIn, ReadsSource}
 use Rattle.wal_top.specs.Printing.{usage_text, read_fault_text, too_long_text, bad_line_text, disk_fault_text, refusal_text, limit_wal_text, segments_text}
 use Rattle.wal_top.specs.Replay.{IsReplayText, AllCommitted, LacksBatch}
-use Rattle.wal_top.specs.Log.{EndsAs, EndsOf, LogsBatches}
+use Rattle.failover_writer.specs.Running.{EndsAs, EndsOf, LogsBatches}
 use Rattle.wal_top.specs.Reading.{ReadsScript, ReadsTooMuch, ReadsBadLine}
 
 -- A script of the source was refused with this text: for its length, or for its first bad line.
@@ -51,7 +52,7 @@ pub record ReplaysActs (acts : List Act) (tells : Bool) (old new : DiskView) (ba
   pub ends : EndsAs (length batches) end old new
   pub wal : ℕ
   pub next : IsTrue tells → IsNextWal (directories old) wal
-  pub of : EndsOf tells wal (end_after NUMBER_FIRST base) batches end new
+  pub of : EndsOf THRESHOLD tells wal (end_after NUMBER_FIRST base) batches end new
   pub logs : LogsBatches tells base batches end.acked old new
 
 -- The accepted script of the source was replayed so.

@@ -7,7 +7,7 @@ use Rattle.batch_repr.specs.declared.limits.TheConstants.{NUMBER_FIRST, NUMBER_M
 use Rattle.batch_repr.specs.Batches.{count_of, IsContiguous, end_after, answer}
 use Rattle.wal_top.specs.declared.script.Act.{Act}
 use Rattle.wal_top.specs.declared.script.Act.TheVariants.{Commit, Get}
-use Rattle.wal_top.specs.declared.replies.JournalEnd.{JournalEnd}
+use Rattle.failover_writer.specs.declared.fault.JournalEnd.{JournalEnd}
 use Rattle.wal_top.specs.Printing.{commit_line, limit_line, dead_line, get_line, end_line}
 
 -- the entries that an act commits

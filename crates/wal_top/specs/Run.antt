@@ -21,7 +21,7 @@ use Rattle.wal_top.specs.Call.{Change, change_in, Invocation, Rises, Stays, HasC
 use Rattle.wal_top.specs.Words.{IsCommand, IsReplay, IsRecover, IsDump, RecoversIn, ReadsSource, HasJournal, StartsOperations}
 use Rattle.wal_top.specs.Reading.{TookAtMost, TellsScript, TellsNoScript}
 use Rattle.wal_top.specs.Replay.{numbers_taken}
-use Rattle.wal_top.specs.Log.{OthersOnlySynced}
+use Rattle.failover_writer.specs.Running.{OthersOnlySynced}
 use Rattle.wal_top.specs.Outcomes.{HasToSay}
 
 -- a run: what it has to go by, the bytes written to the sink, and the counts of its faults and shortages

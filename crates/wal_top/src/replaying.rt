@@ -8,7 +8,7 @@ ghost use Rattle.wal_recovery.specs.Listing.{IsNextWal};
 ghost use Rattle.wal_top.specs.declared.reading.TheConstants.{SCRIPT_MAX};
 ghost use Rattle.wal_top.specs.declared.status.Status.TheVariants as statuses;
 ghost use Rattle.wal_top.specs.Printing.{bad_line_text};
-ghost use Rattle.wal_top.specs.Log.{OthersOnlySynced};
+ghost use Rattle.failover_writer.specs.Running.{OthersOnlySynced};
 ghost use Rattle.wal_top.specs.Call.{change_in};
 ghost use Rattle.wal_top.specs.Parts.{SaysOfActs, SaysOfScript};
 

@@ -3,20 +3,10 @@
 ghost use Rattle.std.specs.Prelude.{◌≡◌, ◌++◌, OnOk, option_map};
 ghost use Rattle.wal_top.specs.Printing.{printed_answer, commit_line, limit_line, dead_line, get_line, end_line};
 
+use failover_writer::JournalEnd;
 use std::alloc::Global;
 use text_lines::put_printed;
 use wal_base::{Buf, NoMemory};
-
-/// How the journal of a run ended.
-#[derive(Clone, Copy, Debug)]
-pub(crate) struct JournalEnd {
-    /// How many of its batches a sync covers.
-    pub(crate) acked: u64,
-    /// How many segments it began.
-    pub(crate) segments: u32,
-    /// Whether it died. Otherwise it was closed.
-    pub(crate) died: bool,
-}
 
 /// Adds the answer to a read.
 fn put_answer(out: &mut Buf, value: Option<&[u8]>) -> Result<(), NoMemory>

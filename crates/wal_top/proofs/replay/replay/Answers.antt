@@ -1,4 +1,5 @@
 -- What the journal tells of the stalled disk is told of the disk within.
+use Rattle.wal_top.specs.declared.replay.TheConstants.{THRESHOLD}
 use Rattle.batch_repr.specs.declared.limits.TheConstants.{NUMBER_FIRST}
 use Rattle.std.proofs.Common.{[], List, sym, subst}
 use Rattle.batch_repr.specs.declared.batch.Batch.{Batch}
@@ -6,7 +7,7 @@ use Rattle.batch_repr.specs.Batches.{end_after}
 use Rattle.disk_face.specs.declared.script_disk.ScriptDisk.{ScriptDisk}
 use Rattle.disk_face.specs.View.{DiskView}
 use Rattle.disk_face.specs.Script.{TellsOf, stalled}
-use Rattle.wal_top.specs.Journaling.{Runs}
+use Rattle.failover_writer.specs.Running.{Runs}
 use Rattle.wal_top.specs.Doing.{ReplaysOver}
 use Rattle.wal_top.proofs.Saying.{ok_map, ok_then}
 use Rattle.wal_top.proofs.Telling.{goes_told, runs_others, replays_told}
@@ -21,7 +22,7 @@ after g c = subst (λ (d : ScriptDisk _). TellsOf (g.D.Disk.view c.into_inner.re
     c.into_inner.ensures.tells
 
 ran : (g : _) (c : goal.After-into_inner g)
-    → (more : List Batch) × Runs g.D.Disk.tells (seen g.D.Disk.view c.new-disk.result) c.args.wal (end_after NUMBER_FIRST c.args.base) more
+    → (more : List Batch) × Runs THRESHOLD g.D.Disk.tells (seen g.D.Disk.view c.new-disk.result) c.args.wal (end_after NUMBER_FIRST c.args.base) more
     c.go-ended.new.self.journal.state (seen g.D.Disk.view c.go-ended.new.self.journal.disk)
 ran g c = c.go-ended.ensures.runs (seen g.D.Disk.view c.new-disk.result) c.args.wal (end_after NUMBER_FIRST c.args.base) [] c.in-Ok.ensures.begins.runs
 

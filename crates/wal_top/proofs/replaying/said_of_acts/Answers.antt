@@ -4,7 +4,7 @@ use Rattle.disk_face.specs.View.{files}
 use Rattle.wal_recovery.specs.declared.reports.Mode.TheVariants.{Strict}
 use Rattle.wal_top.specs.declared.status.Status.TheVariants.{Limit}
 use Rattle.wal_top.specs.Printing.{limit_wal_text}
-use Rattle.wal_top.specs.Log.{OthersOnlySynced}
+use Rattle.failover_writer.specs.Running.{OthersOnlySynced}
 use Rattle.wal_top.specs.Call.{Invocation, change_in}
 use Rattle.wal_top.specs.Outcomes.{HasToSay, read, of_wals}
 use Rattle.wal_top.proofs.Saying.{ok_map, as_told}

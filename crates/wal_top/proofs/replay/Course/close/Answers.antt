@@ -1,12 +1,13 @@
 -- A journal keeps its run while it is closed.
+use Rattle.wal_top.specs.declared.replay.TheConstants.{THRESHOLD}
 use Rattle.std.proofs.Common.{◌≡◌, Bool, true, false, None, ◌∙◌, subst}
 use Rattle.std.specs.Prelude.{IfOk, is_some}
 use Rattle.disk_face.specs.View.{DiskView, NothingInFlight}
 use Rattle.failover_writer.specs.State.{State, len, acked}
-use Rattle.wal_top.specs.Journaling.{RunsStill}
+use Rattle.failover_writer.specs.Running.{RunsStill}
 use Rattle.wal_top.specs.Doing.{InCourse, Closes, stage_of}
 use Rattle.wal_top.proofs.Saying.{ok_is, err_is}
-use Rattle.wal_top.proofs.Running.{runs_further}
+use Rattle.failover_writer.proofs.Laws.{runs_further}
 use Rattle.wal_top.proofs.Closings.{closes_stage, marked_dead, unmarked_lives}
 use Rattle.wal_top.proofs.replay.Course.close.Goals as goal
 use Rattle.wal_top.proofs.replay.Course.close.Goals.{in-Ok, in-Err-Dead, in-Err-NoMemory}
@@ -15,14 +16,14 @@ pub invariant_of-self : goal.invariant_of-self
 invariant_of-self g c = c.close.ensures.lasts.setting.next ∙ c.self.invariant
 
 -- the journal within keeps its run
-still : (g : _) (c : goal.Joined-close g) → RunsStill g.D.Disk.tells c.self.inside.journal.state (g.D.Disk.view c.self.inside.journal.disk) c.close.new.self.state (g.D.Disk.view c.close.new.self.disk)
+still : (g : _) (c : goal.Joined-close g) → RunsStill THRESHOLD g.D.Disk.tells c.self.inside.journal.state (g.D.Disk.view c.self.inside.journal.disk) c.close.new.self.state (g.D.Disk.view c.close.new.self.disk)
 still g c start wal first own r =
     let e = c.close.ensures in
-    runs_further g.D.Disk.tells start wal first g.D.Disk.view own c.self.inside.journal c.close.new.self e.lasts e.survives.keeps_base r
+    runs_further THRESHOLD g.D.Disk.tells start wal first g.D.Disk.view own c.self.inside.journal c.close.new.self e.lasts e.survives.keeps_base r
 
 pub returns-clause-runs : goal.returns-clause-runs
 returns-clause-runs g c =
-    subst (λ (x : InCourse _). RunsStill g.D.Disk.tells x.journal.state (g.D.Disk.view x.journal.disk) c.close.new.self.state (g.D.Disk.view c.close.new.self.disk)) c.self.view_is (still g c)
+    subst (λ (x : InCourse _). RunsStill THRESHOLD g.D.Disk.tells x.journal.state (g.D.Disk.view x.journal.disk) c.close.new.self.state (g.D.Disk.view c.close.new.self.disk)) c.self.view_is (still g c)
 
 pub returns-clause-closes : goal.returns-clause-closes
 returns-clause-closes g c =

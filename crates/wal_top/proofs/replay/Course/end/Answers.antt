@@ -1,17 +1,18 @@
 -- The journal was closed, and its numbers are those of the last line.
+use Rattle.wal_top.specs.declared.replay.TheConstants.{THRESHOLD}
 use Rattle.std.proofs.Common.{sym, subst}
-use Rattle.wal_top.specs.Journaling.{RunsStill}
+use Rattle.failover_writer.specs.Running.{RunsStill}
 use Rattle.wal_top.specs.Doing.{InCourse, stage_of, Closes}
 use Rattle.wal_top.proofs.Closings.{ends_run}
 use Rattle.wal_top.proofs.replay.Course.end.Goals as goal
 
 pub returns-in_err-put_end-clause-runs : goal.returns-in_err-put_end-clause-runs
 returns-in_err-put_end-clause-runs g c =
-    subst (λ (x : InCourse _). RunsStill g.D.Disk.tells c.args.self.now.journal.state (g.D.Disk.view c.args.self.now.journal.disk) x.journal.state (g.D.Disk.view x.journal.disk)) (sym c.self.view_is) c.close.ensures.runs
+    subst (λ (x : InCourse _). RunsStill THRESHOLD g.D.Disk.tells c.args.self.now.journal.state (g.D.Disk.view c.args.self.now.journal.disk) x.journal.state (g.D.Disk.view x.journal.disk)) (sym c.self.view_is) c.close.ensures.runs
 
 pub returns-clause-runs : goal.returns-clause-runs
 returns-clause-runs g c =
-    subst (λ (x : InCourse _). RunsStill g.D.Disk.tells c.args.self.now.journal.state (g.D.Disk.view c.args.self.now.journal.disk) x.journal.state (g.D.Disk.view x.journal.disk)) (sym c.self.view_is) c.close.ensures.runs
+    subst (λ (x : InCourse _). RunsStill THRESHOLD g.D.Disk.tells c.args.self.now.journal.state (g.D.Disk.view c.args.self.now.journal.disk) x.journal.state (g.D.Disk.view x.journal.disk)) (sym c.self.view_is) c.close.ensures.runs
 
 pub returns-clause-ends : goal.returns-clause-ends
 returns-clause-ends g c =
