@@ -78,7 +78,7 @@ fn count_in(alloc: Global, log: u32, bytes: &[u8]) -> Result<u64, LogError> {
     let mut count = 0u64;
     for record in read_out(alloc, log, bytes)?.records.as_slice() {
         let batch = decode(alloc, record.bytes.as_slice())?;
-        count = count.saturating_add(batch.entries.as_slice().len() as u64);
+        count = count.saturating_add(batch.count());
     }
     Ok(count)
 }
