@@ -1,4 +1,5 @@
 -- What is read of a segment that begins as records were laid.
+use Rattle.crc_chunk.proofs.Laws.{within_segment}
 use Rattle.std.proofs.Common.{◌≡◌, ℕ, suc, ◌+◌, ◌%◌, ◌≤◌, List, [], ◌∷◌, ◌++◌, length, take, drop, refl, sym, ap, ◌∙◌, append_assoc, arith, Bool, false, inl, inr}
 use Rattle.std.proofs.lemmas.List.{length-take, length-drop, length-append, take-take, take_at, take-append-drop, append-nil, map-append}
 use Rattle.crc_chunk.specs.declared.chunk.ChunkKind.{ChunkKind}
@@ -9,7 +10,6 @@ use Rattle.block_record.specs.Framing.{framed, laid}
 use Rattle.block_record.specs.ReadOut.{Link, next_place, chunk_end, IsChain, Spelled, ended, after_link, spelled_from, nothing, bytes_of, ReadsOut, ReadsPrefix}
 use Rattle.block_record.proofs.Fragments.{room_behind}
 use Rattle.block_record.proofs.Laying.{laid-append}
-use Rattle.block_record.proofs.Chains.{within_segment}
 use Rattle.block_record.proofs.Replay.{Outcome, chunks_end, behind, next_is, framed_read, framed_end, Replayed, laid_read, none_left}
 
 one_more : (start : ℕ) (so_far : Spelled) (kind : ChunkKind) (payload : List ℕ) → (extra : List Rec)

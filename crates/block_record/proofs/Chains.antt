@@ -1,4 +1,4 @@
--- A chunk in its block and in its segment, and chains of chunks.
+-- Chains of chunks.
 use Rattle.std.proofs.Common.{◌≡◌, ℕ, suc, ◌+◌, ◌-◌, ◌%◌, ◌≤◌, List, [], ◌∷◌, length, take, drop, refl, sym, ap, subst, ◌∙◌, arith, Bool, true, false, min, nat_lt}
 use Rattle.std.specs.Prelude.{not, ◌==◌, ◌↔◌, IsTrue}
 use Rattle.std.specs.List.{list_any, slice_range}
@@ -6,70 +6,9 @@ use Rattle.std.proofs.lemmas.List.{drop-take, take-take, drop-drop, take_rest, t
 use Rattle.crc_chunk.specs.declared.chunk.ChunkKind.{ChunkKind}
 use Rattle.crc_chunk.specs.declared.chunk.ChunkKind.TheVariants.{Full, First, Middle, Last}
 use Rattle.crc_chunk.specs.Chunk.{chunk, ChunkAt}
-use Rattle.crc_chunk.proofs.Laws.{fields_of, one_chunk}
+use Rattle.crc_chunk.proofs.Laws.{one_chunk, within_segment}
 use Rattle.block_record.specs.Framing.{left_in_block}
 use Rattle.block_record.specs.ReadOut.{Link, MayFollow, leaves_open, next_place, chunk_end, IsChain, IsLongestChain, Spelled, after_link, spelled_from, nothing, ReadsOut}
-use Rattle.block_record.proofs.Fragments.{chunk_len}
-
--- A block, cut out where the segment may end before it or in it.
-pub block_is : (bytes : List ℕ) (front m n : ℕ) → m ≡ min front (length bytes) → n ≡ min (length bytes - m) 32768
-    → take n (take (length bytes - m) (drop m bytes)) ≡ take 32768 (drop front bytes)
-block_is bytes front m n e f =
-    let back : drop m bytes ≡ drop front bytes = ap (λ (k : ℕ). drop k bytes) e ∙ drop_min front bytes in
-    let len : n ≡ min 32768 (length (drop m bytes)) = omega (arith, length-drop m bytes) in
-    ap (take n) (take_rest bytes m) ∙ ap (λ (k : ℕ). take k (drop m bytes)) len ∙ take_min 32768 (drop m bytes) ∙ ap (take 32768) back
-
--- What stands in the block stands in the segment.
-cut_out : (bytes block : List ℕ) (front from n : ℕ) → block ≡ take 32768 (drop front bytes) → from + n ≤ 32768
-    → take n (drop from block) ≡ take n (drop (front + from) bytes)
-cut_out bytes block front from n e fits =
-    let back : List ℕ = drop front bytes in
-    let room : 32768 ≡ from + (32768 - from) = omega arith in
-    ap (λ (t : List ℕ). take n (drop from t)) (e ∙ ap (λ (m : ℕ). take m back) room)
-    ∙ ap (take n) (drop-take from (32768 - from) back)
-    ∙ take-take n (32768 - from) (drop from back) (omega arith)
-    ∙ ap (take n) (drop-drop from front bytes)
-
-same_bytes : (bytes block : List ℕ) (at n : ℕ) → block ≡ take 32768 (drop (at - at % 32768) bytes) → at % 32768 + n ≤ 32768
-    → take n (drop (at % 32768) block) ≡ take n (drop at bytes)
-same_bytes bytes block at n e fits =
-    let place : at - at % 32768 + at % 32768 ≡ at = omega arith in
-    cut_out bytes block (at - at % 32768) (at % 32768) n e fits ∙ ap (λ (m : ℕ). take n (drop m bytes)) place
-
--- A payload, cut out of the block and of the segment.
-pub payload_in_segment : (bytes block : List ℕ) (at from to : ℕ) → block ≡ take 32768 (drop (at - at % 32768) bytes)
-    → from ≡ at % 32768 + 11 → from ≤ to → to ≤ length block
-    → slice_range block from to ≡ slice_range bytes (at + 11) (at - at % 32768 + to)
-payload_in_segment bytes block at from to e place order within =
-    let len : length block ≤ 32768 = omega (arith, ap length e, length-take 32768 (drop (at - at % 32768) bytes)) in
-    let start : at - at % 32768 + from ≡ at + 11 = omega arith in
-    let count : to - from ≡ at - at % 32768 + to - (at + 11) = omega arith in
-    cut_out bytes block (at - at % 32768) from (to - from) e (omega arith)
-    ∙ ap (λ (m : ℕ). take (to - from) (drop m bytes)) start
-    ∙ ap (λ (m : ℕ). take m (drop (at + 11) bytes)) count
-
-pub in_segment : (bytes block : List ℕ) (at log : ℕ) (kind : ChunkKind) (payload : List ℕ) → block ≡ take 32768 (drop (at - at % 32768) bytes)
-    → ChunkAt block (at % 32768) log kind payload → ChunkAt bytes at log kind payload
-in_segment bytes block at log kind payload e h =
-    let all : List ℕ = chunk kind log payload in
-    let fits : at % 32768 + 11 + length payload ≤ 32768 = omega (arith, h.within) in
-    record { stands = record { is = sym (same_bytes bytes block at (length all) e (omega (arith, chunk_len kind log payload))) ∙ h.stands.is }; within = fits }
-
-pub in_block : (bytes block : List ℕ) (at log : ℕ) (kind : ChunkKind) (payload : List ℕ) → block ≡ take 32768 (drop (at - at % 32768) bytes)
-    → ChunkAt bytes at log kind payload → ChunkAt block (at % 32768) log kind payload
-in_block bytes block at log kind payload e h =
-    let all : List ℕ = chunk kind log payload in
-    record {
-      stands = record {
-        is = same_bytes bytes block at (length all) e (omega (arith, h.within, chunk_len kind log payload))
-            ∙ h.stands.is;
-      };
-      within = omega (arith, h.within);
-    }
-
-pub within_segment : {bytes : List ℕ} {at log : ℕ} {kind : ChunkKind} {payload : List ℕ} → ChunkAt bytes at log kind payload
-    → at + 11 + length payload ≤ length bytes
-within_segment h = (fields_of h.stands).fits
 
 -- A longest chain after a chunk that may follow is one with that chunk in front.
 one_longer : {bytes : List ℕ} {log at : ℕ} {is_open : Bool} (link : Link) (links : List Link) → MayFollow is_open link.kind

@@ -1,4 +1,5 @@
 -- A record's fragments one block at a time, and how long a framed record is.
+use Rattle.crc_chunk.proofs.Laws.{chunk_len}
 use Rattle.std.proofs.Common.{◌≡◌, ℕ, zero, suc, ◌+◌, ◌-◌, ◌*◌, ◌%◌, ◌<◌, ◌≤◌, List, ◌∷◌, ◌++◌, length, take, drop, replicate, refl, sym, ap, ◌∙◌, append_assoc, arith, Bool, true, false, nat_lt}
 use Rattle.std.proofs.lemmas.List.{length-take, length-drop, length-append, length-replicate, take_all, drop_all}
 use Rattle.std.proofs.lemmas.Bool.{ltb-true, ltb-false}
@@ -52,11 +53,6 @@ pub first_part : (log at : ℕ) (bytes : List ℕ) → room_at at < length bytes
 first_part log at bytes long =
     first_of log (blocks_for (length (drop (room_at at) bytes))) (take (room_at at) bytes) (drop (room_at at) bytes)
     (some_blocks (length (drop (room_at at) bytes)) (omega (arith, length-drop (room_at at) bytes)))
-
--- a header and the payload
-pub chunk_len : (kind : ChunkKind) (log : ℕ) (payload : List ℕ) → length (chunk kind log payload) ≡ 11 + length payload
-unfolding chunk covered
-chunk_len kind log payload = omega arith
 
 cut_len : (log n : ℕ) (bytes : List ℕ) → suc n ≡ blocks_for (length bytes) → length (later_chunks log (cut (suc n) bytes)) ≡ length bytes + 11 * suc n
 cut_len log zero bytes e = chunk_len Last log (take 32757 bytes) ∙ omega (arith, length-take 32757 bytes)

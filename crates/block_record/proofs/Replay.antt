@@ -6,11 +6,11 @@ use Rattle.std.proofs.lemmas.Bool.{ltb-true}
 use Rattle.crc_chunk.specs.declared.chunk.ChunkKind.{ChunkKind}
 use Rattle.crc_chunk.specs.declared.chunk.ChunkKind.TheVariants.{Full, First, Middle, Last}
 use Rattle.crc_chunk.specs.Chunk.{chunk, ChunkAt}
-use Rattle.crc_chunk.proofs.Laws.{stands_from, one_chunk}
+use Rattle.crc_chunk.proofs.Laws.{chunk_len, one_chunk, stands_from}
 use Rattle.block_record.specs.declared.records.Rec.{Rec}
 use Rattle.block_record.specs.Framing.{left_in_block, room_at, cut, blocks_for, fragments, later_chunks, chunks, padding, framed, laid}
 use Rattle.block_record.specs.ReadOut.{Link, MayFollow, leaves_open, next_place, chunk_end, IsChain, IsLongestChain, Spelled, ended, after_link, spelled_from, nothing, ReadsOut}
-use Rattle.block_record.proofs.Fragments.{chunk_len, no_blocks, room_behind}
+use Rattle.block_record.proofs.Fragments.{no_blocks, room_behind}
 
 -- A chain, or one that is surely the longest.
 abbrev pub Reads : Bool → List ℕ → ℕ → ℕ → Bool → List Link → Type 0

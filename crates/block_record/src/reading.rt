@@ -8,7 +8,7 @@ ghost use Rattle.block_record.specs.Promises.{IsChunkFound, IsFoundAt, NoChunkFo
 
 use crate::joining::Joining;
 use crate::records::ReadOut;
-use crc_chunk::{BLOCK, ChunkKind, HEADER, chunk_at};
+use crc_chunk::{BLOCK, ChunkKind, HEADER};
 use std::alloc::Global;
 use wal_base::NoMemory;
 
@@ -26,16 +26,11 @@ fn chunk_in(bytes: &[u8], at: usize, log: u32) -> Option<Found>
     ensures place { IfSome result (IsFoundAt bytes.now at) }
     ensures none { IfNone result (NoChunkAt bytes.now at log) }
 {
-    let place = at % BLOCK;
-    let rest = &bytes[(at - place).min(bytes.len())..];
-    let block = &rest[..rest.len().min(BLOCK)];
-    let Some(span) = chunk_at(block, place, log) else {
-        return None;
-    };
+    let span = crc_chunk::chunk_in(bytes, at, log)?;
     Some(Found {
         kind: span.kind,
         at,
-        end: at - place + span.to,
+        end: span.to,
     })
 }
 

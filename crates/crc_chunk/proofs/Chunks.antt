@@ -8,13 +8,14 @@ use Rattle.std.proofs.lemmas.Grind.{flat_map-append}
 use Rattle.std.proofs.Math.Seq.{drop-cons}
 use borrow.Rule.Slice.PartMut.{put_mid}
 use Rattle.std.proofs.lemmas.List.{take_at, drop_at, drop-drop}
+use Rattle.crc_chunk.specs.declared.chunk.TheConstants.{BLOCK, HEADER}
 use Rattle.crc_chunk.specs.Bytes.{StandsAt}
 use Rattle.crc_chunk.proofs.Places.{stands_front, stands_back, stands_both, stands_within, stands_one, stands_range, stands_from, moved}
 use Rattle.crc_chunk.specs.declared.chunk.ChunkKind.{ChunkKind}
 use Rattle.crc_chunk.specs.declared.chunk.ChunkKind.TheVariants.{Full, First, Middle, Last}
 use Rattle.crc_chunk.specs.Crc.{bits_of, after_bits, checksum, masked_of}
 use Rattle.crc_chunk.proofs.Steps.{after_bits-append}
-use Rattle.crc_chunk.specs.Chunk.{type_byte, covered, chunk, ChunkAt}
+use Rattle.crc_chunk.specs.Chunk.{type_byte, covered, chunk, ChunkAt, IsChunkOf}
 
 abbrev stored : ChunkKind → ℕ → List ℕ → ℕ
 stored kind log payload = masked_of (checksum (covered kind log payload))
@@ -26,7 +27,12 @@ pub record FieldsAt (bytes : List ℕ) (at log : ℕ) (kind : ChunkKind) (payloa
   pub body : StandsAt bytes (at + 6) (covered kind log payload)
   pub type_is : StandsAt bytes (at + 6) (type_byte kind ∷ [])
   pub log_is : StandsAt bytes (at + 7) (to_le_bytes w32 log)
-  pub fits : at + 11 + length payload ≤ length bytes
+  pub fits : at + HEADER + length payload ≤ length bytes
+
+-- a header and the payload
+pub chunk_len : (kind : ChunkKind) (log : ℕ) (payload : List ℕ) → length (chunk kind log payload) ≡ HEADER + length payload
+unfolding chunk covered
+chunk_len kind log payload = omega arith
 
 pub fields_of : {bytes : List ℕ} {at log : ℕ} {kind : ChunkKind} {payload : List ℕ} → StandsAt bytes at (chunk kind log payload)
     → FieldsAt bytes at log kind payload
@@ -75,7 +81,7 @@ covered_is bytes at to log kind payload h e within =
 
 -- A chunk stands where its fields do.
 pub chunk_from : (bytes : List ℕ) (at to log : ℕ) (kind : ChunkKind) (crc n : ℕ)
-    → length bytes ≤ 32768 → to ≡ at + 11 + n → to ≤ length bytes
+    → length bytes ≤ BLOCK → to ≡ at + HEADER + n → to ≤ length bytes
     → StandsAt bytes (at + 4) (to_le_bytes w16 n) → StandsAt bytes (at + 7) (to_le_bytes w32 log) → get_or bytes (at + 6) 0 ≡ type_byte kind
     → StandsAt bytes at (to_le_bytes w32 crc) → masked_of (checksum (slice_range bytes (at + 6) to)) ≡ crc
     → ChunkAt bytes at log kind (slice_range bytes (at + 11) to)
@@ -141,9 +147,12 @@ same_kind Last Full e = absurd (omega arith)
 same_kind Last First e = absurd (omega arith)
 same_kind Last Middle e = absurd (omega arith)
 
-payload_at : {bytes : List ℕ} {at log : ℕ} {kind : ChunkKind} {payload : List ℕ} → ChunkAt bytes at log kind payload → StandsAt bytes (at + 6 + 5) payload
+-- The payload stands after the header.
+pub payload_at : {bytes : List ℕ} {at log : ℕ} {kind : ChunkKind} {payload : List ℕ} → ChunkAt bytes at log kind payload
+    → StandsAt bytes (at + HEADER) payload
 unfolding covered
-payload_at {bytes} {at} {log} {kind} {payload} h = stands_back {at = at + 6} (type_byte kind ∷ to_le_bytes w32 log) payload (fields_of h.stands).body
+payload_at {bytes} {at} {log} {kind} {payload} h = moved (at + HEADER) (omega arith)
+    (stands_back {at = at + 6} (type_byte kind ∷ to_le_bytes w32 log) payload (fields_of h.stands).body)
 
 -- At one place stands at most one chunk of a log.
 pub one_chunk : {bytes : List ℕ} {at log : ℕ} {kind other : ChunkKind} {payload more : List ℕ}
@@ -153,3 +162,16 @@ one_chunk {bytes} {at} {log} {kind} {other} {payload} {more} h i =
     let g = fields_of i.stands in
     let long : length payload ≡ length more = same_16 (omega (arith, h.within)) (omega (arith, i.within)) f.len g.len in
     (same_kind kind other (sym (byte_read f.type_is) ∙ byte_read g.type_is), stands_one (payload_at h) (payload_at i) long)
+
+-- It ends within the bytes.
+pub within_segment : {bytes : List ℕ} {at log : ℕ} {kind : ChunkKind} {payload : List ℕ} → ChunkAt bytes at log kind payload
+    → at + HEADER + length payload ≤ length bytes
+within_segment h = (fields_of h.stands).fits
+
+-- Whole chunks of a log at one place are of one length.
+pub one_size : {bytes : List ℕ} {at log n m : ℕ} → IsChunkOf bytes at log n → IsChunkOf bytes at log m → n ≡ m
+one_size a b = a.size_is ∙ ap (λ (p : List ℕ). HEADER + length p) (one_chunk a.stands b.stands).1 ∙ sym b.size_is
+
+-- A whole chunk has some bytes, and ends within the others.
+pub chunk_within : {bytes : List ℕ} {at log size : ℕ} → IsChunkOf bytes at log size → (0 < size) × (at + size ≤ length bytes)
+chunk_within h = (omega (arith, h.size_is), omega (arith, h.size_is, within_segment h.stands))

@@ -7,3 +7,4 @@ mod Words
 mod Turns
 mod Places
 mod Chunks
+mod Blocks

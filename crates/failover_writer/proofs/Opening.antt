@@ -7,11 +7,10 @@ use Rattle.std.specs.Option.{unwrap_or}
 use Rattle.std.specs.List.{list_any}
 use Rattle.std.proofs.lemmas.List.{length-drop, take-append-le, drop-append-le, take_all}
 use Rattle.crc_chunk.specs.Chunk.{chunk, IsChunkOf}
-use Rattle.crc_chunk.proofs.Laws.{stands_within}
+use Rattle.crc_chunk.proofs.Laws.{chunk_len, stands_within}
 use Rattle.batch_repr.specs.declared.batch.Batch.{Batch}
 use Rattle.batch_repr.specs.Batches.{end_after}
 use Rattle.block_record.specs.ReadOut.{Link, leaves_open, next_place, chunk_end, IsChain, ChunksStandIn}
-use Rattle.block_record.proofs.Laws.{chunk_len}
 use Rattle.disk_face.specs.declared.Side.{Side}
 use Rattle.disk_face.specs.declared.SegName.{SegName}
 use Rattle.disk_face.specs.View.{Place, segment, File, Files, Dirs}

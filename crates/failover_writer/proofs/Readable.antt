@@ -7,11 +7,11 @@ use native.Mathlib.Decide.{dec_le}
 use Rattle.crc_chunk.specs.declared.chunk.ChunkKind.{ChunkKind}
 use Rattle.crc_chunk.specs.declared.chunk.ChunkKind.TheVariants.{Full, First, Middle, Last}
 use Rattle.crc_chunk.specs.Chunk.{type_byte, covered, chunk, ChunkAt}
-use Rattle.crc_chunk.proofs.Laws.{stands_back, fields_of, one_chunk}
+use Rattle.crc_chunk.proofs.Laws.{fields_of, one_chunk, stands_back, within_segment}
 use Rattle.disk_face.proofs.Laws.{same_number}
 use Rattle.block_record.specs.declared.records.Rec.{Rec}
 use Rattle.block_record.specs.ReadOut.{Link, MayFollow, leaves_open, next_place, chunk_end, Spelled, after_link, nothing, ReadsOut}
-use Rattle.block_record.proofs.Laws.{within_segment, LeftToRead, left_first, left_next, all_read, not_before}
+use Rattle.block_record.proofs.Laws.{LeftToRead, left_first, left_next, all_read, not_before}
 
 same_bytes : (a b : List ℕ) → (a ≡ b) ⊎ (a ≢ b)
 same_bytes [] [] = inl refl

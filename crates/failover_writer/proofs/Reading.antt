@@ -5,8 +5,7 @@ use Rattle.std.specs.Prelude.{max, count_by}
 use Rattle.std.specs.List.{AllByRecursion}
 use Rattle.std.proofs.lemmas.List.{length-drop, take-append-drop, take-append-le, drop-append-le}
 use Rattle.crc_chunk.specs.Chunk.{chunk, IsChunkOf}
-use Rattle.crc_chunk.proofs.Laws.{stands_within}
-use Rattle.block_record.proofs.Laws.{chunk_len}
+use Rattle.crc_chunk.proofs.Laws.{chunk_len, stands_within}
 use Rattle.block_record.specs.Framing.{laid}
 use Rattle.batch_repr.specs.declared.batch.Batch.{Batch}
 use Rattle.disk_face.specs.View.{Place, segment, table, File, Files, DiskView, files}

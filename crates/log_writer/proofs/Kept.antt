@@ -1,4 +1,5 @@
 -- From the state of a segment's file to what each of its images reads out as. The bytes are looked at by the law of framing alone.
+use Rattle.crc_chunk.proofs.Laws.{chunk_len}
 use Rattle.std.proofs.Common.{◌≡◌, ℕ, ◌+◌, ◌-◌, ◌≤◌, Bool, true, false, List, length, map, take, drop, Option, Some, None, ap, sym, subst, ◌∙◌, refl, arith}
 use Rattle.std.proofs.lemmas.List.{length-take, length-drop, length-map, take-map, take-take, take-append-le, take_all}
 use native.Mathlib.Decide.{dec_le}
@@ -12,7 +13,7 @@ use Rattle.batch_repr.specs.declared.batch.Batch.{Batch}
 use Rattle.batch_repr.specs.Written.{written}
 use Rattle.block_record.specs.Framing.{laid}
 use Rattle.block_record.specs.ReadOut.{bytes_of, ReadsPrefix, ChunksStandIn}
-use Rattle.block_record.proofs.Laws.{chunk_len, first_are_read}
+use Rattle.block_record.proofs.Laws.{first_are_read}
 use Rattle.log_writer.specs.Parts.{part, texts, segment_bytes}
 use Rattle.log_writer.specs.Kept.{IsPrefixRead, IsKeptAs, SegmentKept, HasSynced, IsKeptFile}
 use Rattle.log_writer.proofs.Parts.{part_front, no_bytes}

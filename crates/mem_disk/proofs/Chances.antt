@@ -11,7 +11,7 @@ use Rattle.mem_disk.specs.Finite.{is_at_only}
 use Rattle.mem_disk.specs.Mem.{is_at, file_of, files_held, AreInOrder}
 use Rattle.mem_disk.specs.Picks.{tail_of, picked, picked_dirs}
 use Rattle.mem_disk.specs.Sent.{IsSentAt, AreChunksSent, IsFileSent, AreFilesSent}
-use Rattle.mem_disk.proofs.Blocks.{chunk_within, one_size}
+use Rattle.crc_chunk.proofs.Laws.{chunk_within, one_size}
 use Rattle.mem_disk.proofs.Held.{held_here, held_skip}
 use Rattle.mem_disk.proofs.Orders.{Ascend, ordered_open}
 use Rattle.mem_disk.proofs.Crashes.{behind_absent}

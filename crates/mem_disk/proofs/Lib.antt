@@ -5,7 +5,6 @@ mod Past
 mod Flights
 mod Calls
 mod ListedFiles
-mod Blocks
 mod Crashes
 mod Chances
 mod Images

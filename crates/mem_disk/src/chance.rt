@@ -9,7 +9,7 @@ ghost use Rattle.mem_disk.specs.Sent.{IsSentAt, AreChunksSent, IsFileSent, AreFi
 use crate::files::sent_in;
 use crate::parts::MemFile;
 use crate::picks::{FilePick, add_tail, kept_len, tail_for};
-use crc_chunk::{BLOCK, chunk_at};
+use crc_chunk::chunk_in;
 use std::alloc::Global;
 use wal_base::NoMemory;
 
@@ -19,12 +19,8 @@ fn chunk_len(bytes: &[u8], log: u32, at: usize) -> Option<usize>
     ensures within { IfSome result (λ size. (0 < size) × (at + size ≤ length bytes.now)) }
     ensures none { IfNone result ((size : ℕ) → ¬ IsChunkOf bytes.now at log size) }
 {
-    let rest = &bytes[(at - at % BLOCK).min(bytes.len())..];
-    let block = &rest[..rest.len().min(BLOCK)];
-    let Some(span) = chunk_at(block, at % BLOCK, log) else {
-        return None;
-    };
-    Some(span.to - at % BLOCK)
+    let span = chunk_in(bytes, at, log)?;
+    Some(span.to - at)
 }
 
 /// Whether the others have the same bytes at a place.
