@@ -1,5 +1,6 @@
 -- Files whose segments are stable in full open a journal: what an image has after the bytes that were sent adds no chunk, so
 -- each of its segments holds what was read, and the listing is the same with those contents in place.
+use Rattle.crc_chunk.specs.declared.chunk.TheConstants.{HEADER}
 use Rattle.batch_repr.specs.declared.limits.TheConstants.{NUMBER_FIRST}
 use Rattle.std.proofs.Common.{◌≡◌, ◌≢◌, inl, inr, ℕ, suc, ◌+◌, ◌<◌, ◌≤◌, Bool, false, List, [], ◌∷◌, ◌++◌, length, map, take, drop, Option, Some, None, ap, sym, subst, ◌∙◌, refl, arith}
 use Rattle.std.specs.Prelude.{Contains, ◌==◌, not}
@@ -144,9 +145,9 @@ module _ (now : Files) (rested : IsRested now) (stable : AreSegmentsStable now) 
       → dirs (segment side name) ≡ Some (f.sent ++ rest) → ChunksStandIn f.sent (log_number name.wal) (f.sent ++ rest)
   stood_before side name f rest is has at kind payload here =
       let log : ℕ = log_number name.wal in
-      let long : length (chunk kind log payload) ≡ 11 + length payload = chunk_len kind log payload in
-      let same : take (11 + length payload) (drop at (f.sent ++ rest)) ≡ take (11 + length payload) (drop at f.sent) =
-      chance_free (segment side name) f (f.sent ++ rest) at (11 + length payload) is has
+      let long : length (chunk kind log payload) ≡ HEADER + length payload = chunk_len kind log payload in
+      let same : take (HEADER + length payload) (drop at (f.sent ++ rest)) ≡ take (HEADER + length payload) (drop at f.sent) =
+      chance_free (segment side name) f (f.sent ++ rest) at (HEADER + length payload) is has
       (record { kind = kind; payload = payload; stands = here; size_is = refl }) in
       record {
         stands = record { is = sym (subst (λ (n : ℕ). take n (drop at (f.sent ++ rest)) ≡ take n (drop at f.sent)) (sym long) same) ∙ here.stands.is };

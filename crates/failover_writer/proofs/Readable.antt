@@ -1,13 +1,13 @@
 -- Every segment reads out: at each place a chunk stands or none does, and each chunk of a chain ends further on.
+use Rattle.crc_chunk.specs.declared.chunk.TheConstants.{BLOCK, HEADER}
 use Rattle.std.proofs.Common.{◌≡◌, ◌≢◌, ◌⊎◌, inl, inr, ℕ, zero, suc, ◌+◌, ◌%◌, ◌<◌, ◌≤◌, Bool, true, false, List, [], ◌∷◌, length, take, drop, refl, sym, subst, arith}
 use Rattle.std.specs.Prelude.{not, ◌==◌}
 use Rattle.std.specs.List.{list_any}
-use Rattle.std.specs.Int.{w32, to_le_bytes}
 use native.Mathlib.Decide.{dec_le}
 use Rattle.crc_chunk.specs.declared.chunk.ChunkKind.{ChunkKind}
 use Rattle.crc_chunk.specs.declared.chunk.ChunkKind.TheVariants.{Full, First, Middle, Last}
-use Rattle.crc_chunk.specs.Chunk.{type_byte, covered, chunk, ChunkAt}
-use Rattle.crc_chunk.proofs.Laws.{fields_of, one_chunk, stands_back, within_segment}
+use Rattle.crc_chunk.specs.Chunk.{chunk, ChunkAt}
+use Rattle.crc_chunk.proofs.Laws.{one_chunk, payload_at, within_segment}
 use Rattle.disk_face.proofs.Laws.{same_number}
 use Rattle.block_record.specs.declared.records.Rec.{Rec}
 use Rattle.block_record.specs.ReadOut.{Link, MayFollow, leaves_open, next_place, chunk_end, Spelled, after_link, nothing, ReadsOut}
@@ -56,17 +56,16 @@ search_kinds P decide = go (decide Full) (decide First) (decide Middle) (decide 
 
 -- the payload of a chunk that stands here, of so many bytes
 abbrev payload_in : List ℕ → ℕ → ℕ → List ℕ
-payload_in bytes at n = take n (drop (at + 6 + 5) bytes)
+payload_in bytes at n = take n (drop (at + HEADER) bytes)
 
 payload_is : {bytes : List ℕ} {at log : ℕ} {kind : ChunkKind} {payload : List ℕ} → ChunkAt bytes at log kind payload
     → payload_in bytes at (length payload) ≡ payload
-unfolding covered
-payload_is {bytes} {at} {log} {kind} {payload} h = (stands_back {at = at + 6} (type_byte kind ∷ to_le_bytes w32 log) payload (fields_of h.stands).body).is
+payload_is h = (payload_at h).is
 
 chunk_is_here : (bytes : List ℕ) (at log : ℕ) (kind : ChunkKind) (payload : List ℕ) → ChunkAt bytes at log kind payload
     ⊎ (ChunkAt bytes at log kind payload → ⊥)
 chunk_is_here bytes at log kind payload = elim (same_bytes (take (length (chunk kind log payload)) (drop at bytes)) (chunk kind log payload)) [
-  | inl is ↦ elim (dec_le (at % 32768 + 11 + length payload) 32768) [
+  | inl is ↦ elim (dec_le (at % BLOCK + HEADER + length payload) BLOCK) [
     | yes within ↦ inl (record { stands = record { is = is }; within = within })
     | no beyond ↦ inr (λ h. beyond h.within)
   ]

@@ -1,5 +1,6 @@
 -- A journal of which no segment has failed reads as an image of its disk: each file is one of its segments', which reads a front
 -- of what was sent, or is as it was at rest.
+use Rattle.crc_chunk.specs.declared.chunk.TheConstants.{HEADER}
 use Rattle.std.proofs.Common.{◌≡◌, ◌≢◌, ◌⊎◌, inl, inr, ℕ, suc, ◌+◌, ◌≤◌, Bool, true, false, List, [], ◌∷◌, ◌++◌, length, take, drop, Option, Some, None, IsTrue, ap, sym, subst, ◌∙◌, refl, arith, cond}
 use Rattle.std.specs.Prelude.{max, count_by}
 use Rattle.std.specs.List.{AllByRecursion}
@@ -54,7 +55,7 @@ rested_reads place (Some f) rested =
 -- A chunk that stands in a front has the same bytes in the whole.
 chunk_in_front : (front more : List ℕ) (at log size : ℕ) → IsChunkOf front at log size → take size (drop at front) ≡ take size (drop at (front ++ more))
 chunk_in_front front more at log size here =
-    let long : length (chunk here.kind log here.payload) ≡ 11 + length here.payload = chunk_len here.kind log here.payload in
+    let long : length (chunk here.kind log here.payload) ≡ HEADER + length here.payload = chunk_len here.kind log here.payload in
     let fits : at + length (chunk here.kind log here.payload) ≤ length front = stands_within here.stands.stands (omega (arith, long)) in
     sym (ap (take size) (drop-append-le at front more (omega (arith, fits)))
     ∙ take-append-le size (drop at front) more (omega (arith, fits, long, here.size_is, length-drop at front)))

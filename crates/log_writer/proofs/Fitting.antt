@@ -1,4 +1,5 @@
 -- What a writer that fits a disk makes of its segment, and of which records it is a writer.
+use Rattle.crc_chunk.specs.declared.chunk.TheConstants.{BLOCK}
 use Rattle.std.proofs.Common.{◌≡◌, inl, inr, ℕ, ◌≤◌, ◌%◌, Bool, true, false, List, ◌++◌, length, Option, Some, None, IsTrue, ap, sym, subst, ◌∙◌, refl, arith}
 use Rattle.std.proofs.lemmas.List.{length-append}
 use Rattle.disk_face.specs.declared.Side.{Side}
@@ -113,7 +114,7 @@ new_fits side name log from log_is tells records v within free absent = record {
     synced = omega arith;
     written = omega arith;
     sent = within;
-    place = sym (ap (λ (l : List ℕ). length l % 32768) (no_bytes log from records));
+    place = sym (ap (λ (l : List ℕ). length l % BLOCK) (no_bytes log from records));
   };
   numbers = refl;
   flight = free;
@@ -129,7 +130,7 @@ fits_grown tells records more w v fits = record {
     synced = ordered.synced;
     written = ordered.written;
     sent = omega (arith, ordered.sent, length-append records more);
-    place = ordered.place ∙ ap (λ (l : List ℕ). length l % 32768)
+    place = ordered.place ∙ ap (λ (l : List ℕ). length l % BLOCK)
         (sym (same w.sent (omega (arith, ordered.from, ordered.synced, ordered.written)) ordered.sent));
   };
   numbers = fits.numbers;

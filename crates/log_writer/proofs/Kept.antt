@@ -1,4 +1,5 @@
 -- From the state of a segment's file to what each of its images reads out as. The bytes are looked at by the law of framing alone.
+use Rattle.crc_chunk.specs.declared.chunk.TheConstants.{HEADER}
 use Rattle.crc_chunk.proofs.Laws.{chunk_len}
 use Rattle.std.proofs.Common.{◌≡◌, ℕ, ◌+◌, ◌-◌, ◌≤◌, Bool, true, false, List, length, map, take, drop, Option, Some, None, ap, sym, subst, ◌∙◌, refl, arith}
 use Rattle.std.proofs.lemmas.List.{length-take, length-drop, length-map, take-map, take-take, take-append-le, take_all}
@@ -20,10 +21,10 @@ use Rattle.log_writer.proofs.Parts.{part_front, no_bytes}
 
 -- A chunk stands wherever its bytes do.
 chunk_moved : (bytes others : List ℕ) (at log : ℕ) (kind : ChunkKind) (payload : List ℕ)
-    → take (11 + length payload) (drop at bytes) ≡ take (11 + length payload) (drop at others)
+    → take (HEADER + length payload) (drop at bytes) ≡ take (HEADER + length payload) (drop at others)
     → ChunkAt bytes at log kind payload → ChunkAt others at log kind payload
 chunk_moved bytes others at log kind payload same here =
-    let size : length (chunk kind log payload) ≡ 11 + length payload = chunk_len kind log payload in
+    let size : length (chunk kind log payload) ≡ HEADER + length payload = chunk_len kind log payload in
     record {
       stands = record { is = ap (λ (n : ℕ). take n (drop at others)) size ∙ sym same ∙ sym (ap (λ (n : ℕ). take n (drop at bytes)) size) ∙ here.stands.is };
       within = here.within;
@@ -122,6 +123,6 @@ file_kept side name log from synced records files log_is kept dirs image chance_
     go (Some f) (Some content) f_is o_is k im =
         kept_in place log from synced records f content f.created refl k im
         (λ at kind payload here. chunk_moved content f.sent at log kind payload
-        (chance_free place f content at (11 + length payload) f_is o_is
-        (subst (λ (l : ℕ). IsChunkOf content at l (11 + length payload)) log_is
+        (chance_free place f content at (HEADER + length payload) f_is o_is
+        (subst (λ (l : ℕ). IsChunkOf content at l (HEADER + length payload)) log_is
         (record { kind = kind; payload = payload; stands = here; size_is = refl }))) here)

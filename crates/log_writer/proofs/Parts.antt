@@ -1,4 +1,5 @@
 -- The bytes of a segment as its records grow.
+use Rattle.crc_chunk.specs.declared.chunk.TheConstants.{BLOCK}
 use Rattle.std.proofs.Common.{◌≡◌, ℕ, ◌+◌, ◌-◌, ◌%◌, ◌≤◌, List, [], ◌∷◌, ◌++◌, length, take, drop, refl, sym, ap, ◌∙◌, arith}
 use Rattle.std.proofs.lemmas.List.{length-drop, length-append, take-take, map-append, take-append-le, drop-append-le, drop-drop, take_at}
 use Rattle.std.proofs.Math.Seq.{take-add}
@@ -9,15 +10,15 @@ use Rattle.block_record.proofs.Laws.{framed_in_block, laid-append}
 use Rattle.log_writer.specs.Parts.{part, texts, segment_bytes}
 
 -- Records laid from a place are laid as from its place in its block.
-pub laid_in_block : (log at : ℕ) (records : List (List ℕ)) → laid log (at % 32768) records ≡ laid log at records
+pub laid_in_block : (log at : ℕ) (records : List (List ℕ)) → laid log (at % BLOCK) records ≡ laid log at records
 laid_in_block log at [] = refl
 laid_in_block log at (bytes ∷ records) =
     let n : ℕ = length (framed log at bytes) in
-    let one : framed log (at % 32768) bytes ≡ framed log at bytes = framed_in_block log at bytes in
-    let place : (at % 32768 + n) % 32768 ≡ (at + n) % 32768 = omega arith in
-    ap (λ (t : List ℕ). t ++ laid log (at % 32768 + length t) records) one
+    let one : framed log (at % BLOCK) bytes ≡ framed log at bytes = framed_in_block log at bytes in
+    let place : (at % BLOCK + n) % BLOCK ≡ (at + n) % BLOCK = omega arith in
+    ap (λ (t : List ℕ). t ++ laid log (at % BLOCK + length t) records) one
     ∙ ap (λ (t : List ℕ). framed log at bytes ++ t)
-    (sym (laid_in_block log (at % 32768 + n) records) ∙ ap (λ (m : ℕ). laid log m records) place ∙ laid_in_block log (at + n) records)
+    (sym (laid_in_block log (at % BLOCK + n) records) ∙ ap (λ (m : ℕ). laid log m records) place ∙ laid_in_block log (at + n) records)
 
 -- A part up to a number is the front of a longer part.
 pub part_front : (from mid to : ℕ) (records : List Batch) → mid ≤ to → take (mid - from) (part from to records) ≡ part from mid records

@@ -1,4 +1,5 @@
 -- One record more is framed after those of a queue that are framed.
+use Rattle.crc_chunk.specs.declared.chunk.TheConstants.{BLOCK}
 use Rattle.std.proofs.Common.{◌≡◌, ℕ, suc, ◌+◌, ◌-◌, ◌%◌, ◌<◌, ◌≤◌, List, [], ◌∷◌, ◌++◌, length, take, drop, get_or, sym, ap, ◌∙◌, arith}
 use Rattle.std.proofs.lemmas.List.{length-drop, get_or-drop, append-nil, map-append, drop-drop}
 use Rattle.std.proofs.Math.Seq.{take-suc}
@@ -40,7 +41,7 @@ one_more queue from number rec low le found =
 pub framed_more : (queue : Queue) (standing : Standing) (from number : ℕ) (rec : Batch) → queue.start ≤ from → from ≤ number → IsRecordOf queue number rec
     → frames_from queue standing.log standing.place from (number + 1)
     ≡ frames_from queue standing.log standing.place from number ++ framed standing.log
-    ((standing.place + length (frames_from queue standing.log standing.place from number)) % 32768) (written rec)
+    ((standing.place + length (frames_from queue standing.log standing.place from number)) % BLOCK) (written rec)
 framed_more queue standing from number rec low le found =
     ap (λ (t : List Batch). laid standing.log standing.place (texts t)) (one_more queue from number rec low le found)
     ∙ ap (laid standing.log standing.place) (map-append written (queue_part queue from number) (rec ∷ []))
@@ -63,7 +64,7 @@ queue_part_is records queue from to is low le =
 -- What a write sends completes the bytes of the segment.
 pub frames_complete : (records : List Batch) (queue : Queue) (w : Writer) (len : ℕ) → IsQueueOf records queue → queue.start ≤ w.sent
     → w.from ≤ w.sent → w.sent ≤ len
-    → w.place ≡ length (segment_bytes w.log w.from w.sent records) % 32768
+    → w.place ≡ length (segment_bytes w.log w.from w.sent records) % BLOCK
     → segment_bytes w.log w.from len records ≡ segment_bytes w.log w.from w.sent records ++ frames_of queue w len
 frames_complete records queue w len is low begins le place =
     bytes_split w.log w.from w.sent len records begins le

@@ -1,4 +1,5 @@
 -- What a writer that fits a disk knows of it, between its calls too (docs/FORMATS.md, "The writer of a segment").
+use Rattle.crc_chunk.specs.declared.chunk.TheConstants.{BLOCK}
 use Rattle.std.specs.Prelude.{◌≡◌, ◌≢◌, ◌⊎◌, ℕ, ◌≤◌, ◌%◌, Bool, true, false, List, [], length, Option, Some, IsTrue}
 use Rattle.disk_face.specs.declared.OpId.{OpId}
 use Rattle.disk_face.specs.View.{Place, segment, Act, creating, writing, syncing, Flight, File, DiskView, files, IsFree}
@@ -48,7 +49,7 @@ pub record IsOrdered (records : List Batch) (w : Writer) : Type 0 where
   pub synced : w.synced ≤ w.written
   pub written : w.written ≤ w.sent
   pub sent : w.sent ≤ length records
-  pub place : w.place ≡ length (segment_bytes w.log w.from w.sent records) % 32768
+  pub place : w.place ≡ length (segment_bytes w.log w.from w.sent records) % BLOCK
 
 -- what is sent and not written is in flight, or failed
 abbrev pub HasNumbers : Phase → Writer → Type 0

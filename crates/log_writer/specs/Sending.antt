@@ -1,4 +1,5 @@
 -- What a start of an operation sends (docs/FORMATS.md, "The next operation of a segment").
+use Rattle.crc_chunk.specs.declared.chunk.TheConstants.{BLOCK}
 use Rattle.std.specs.Prelude.{ℕ, ◌+◌, ◌-◌, ◌%◌, List, length}
 use Rattle.batch_repr.specs.declared.batch.Batch.{Batch}
 use Rattle.block_record.specs.Framing.{Standing, laid}
@@ -24,7 +25,7 @@ frames_at queue standing from to = frames_from queue standing.log standing.place
 -- where the next record begins in its block, once these bytes were sent by a write
 abbrev pub place_with : Operation → List ℕ → ℕ → ℕ
 place_with Create frames place = place
-place_with Write frames place = (place + length frames) % 32768
+place_with Write frames place = (place + length frames) % BLOCK
 place_with Sync frames place = place
 
 -- the bytes of a write of all records up to `len`

@@ -1,5 +1,6 @@
 //! How a writer starts its next operation.
 
+ghost use Rattle.crc_chunk.specs.declared.chunk.TheConstants.{BLOCK};
 ghost use Rattle.std.specs.Prelude.{◌≡◌, ◌≢◌, ◌<◌, ◌≤◌, ◌++◌, suc, [], ◌∷◌, IsTrue, IfOk, OnOk, OnErr};
 ghost use Rattle.disk_face.specs.View.{writing, was_started, Makes, IsFree};
 ghost use Rattle.disk_face.specs.Calls.{GoesOn};
@@ -44,7 +45,7 @@ fn frame_records(
     to: u64,
 ) -> Result<(), NoMemory>
     requires held { HoldsPart queue.now from to }
-    requires in_block { framer.old.place < 32768 }
+    requires in_block { framer.old.place < BLOCK }
     ensures framed { OnOk result (out.new ≡ out.old ++ frames_at queue.now framer.old from to) }
     ensures moved { OnOk result (framer.new ≡ standing_after framer.old (frames_at queue.now framer.old from to)) }
 {
@@ -84,7 +85,7 @@ impl LogWriter {
         requires free { IsFree (D.view disk.old) (place_of_writer self.old) }
         requires may { MayStartOwn D.tells writing self.old (D.view disk.old) }
         requires held { HoldsPart queue.now self.old.sent len }
-        requires in_block { self.old.place < 32768 }
+        requires in_block { self.old.place < BLOCK }
         ensures goes_on { GoesOn (D.view disk.old) (D.view disk.new) }
         ensures stalls { (D.view disk.new).polls_left ≡ (D.view disk.old).polls_left }
         ensures asks { IfOk result (λ id. Makes (was_started id ∷ []) (D.view disk.old) (D.view disk.new)) }
@@ -118,7 +119,7 @@ impl LogWriter {
         requires free { IsFree (D.view disk.old) (place_of_writer self.old) }
         requires may { MayStartOwn D.tells (act_of operation) self.old (D.view disk.old) }
         requires held { HoldsPart queue.now self.old.sent len }
-        requires in_block { self.old.place < 32768 }
+        requires in_block { self.old.place < BLOCK }
         ensures goes_on { GoesOn (D.view disk.old) (D.view disk.new) }
         ensures stalls { (D.view disk.new).polls_left ≡ (D.view disk.old).polls_left }
         ensures asks { IfOk result (λ id. Makes (was_started id ∷ []) (D.view disk.old) (D.view disk.new)) }

@@ -1,4 +1,5 @@
 -- Each turn frames the next record of the queue.
+use Rattle.crc_chunk.specs.declared.chunk.TheConstants.{BLOCK}
 use Rattle.std.proofs.Common.{◌≡◌, ◌<◌, ◌++◌, ◌+◌, ◌%◌, ◌≤◌, ℕ, List, [], length, ap, sym, ◌∙◌, arith, append_assoc, max}
 use native.Mathlib.Decide.{dec_le}
 use Rattle.std.proofs.lemmas.List.{length-append, append-nil}
@@ -10,12 +11,12 @@ use Rattle.log_writer.specs.Sending.{frames_from}
 use Rattle.log_writer.proofs.Sending.{framed_more, nothing_framed}
 use Rattle.log_writer.proofs.beginning.frame_records.Goals as goal
 
-stays : (standing : Standing) → standing.place < 32768 → standing_after standing [] ≡ standing
-stays standing low = let same : (standing.place + 0) % 32768 ≡ standing.place = omega (arith, low) in ap (λ (n : ℕ). record standing { place = n }) same
+stays : (standing : Standing) → standing.place < BLOCK → standing_after standing [] ≡ standing
+stays standing low = let same : (standing.place + 0) % BLOCK ≡ standing.place = omega (arith, low) in ap (λ (n : ℕ). record standing { place = n }) same
 
 moves : (standing : Standing) (first more : List ℕ) → standing_after (standing_after standing first) more ≡ standing_after standing (first ++ more)
 moves standing first more =
-    let same : ((standing.place + length first) % 32768 + length more) % 32768 ≡ (standing.place + length (first ++ more)) % 32768 = omega
+    let same : ((standing.place + length first) % BLOCK + length more) % BLOCK ≡ (standing.place + length (first ++ more)) % BLOCK = omega
     (arith, length-append first more) in
     ap (λ (n : ℕ). record standing { place = n }) same
 
@@ -25,7 +26,7 @@ module _ (queue : Queue) (standing : Standing) (from number : ℕ) (rec : Batch)
   frames to = frames_from queue standing.log standing.place from to
 
   abbrev next : List ℕ
-  next = framed standing.log ((standing.place + length (frames number)) % 32768) (written rec)
+  next = framed standing.log ((standing.place + length (frames number)) % BLOCK) (written rec)
 
   out_more : (before out after : List ℕ) → out ≡ before ++ frames number → after ≡ out ++ next → after ≡ before ++ frames (number + 1)
   out_more before out after is more =
@@ -62,10 +63,10 @@ loop-number-preserved c =
       within = omega (arith, c.loop-number-test.true);
       framed = out_more c.args.queue.now standing c.args.from number rec low le found c.args.out.now c.loop-number.out c.frame.new.out was.framed
           (made.framed ∙ ap (λ (s : Standing). c.loop-number.out ++ framed s.log s.place c.bytes.result.now) was.moved
-          ∙ ap (λ (b : List ℕ). c.loop-number.out ++ framed standing.log ((standing.place + length before) % 32768) b) c.bytes.ensures.written);
+          ∙ ap (λ (b : List ℕ). c.loop-number.out ++ framed standing.log ((standing.place + length before) % BLOCK) b) c.bytes.ensures.written);
       moved = made.moved ∙ ap (λ (s : Standing). standing_after s (framed s.log s.place c.bytes.result.now)) was.moved
           ∙ ap (λ (b : List ℕ). standing_after (standing_after standing before)
-          (framed standing.log ((standing.place + length before) % 32768) b)) c.bytes.ensures.written
+          (framed standing.log ((standing.place + length before) % BLOCK) b)) c.bytes.ensures.written
           ∙ standing_more c.args.queue.now standing c.args.from number rec low le found;
     }
 
