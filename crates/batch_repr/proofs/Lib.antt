@@ -14,3 +14,4 @@ mod Fields
 mod Parting
 mod Agreement
 mod Pinned
+mod Contiguous

@@ -1,4 +1,4 @@
--- The order of names, and lists that grow at their front: any two names are in order, and a longer list is ascending or has an item as its parts do.
+-- The order of names, and ascending lists: any two names are in order, and a longer list ascends as its parts do.
 use Rattle.std.proofs.Common.{◌≡◌, ◌≢◌, ◌⊎◌, inl, inr, zero, suc, List, ◌∷◌, All, AllPairs, Contains, sym, refl, arith}
 use native.Mathlib.Decide.{dec_le}
 use Rattle.disk_face.specs.declared.SegName.{SegName}
@@ -35,16 +35,3 @@ module _ {X : Type 0} (R : X → X → Type 0) (x : X) (xs : List X) (pairs : Al
   -- what follows the first item of an ascending list is ascending
   pub AllPairs-tail : AllPairs R xs
   AllPairs-tail i j d before below = pairs (suc i) (suc j) d (omega (arith, before)) (omega (arith, below))
-
--- the first item is in the list
-pub Contains-head : {X : Type 0} (x : X) (xs : List X) → Contains (x ∷ xs) x
-Contains-head x xs = (0, omega arith, refl)
-
--- an item of the rest is in the list
-pub Contains-later : {X : Type 0} (x y : X) (xs : List X) → Contains xs y → Contains (x ∷ xs) y
-Contains-later x y xs at = (suc at.0, omega (arith, at.1), at.2)
-
--- an item of the list is the first, or is in the rest
-pub Contains-cons : {X : Type 0} (x y : X) (xs : List X) → Contains (x ∷ xs) y → (x ≡ y) ⊎ Contains xs y
-Contains-cons x y xs (zero, below, is) = inl is
-Contains-cons x y xs (suc k, below, is) = inr (k, omega (arith, below), is)

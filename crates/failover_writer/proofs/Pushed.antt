@@ -1,9 +1,9 @@
 -- A record comes after the others. What it is numbered by, and what the queue holds with it.
+use Rattle.batch_repr.proofs.Laws.{contiguous_append, contiguous_push, end_append, end_push}
 use Rattle.std.proofs.Common.{◌≡◌, ℕ, ◌+◌, ◌<◌, ◌≤◌, Bool, List, [], ◌∷◌, ◌++◌, length, drop, ap, sym, ◌∙◌, arith}
 use Rattle.std.proofs.lemmas.List.{length-append, length-drop, drop-append-le}
 use Rattle.batch_repr.specs.declared.batch.Batch.{Batch}
 use Rattle.batch_repr.specs.Batches.{count_of, end_of, end_after, IsContiguous}
-use Rattle.segment_merge.proofs.Laws.{contiguous_append, end_append}
 use Rattle.disk_face.specs.View.{DiskView}
 use Rattle.record_queue.specs.Queue as queues
 use Rattle.record_queue.specs.Queue.{Queue}
@@ -29,15 +29,6 @@ queue_pushed records added old new is start holds = record {
       ∙ ap (λ (n : ℕ). drop n (records ++ added ∷ [])) (sym start);
 }
 
-pub numbered_pushed : (base : ℕ) (records : List Batch) (added : Batch) → IsContiguous base records → added.first ≡ end_after base records
-    → 0 < count_of added.entries → IsContiguous base (records ++ added ∷ [])
-unfolding IsContiguous
-numbered_pushed base records added numbered first some = contiguous_append base records (added ∷ []) numbered (first, some, tt)
-
-pub end_pushed : (base : ℕ) (records : List Batch) (added : Batch) → end_after base (records ++ added ∷ []) ≡ end_of added
-unfolding end_after
-end_pushed base records added = end_append base records (added ∷ [])
-
 -- The journal stands for one record more.
 pub pushed_stands : (tells : Bool) (records : List Batch) (added : Batch) (old : State) (queue : Queue) (next want : ℕ) (v : DiskView)
     → StandsFor tells records old v → added.first ≡ old.next → 0 < count_of added.entries → IsSpelled added
@@ -45,9 +36,9 @@ pub pushed_stands : (tells : Bool) (records : List Batch) (added : Batch) (old :
     → StandsFor tells (records ++ added ∷ []) (record old { queue = queue; next = next; want = want }) v
 pushed_stands tells records added old queue next want v stands first some spelled start holds next_is within = record {
   named = stands.named;
-  numbered = numbered_pushed old.base records added stands.numbered (first ∙ stands.next) some;
+  numbered = contiguous_push old.base records added stands.numbered (first ∙ stands.next) some;
   spelled = all_push IsSpelled records added stands.spelled spelled;
-  next = next_is ∙ sym (end_pushed old.base records added);
+  next = next_is ∙ sym (end_push old.base records added);
   queue = queue_pushed records added old.queue queue stands.queue start holds;
   queued = omega (arith, start, stands.queued);
   want = omega (arith, within, length-append records (added ∷ []));

@@ -1,4 +1,5 @@
 -- A walk over files that stand in order lists each created one once, in ascending order: by induction over the files.
+use Rattle.wal_base.proofs.Laws.{within_cases, within_head, within_tail}
 use Rattle.std.proofs.Common.{◌≡◌, inl, inr, ◌≤◌, ◌&&◌, Bool, true, false, List, [], ◌∷◌, length, ap, sym, subst, ◌∙◌, refl, arith, Some, None, length-take, All, AllPairs, Contains}
 use Rattle.std.specs.Prelude.{Result, Ok, Err, IfOk}
 use Rattle.std.proofs.lemmas.Bool.Decides.{nat_tests}
@@ -9,7 +10,7 @@ use Rattle.disk_face.specs.declared.SegName.{SegName}
 use Rattle.disk_face.specs.declared.Listed.{Listed}
 use Rattle.disk_face.specs.View.{Place, segment, File}
 use Rattle.disk_face.specs.Listing.{IsBefore, IsAscending, AreSegmentNames, IsSegmentName, HasLength, IsListing}
-use Rattle.disk_face.proofs.Laws.{not_before_itself, Contains-head, Contains-later, Contains-cons}
+use Rattle.disk_face.proofs.Laws.{not_before_itself}
 use Rattle.mem_disk.specs.declared.parts.MemFile.{MemFile}
 use Rattle.mem_disk.specs.Finite.{side_eq_self, side_eq_only, both_left, both_right, is_at_self, is_at_only}
 use Rattle.mem_disk.specs.Mem.{side_eq, is_at, file_of, files_held, AreInOrder, is_named, listed_of}
@@ -100,7 +101,7 @@ listed_has side [] up item at = absurd (let below = at.1 in omega (arith, below)
 listed_has side (m ∷ ms) up item at = go (is_listed side m) refl (listed_has side ms up.1 item)
   where
     go : (b : Bool) → is_listed side m ≡ b → (Contains (listed_of side ms) item → Has ms side item) → Has (m ∷ ms) side item
-    go true e deeper = elim (Contains-cons (item_of m) item (listed_of side ms) (subst (λ (l : List Listed). Contains l item) (list_yes side m ms e) at)) [
+    go true e deeper = elim (within_cases (item_of m) (listed_of side ms) item (subst (λ (l : List Listed). Contains l item) (list_yes side m ms e) at)) [
       | inl is ↦ has_first side m ms item e is
       | inr more ↦ has_more side m ms item up.0 (deeper more)
     ]
@@ -135,9 +136,9 @@ has_listed side (m ∷ ms) item h = go (is_at m.side m.name (segment side item.n
     go : (b : Bool) → is_at m.side m.name (segment side item.name) ≡ b → (c : Bool) → is_listed side m ≡ c
         → (Has ms side item → Contains (listed_of side ms) item) → Contains (listed_of side (m ∷ ms)) item
     go true at c e deeper = let h = first at in subst (λ (l : List Listed). Contains l item) (sym (list_yes side m ms h.0))
-        (subst (Contains (item_of m ∷ listed_of side ms)) h.1 (Contains-head (item_of m) (listed_of side ms)))
+        (subst (Contains (item_of m ∷ listed_of side ms)) h.1 (within_head (item_of m) (listed_of side ms)))
     go false at true e deeper = subst (λ (l : List Listed). Contains l item) (sym (list_yes side m ms e))
-        (Contains-later (item_of m) item (listed_of side ms) (deeper (rest at)))
+        (within_tail (item_of m) (listed_of side ms) item (deeper (rest at)))
     go false at false e deeper = subst (λ (l : List Listed). Contains l item) (sym (list_no side m ms e)) (deeper (rest at))
 
 pub listing_of : (side : Side) (fs : List MemFile) → AreInOrder fs → IsListing (files_held fs) side (listed_of side fs)

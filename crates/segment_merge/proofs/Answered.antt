@@ -1,4 +1,5 @@
 -- From what a step does to the merged list: through a segment, and from segment to segment.
+use Rattle.batch_repr.proofs.Laws.{end_append, end_push}
 use Rattle.std.proofs.Common.{◌≡◌, ◌≢◌, inl, inr, ◌⊎◌, ℕ, ◌+◌, ◌≤◌, ◌<◌, Bool, take, drop, get_or, true, false, List, [], ◌∷◌, ◌++◌, length, sym, subst, ap, ◌∙◌, refl, arith, Result, Ok, Err}
 use Rattle.std.proofs.lemmas.List.{take_more, drop_more, take-append-drop, map-append}
 use Rattle.std.specs.Prelude.{IfErr}
@@ -13,7 +14,6 @@ use Rattle.segment_merge.specs.Refusals.{expected_after, IsFirstWrong, IsGap, Is
 use Rattle.segment_merge.specs.Returned.{MergedOrMemory, RefusedOrMemory, MemoryOrRefusal}
 use Rattle.segment_merge.specs.Keeping.{Kept}
 use Rattle.segment_merge.specs.Steps.{Follows, IsAppended, IsSkipped, IsDenied, Steps, KeepsMerged}
-use Rattle.segment_merge.proofs.Contiguous.{end_append}
 use Rattle.segment_merge.proofs.Unique.{one_merged}
 use Rattle.segment_merge.proofs.Pass.{MayFollow, appended, skipped, none_out_of_order, none_denied, at_most_next, next_segment, nothing_merged, next_is as next_number}
 use Rattle.segment_merge.proofs.Refused.{merged_or_wrong}
@@ -46,10 +46,6 @@ pub expected_more : (first : ℕ) (before : List (List Batch)) (front : List Bat
     → expected_after first before (front ++ batch ∷ []) ≡ end_of batch
 unfolding end_after
 expected_more first before front batch = end_append (greatest_end first (all_of before)) front (batch ∷ [])
-
-end_push : (first : ℕ) (kept : List Batch) (batch : Batch) → end_after first (kept ++ batch ∷ []) ≡ end_of batch
-unfolding end_after
-end_push first kept batch = end_append first kept (batch ∷ [])
 
 -- the segment is merged up to here
 pub record IsUpTo (first : ℕ) (before : List (List Batch)) (front : List Batch) (kept : Kept) (expected : ℕ) (is_first : Bool) : Type 0 where

@@ -1,10 +1,10 @@
 -- Batches in the order of their numbers.
+use Rattle.batch_repr.proofs.Laws.{end_append}
 use Rattle.std.proofs.Common.{ℕ, ◌≤◌, ◌<◌, List, [], ◌∷◌, ◌++◌, arith}
 use Rattle.batch_repr.specs.declared.batch.Batch.{Batch}
 use Rattle.batch_repr.specs.Batches.{count_of, end_of, end_after}
 use Rattle.segment_merge.specs.Merging.{IsAscending}
 use Rattle.segment_merge.specs.Keeping.{AreKept}
-use Rattle.segment_merge.proofs.Contiguous.{end_append}
 
 pub ascending_push : (from : ℕ) (batches : List Batch) (batch : Batch) → IsAscending from batches → end_after from batches ≤ batch.first
     → 0 < count_of batch.entries

@@ -1,5 +1,4 @@
 -- What the crates above cite of these proofs, and all that they may.
-pub use Rattle.segment_merge.proofs.Contiguous.{contiguous_append, end_append}
 pub use Rattle.segment_merge.proofs.Cover.{parts_merge}
 pub use Rattle.segment_merge.proofs.LenientRefusals.{merged_or_conflict, one_conflict}
 pub use Rattle.segment_merge.proofs.LenientRows.{merged_none}

@@ -1,4 +1,5 @@
 -- One pass over the row where gaps are accepted: append what begins after all, skip what is kept.
+use Rattle.batch_repr.proofs.Laws.{end_append}
 use Rattle.std.proofs.Common.{◌≡◌, ◌⊎◌, inl, inr, ℕ, ◌+◌, ◌≤◌, ◌<◌, List, [], ◌∷◌, ◌++◌, length, take, drop, get_or, sym, subst, ap, ◌∙◌, refl, arith, Ok, Err, append_assoc, length-append}
 use Rattle.std.specs.Prelude.{Contains, ◌↔◌}
 use Rattle.std.proofs.lemmas.List.{append-nil, map-append, take_more, drop_more, take-append-drop}
@@ -15,7 +16,6 @@ use Rattle.segment_merge.specs.Returned.{MemoryOrRefusal}
 use Rattle.segment_merge.specs.Keeping.{Kept}
 use Rattle.segment_merge.specs.Steps.{IsAppendedAfter, IsSkipped, LenientSteps, KeepsLenient}
 use Rattle.wal_base.proofs.Laws.{none_within, within_head, within_tail, within_cases}
-use Rattle.segment_merge.proofs.Contiguous.{end_append}
 use Rattle.segment_merge.proofs.Ascending.{ascending_push}
 use Rattle.segment_merge.proofs.Pass.{all_with}
 use Rattle.segment_merge.proofs.Places.{Places, sooner, one, later, places}

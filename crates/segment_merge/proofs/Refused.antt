@@ -1,4 +1,5 @@
 -- A row that merges has no first wrong batch.
+use Rattle.batch_repr.proofs.Laws.{contiguous_back, contiguous_front, place_within}
 use Rattle.std.proofs.Common.{◌≡◌, inl, inr, ℕ, ◌<◌, List, [], ◌∷◌, ◌++◌, sym, subst, ap, ◌∙◌, arith}
 use Rattle.std.specs.Prelude.{Contains}
 use Rattle.std.proofs.lemmas.List.{append_assoc, map-append}
@@ -12,7 +13,6 @@ use Rattle.segment_merge.specs.Rows.{batches_in}
 use Rattle.segment_merge.specs.Refusals.{expected_after, IsFirstWrong}
 use Rattle.wal_base.proofs.Laws.{within_head}
 use Rattle.segment_merge.proofs.Unique.{is_front}
-use Rattle.segment_merge.proofs.Contiguous.{place_within, contiguous_front, contiguous_back}
 use Rattle.segment_merge.proofs.Pass.{all_with, joined_back, follows_only, MayFollow, appended, skipped, at_most_next}
 
 -- the batches of a row that is cut are among those of the row

@@ -1,9 +1,10 @@
 -- A row cut into WALs from its back: each segment joins the WAL after it or begins one. The WALs are the listing of the directories, and those into which the row is cut from its front.
+use Rattle.wal_base.proofs.Laws.{within_cases, within_head, within_tail}
 use Rattle.std.proofs.Common.{◌≡◌, ◌≢◌, ◌⊎◌, inl, inr, ℕ, suc, ◌≤◌, ◌<◌, List, [], ◌∷◌, ◌++◌, All, Contains, map, subst, sym, ap, ◌∙◌, refl, arith}
 use Rattle.disk_face.specs.View.{Files}
 use Rattle.disk_face.specs.Image.{dirs_as_read}
 use Rattle.disk_face.specs.Listing.{IsBefore}
-use Rattle.disk_face.proofs.Laws.{Contains-head, Contains-later, Contains-cons, same_number}
+use Rattle.disk_face.proofs.Laws.{same_number}
 use Rattle.segment_merge.proofs.Laws.{none_within}
 use Rattle.wal_recovery.specs.declared.listing.Found.{Found}
 use Rattle.wal_recovery.specs.declared.wals.FoundWal.{FoundWal}
@@ -41,7 +42,7 @@ module _ (files : Files) where
 
   alone_of : (f : Found) (wal : Wal) (number : ℕ) (stored : Stored) → alone f ≡ wal → wal.number ≡ number → Contains wal.segments stored
       → (f.name.wal ≡ number) × (stored_in files f ≡ stored)
-  alone_of f wal number stored e is within = elim (Contains-cons (stored_in files f) stored []
+  alone_of f wal number stored e is within = elim (within_cases (stored_in files f) [] stored
       (subst (λ (w : Wal). Contains w.segments stored) (sym e) within)) [
         | inl here ↦ (ap (λ (w : Wal). w.number) e ∙ is, here)
         | inr later ↦ absurd (none_within stored later)
@@ -49,7 +50,7 @@ module _ (files : Files) where
 
   of_put : (f : Found) (wals : List Wal) (number : ℕ) (stored : Stored) → IsOf (put f wals) number stored
       → ((f.name.wal ≡ number) × (stored_in files f ≡ stored)) ⊎ IsOf wals number stored
-  of_put f [] number stored (w, at, is, within) = elim (Contains-cons (alone f) w [] at) [
+  of_put f [] number stored (w, at, is, within) = elim (within_cases (alone f) [] w at) [
     | inl e ↦ inl (alone_of f w number stored e is within)
     | inr later ↦ absurd (none_within w later)
   ]
@@ -57,53 +58,53 @@ module _ (files : Files) where
     where
       go : (d : IsOfOrNot f wal) → IsOf (joined f wal wals d) number stored → ((f.name.wal ≡ number) × (stored_in files f ≡ stored))
           ⊎ IsOf (wal ∷ wals) number stored
-      go (inl same) (w, at, is, within) = elim (Contains-cons (longer f wal) w wals at) [
-        | inl e ↦ elim (Contains-cons (stored_in files f) stored wal.segments (subst (λ (x : Wal). Contains x.segments stored) (sym e) within)) [
+      go (inl same) (w, at, is, within) = elim (within_cases (longer f wal) wals w at) [
+        | inl e ↦ elim (within_cases (stored_in files f) wal.segments stored (subst (λ (x : Wal). Contains x.segments stored) (sym e) within)) [
           | inl here ↦ inl (same ∙ ap (λ (x : Wal). x.number) e ∙ is, here)
-          | inr later ↦ inr (wal, Contains-head wal wals, ap (λ (x : Wal). x.number) e ∙ is, later)
+          | inr later ↦ inr (wal, within_head wal wals, ap (λ (x : Wal). x.number) e ∙ is, later)
         ]
-        | inr behind ↦ inr (w, Contains-later wal w wals behind, is, within)
+        | inr behind ↦ inr (w, within_tail wal wals w behind, is, within)
       ]
-      go (inr other) (w, at, is, within) = elim (Contains-cons (alone f) w (wal ∷ wals) at) [
+      go (inr other) (w, at, is, within) = elim (within_cases (alone f) (wal ∷ wals) w at) [
         | inl e ↦ inl (alone_of f w number stored e is within)
         | inr behind ↦ inr (w, behind, is, within)
       ]
 
   first_in : (f : Found) (wals : List Wal) → IsOf (put f wals) f.name.wal (stored_in files f)
-  first_in f [] = (alone f, Contains-head (alone f) [], refl, Contains-head (stored_in files f) [])
+  first_in f [] = (alone f, within_head (alone f) [], refl, within_head (stored_in files f) [])
   first_in f (wal ∷ wals) = go (same_number f.name.wal wal.number)
     where
       go : (d : IsOfOrNot f wal) → IsOf (joined f wal wals d) f.name.wal (stored_in files f)
-      go (inl same) = (longer f wal, Contains-head (longer f wal) wals, sym same, Contains-head (stored_in files f) wal.segments)
-      go (inr other) = (alone f, Contains-head (alone f) (wal ∷ wals), refl, Contains-head (stored_in files f) [])
+      go (inl same) = (longer f wal, within_head (longer f wal) wals, sym same, within_head (stored_in files f) wal.segments)
+      go (inr other) = (alone f, within_head (alone f) (wal ∷ wals), refl, within_head (stored_in files f) [])
 
   later_in : (f : Found) (wals : List Wal) (number : ℕ) (stored : Stored) → IsOf wals number stored → IsOf (put f wals) number stored
   later_in f [] number stored (w, at, is, within) = absurd (none_within w at)
   later_in f (wal ∷ wals) number stored (w, at, is, within) = go (same_number f.name.wal wal.number)
     where
       go : (d : IsOfOrNot f wal) → IsOf (joined f wal wals d) number stored
-      go (inl same) = elim (Contains-cons wal w wals at) [
+      go (inl same) = elim (within_cases wal wals w at) [
         | inl e ↦ (
           longer f wal,
-          Contains-head (longer f wal) wals,
+          within_head (longer f wal) wals,
           ap (λ (x : Wal). x.number) e
               ∙ is,
-          Contains-later (stored_in files f) stored wal.segments (subst (λ (x : Wal). Contains x.segments stored) (sym e) within),
+          within_tail (stored_in files f) wal.segments stored (subst (λ (x : Wal). Contains x.segments stored) (sym e) within),
         )
-        | inr behind ↦ (w, Contains-later (longer f wal) w wals behind, is, within)
+        | inr behind ↦ (w, within_tail (longer f wal) wals w behind, is, within)
       ]
-      go (inr other) = (w, Contains-later (alone f) w (wal ∷ wals) at, is, within)
+      go (inr other) = (w, within_tail (alone f) (wal ∷ wals) w at, is, within)
 
   of_row : (row : List Found) (number : ℕ) (stored : Stored) → IsOf (grouped row) number stored → IsStoredFound files row number stored
   of_row [] number stored (w, at, is, within) = absurd (none_within w at)
   of_row (f ∷ row) number stored of = elim (of_put f (grouped row) number stored of) [
-    | inl here ↦ (f, Contains-head f row, here.0, here.1)
-    | inr later ↦ let u = of_row row number stored later in (u.0, Contains-later f u.0 row u.1, u.2, u.3)
+    | inl here ↦ (f, within_head f row, here.0, here.1)
+    | inr later ↦ let u = of_row row number stored later in (u.0, within_tail f row u.0 u.1, u.2, u.3)
   ]
 
   in_wals : (row : List Found) (f : Found) → Contains row f → IsOf (grouped row) f.name.wal (stored_in files f)
   in_wals [] f at = absurd (none_within f at)
-  in_wals (g ∷ row) f at = elim (Contains-cons g f row at) [
+  in_wals (g ∷ row) f at = elim (within_cases g row f at) [
     | inl e ↦ subst (λ (x : Found). IsOf (put g (grouped row)) x.name.wal (stored_in files x)) e (first_in g (grouped row))
     | inr later ↦ later_in g (grouped row) f.name.wal (stored_in files f) (in_wals row f later)
   ]
@@ -113,7 +114,7 @@ module _ (files : Files) where
   index_from : (low : ℕ) (segments : List Stored) → AreByIndex 0 segments → ((s : Stored) → Contains segments s → low ≤ s.index) → AreByIndex low segments
   unfolding AreByIndex
   index_from low [] by each = tt
-  index_from low (s ∷ segments) by each = (each s (Contains-head s segments), by.1)
+  index_from low (s ∷ segments) by each = (each s (within_head s segments), by.1)
 
   one_by_index : (stored : Stored) → AreByIndex 0 (stored ∷ [])
   unfolding AreByIndex
@@ -140,7 +141,7 @@ module _ (files : Files) where
       go (inl same) = (
         omega (arith, le, same),
         some_first (stored_in files f) wal.segments,
-        more_by_index (stored_in files f) wal.segments by.2 (λ s at. ahead wal.number s (wal, Contains-head wal wals, refl, at) same),
+        more_by_index (stored_in files f) wal.segments by.2 (λ s at. ahead wal.number s (wal, within_head wal wals, refl, at) same),
         by.3,
       )
       go (inr other) = (le, some_first (stored_in files f) [], one_by_index (stored_in files f), (omega (arith, by.0, other), by.1, by.2, by.3))
@@ -156,7 +157,7 @@ module _ (files : Files) where
   unfolding AreByNumber Ascends
   by_number low [] up each = tt
   by_number low (f ∷ row) up each =
-      by_number_put low f (grouped row) (each f (Contains-head f row)) (ahead_of f row up.0)
+      by_number_put low f (grouped row) (each f (within_head f row)) (ahead_of f row up.0)
       (by_number f.name.wal row up.1 (λ g at. wal_up f.name g.name (up.0 g at)))
 
   -- the WALs of the row are the listing of the directories as they read
@@ -201,13 +202,13 @@ module _ (files : Files) where
       → grouped (segments ++ later) ≡ record { number = number; segments = map (stored_in files) segments } ∷ grouped later
   one_group number [] later some own other = absurd (some refl)
   one_group number (f ∷ []) later some own other =
-      let is : f.name.wal ≡ number = own f (Contains-head f []) in
+      let is : f.name.wal ≡ number = own f (within_head f []) in
       put_alone f later (subst (λ (n : ℕ). BeginsElsewhere n later) (sym is) other)
       ∙ ap (λ (n : ℕ). record { number = n; segments = stored_in files f ∷ [] } ∷ grouped later) is
   one_group number (f ∷ g ∷ segments) later some own other =
-      ap (put f) (one_group number (g ∷ segments) later (λ e. absurd cc) (λ h at. own h (Contains-later f h (g ∷ segments) at)) other)
+      ap (put f) (one_group number (g ∷ segments) later (λ e. absurd cc) (λ h at. own h (within_tail f (g ∷ segments) h at)) other)
       ∙ joined_own f (record { number = number; segments = map (stored_in files) (g ∷ segments) }) (grouped later)
-      (same_number f.name.wal number) (own f (Contains-head f (g ∷ segments)))
+      (same_number f.name.wal number) (own f (within_head f (g ∷ segments)))
 
   of_number : (number : ℕ) (segments : List Found) → All (λ (f : Found). f.name.wal ≡ number) segments → (f : Found) → Contains segments f → f.name.wal ≡ number
   of_number number segments own f at = subst (λ (g : Found). g.name.wal ≡ number) at.2 (own at.0 f at.1)

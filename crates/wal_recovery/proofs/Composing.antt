@@ -1,10 +1,11 @@
 -- WALs that merge, with one more after them; and each listed WAL has a segment.
+use Rattle.batch_repr.proofs.Laws.{end_append}
 use Rattle.std.proofs.Common.{inl, inr, ℕ, suc, List, [], ◌∷◌, ◌++◌, sym, subst, ap, ◌∙◌, refl}
 use Rattle.std.specs.Prelude.{Contains, ◌≢◌}
 use Rattle.std.proofs.lemmas.List.{append-nil, append_assoc}
 use Rattle.batch_repr.specs.declared.batch.Batch.{Batch}
 use Rattle.batch_repr.specs.Batches.{end_after}
-use Rattle.segment_merge.proofs.Laws.{none_within, within_head, within_cases, end_append}
+use Rattle.segment_merge.proofs.Laws.{none_within, within_head, within_cases}
 use Rattle.wal_recovery.specs.Listing.{Stored, Wal, AreByNumber}
 use Rattle.wal_recovery.specs.Recovering.{WalMerges, WalsMerge}
 

@@ -1,11 +1,11 @@
 -- What was gathered of segments, as rows that a merge is given and as reports.
+use Rattle.wal_base.proofs.Laws.{within_head, within_tail}
 use Rattle.std.proofs.Common.{◌≡◌, ℕ, List, [], ◌∷◌, map, Contains, length, subst, sym, ap, ◌∙◌, refl}
 use Rattle.std.specs.List.{AllZip}
 use Rattle.batch_repr.specs.declared.batch.Batch.{Batch}
 use Rattle.segment_merge.specs.Rows.{batches_in}
 use Rattle.segment_merge.specs.Merging.{Merged}
 use Rattle.disk_face.specs.View.{Files}
-use Rattle.disk_face.proofs.Laws.{Contains-head, Contains-later}
 use Rattle.wal_recovery.specs.declared.listing.Found.{Found}
 use Rattle.wal_recovery.specs.declared.reports.SegReport.{SegReport}
 use Rattle.wal_recovery.specs.declared.wals.FoundWal.{FoundWal}
@@ -38,8 +38,8 @@ row_holds files number [] [] all h = tt
 row_holds files number [] (r ∷ own) all h = absurd h
 row_holds files number (f ∷ segments) [] all h = absurd h
 row_holds files number (f ∷ segments) (r ∷ own) all h = (
-  report_holds number f (bytes_at files (place_listed f)) r (all f (Contains-head f segments)) h.0,
-  row_holds files number segments own (λ g at. all g (Contains-later f g segments at)) h.1,
+  report_holds number f (bytes_at files (place_listed f)) r (all f (within_head f segments)) h.0,
+  row_holds files number segments own (λ g at. all g (within_tail f segments g at)) h.1,
 )
 
 pub report_is : (files : Files) (number : ℕ) (f : Found) (r : SegReport) → f.name.wal ≡ number → IsAsListed files f
@@ -63,8 +63,8 @@ reports_on files number [] [] all listed h = tt
 reports_on files number [] (r ∷ own) all listed h = absurd h
 reports_on files number (f ∷ segments) [] all listed h = absurd h
 reports_on files number (f ∷ segments) (r ∷ own) all listed h = (
-  report_is files number f r (all f (Contains-head f segments)) (listed f (Contains-head f segments)) h.0,
-  reports_on files number segments own (λ g at. all g (Contains-later f g segments at)) (λ g at. listed g (Contains-later f g segments at)) h.1,
+  report_is files number f r (all f (within_head f segments)) (listed f (within_head f segments)) h.0,
+  reports_on files number segments own (λ g at. all g (within_tail f segments g at)) (λ g at. listed g (within_tail f segments g at)) h.1,
 )
 
 -- a row under indexes has the batches

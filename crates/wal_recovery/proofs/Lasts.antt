@@ -1,10 +1,10 @@
 -- The last item of a list: where it stands, and the numbers that come after it.
+use Rattle.batch_repr.proofs.Laws.{end_append}
 use Rattle.std.proofs.Common.{◌≡◌, ℕ, zero, suc, ◌+◌, ◌-◌, ◌<◌, List, [], ◌∷◌, ◌++◌, Some, None, length, take, get_or, subst, sym, ap, ◌∙◌, refl, arith, append_assoc}
 use Rattle.std.specs.Prelude.{slice_get}
 use Rattle.std.proofs.lemmas.List.{length_push, take_more}
 use Rattle.batch_repr.specs.declared.batch.Batch.{Batch}
 use Rattle.batch_repr.specs.Batches.{end_of, end_after}
-use Rattle.segment_merge.proofs.Laws.{end_append}
 use Rattle.wal_recovery.specs.declared.listing.Found.{Found}
 use Rattle.wal_recovery.specs.Rows.{IsNextAfter}
 use Rattle.wal_recovery.proofs.Tools.{some_is}

@@ -1,4 +1,5 @@
 -- What two listings of a disk say of the directories: which segments they have, and which name stands on both sides.
+use Rattle.wal_base.proofs.Laws.{within_cases, within_head}
 use Rattle.std.proofs.Common.{◌≡◌, ◌⊎◌, inl, inr, ◌≤◌, ◌<◌, ℕ, Bool, true, false, List, [], ◌∷◌, Option, Some, None, All, Contains, length, get_or, subst, sym, ap, ◌∙◌, refl, arith}
 use Rattle.std.proofs.lemmas.List.Elements.{Contains-get_or}
 use Rattle.disk_face.specs.declared.Side.{Side}
@@ -8,7 +9,6 @@ use Rattle.disk_face.specs.declared.Listed.{Listed}
 use Rattle.disk_face.specs.View.{segment, File, Files}
 use Rattle.disk_face.specs.Image.{as_read, dirs_as_read}
 use Rattle.disk_face.specs.Listing.{IsBefore, IsAscending, IsSegmentName, AreSegmentNames, IsListing}
-use Rattle.disk_face.proofs.Laws.{Contains-head, Contains-cons}
 use Rattle.segment_merge.proofs.Laws.{none_within}
 use Rattle.wal_recovery.specs.declared.listing.Found.{Found}
 use Rattle.wal_recovery.specs.Listing.{IsTwice, IsDuplicate, name_in}
@@ -73,12 +73,12 @@ module _ (files : Files) (ones others : List Listed) (up : IsAscending ones) (do
   behind : (row : List Found) (x y : Listed) (xs ys : List Listed) (name : SegName) → Weaves row ones others (x ∷ xs) (y ∷ ys) → x.name ≡ name → y.name ≡ name
       → (one other : Listed) → Contains ones one → Contains others other → one.name ≡ other.name → (one.name ≡ name) ⊎ IsBefore name one.name
   behind row x y xs ys name w ex ey one other a b e = elim (row_to row ones others (x ∷ xs) (y ∷ ys) w up down Primary one a) [
-    | inr left ↦ elim (Contains-cons x one xs left) [
+    | inr left ↦ elim (within_cases x xs one left) [
       | inl is ↦ inl (ap (λ (z : Listed). z.name) (sym is) ∙ ex)
       | inr later ↦ inr (subst (λ n. IsBefore n one.name) ex (first_before x xs (left_ascends row ones others (x ∷ xs) (y ∷ ys) w up down).0 one later))
     ]
     | inl within ↦ elim (row_to row ones others (x ∷ xs) (y ∷ ys) w up down Secondary other b) [
-      | inr left ↦ elim (Contains-cons y other ys left) [
+      | inr left ↦ elim (within_cases y ys other left) [
         | inl is ↦ inl (e ∙ ap (λ (z : Listed). z.name) (sym is) ∙ ey)
         | inr later ↦ inr (subst (λ n. IsBefore n one.name) ey (subst (λ n. IsBefore y.name n) (sym e)
             (first_before y ys (left_ascends row ones others (x ∷ xs) (y ∷ ys) w up down).1 other later)))
@@ -95,8 +95,8 @@ module _ (files : Files) (ones others : List Listed) (up : IsAscending ones) (do
       → IsDuplicate (dirs_as_read files) wal index
   met_duplicate row x y xs ys wal index w ex ey = record {
     twice =
-        let one = item_reads Primary x (left_from row ones others (x ∷ xs) (y ∷ ys) w up down Primary x (Contains-head x xs)) in
-        let two = item_reads Secondary y (left_from row ones others (x ∷ xs) (y ∷ ys) w up down Secondary y (Contains-head y ys)) in (
+        let one = item_reads Primary x (left_from row ones others (x ∷ xs) (y ∷ ys) w up down Primary x (within_head x xs)) in
+        let two = item_reads Secondary y (left_from row ones others (x ∷ xs) (y ∷ ys) w up down Secondary y (within_head y ys)) in (
           subst IsSegmentName ex one.0,
           one.1,
           two.1,

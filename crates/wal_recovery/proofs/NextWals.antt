@@ -1,9 +1,9 @@
 -- The number after the last listed segment is that of the next WAL: the row ascends, and has the segments of the directories.
+use Rattle.wal_base.proofs.Laws.{within_cases, within_head, within_tail}
 use Rattle.std.proofs.Common.{◌≡◌, inl, inr, ℕ, suc, ◌≤◌, Bool, List, [], ◌∷◌, Result, Ok, Err, IsTrue, Contains, ap, refl, arith}
 use Rattle.std.specs.Prelude.{IfOk}
 use Rattle.disk_face.specs.View.{Files}
 use Rattle.disk_face.specs.Image.{dirs_as_read}
-use Rattle.disk_face.proofs.Laws.{Contains-head, Contains-later, Contains-cons}
 use Rattle.segment_merge.proofs.Laws.{none_within}
 use Rattle.wal_recovery.specs.declared.listing.Found.{Found}
 use Rattle.wal_recovery.specs.declared.fault.RecoverFault.{RecoverFault}
@@ -23,8 +23,8 @@ unfolding Ascends IsNextAfter
 last_behind f [] next up is = (
   f,
   record {
-    at = Contains-head f [];
-    above = λ g at. elim (Contains-cons f g [] at) [ inl e ↦ omega (arith, ap (λ (x : Found). x.name.wal) e) | inr none ↦ absurd (none_within g none) ];
+    at = within_head f [];
+    above = λ g at. elim (within_cases f [] g at) [ inl e ↦ omega (arith, ap (λ (x : Found). x.name.wal) e) | inr none ↦ absurd (none_within g none) ];
   },
   omega (arith, is),
 )
@@ -32,8 +32,8 @@ last_behind f (h ∷ row) next up is =
     let l = last_behind h row next up.1 is in (
       l.0,
       record {
-        at = Contains-later f l.0 (h ∷ row) l.1.at;
-        above = λ g at. elim (Contains-cons f g (h ∷ row) at) [
+        at = within_tail f (h ∷ row) l.0 l.1.at;
+        above = λ g at. elim (within_cases f (h ∷ row) g at) [
           | inl e ↦ omega (arith, ap (λ (x : Found). x.name.wal) e, wal_up f.name l.0.name (up.0 l.0 l.1.at))
           | inr behind ↦ l.1.above g behind
         ];

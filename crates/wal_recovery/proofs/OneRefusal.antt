@@ -1,4 +1,5 @@
 -- Where no gap is accepted, directories have one answer. Of two WALs that are refused the lesser is merged on the way to the other.
+use Rattle.batch_repr.proofs.Laws.{end_append}
 use Rattle.batch_repr.specs.declared.limits.TheConstants.{NUMBER_FIRST}
 use Rattle.std.proofs.Common.{◌≡◌, ◌⊎◌, inl, inr, ℕ, List, [], ◌∷◌, ◌++◌, sym, subst, ap, ◌∙◌, refl}
 use Rattle.batch_repr.specs.declared.batch.Batch.{Batch}
@@ -8,7 +9,7 @@ use Rattle.segment_merge.specs.declared.fault.MergeFault.{MergeFault}
 use Rattle.segment_merge.specs.declared.fault.MergeFault.TheVariants as merges
 use Rattle.segment_merge.specs.Merging.{Merged}
 use Rattle.segment_merge.specs.Refusals.{IsRowRefused}
-use Rattle.segment_merge.proofs.Laws.{end_append, one_refusal, merged_or_refused, Places, sooner, one, later, places}
+use Rattle.segment_merge.proofs.Laws.{one_refusal, merged_or_refused, Places, sooner, one, later, places}
 use Rattle.disk_face.specs.View.{Dirs}
 use Rattle.wal_recovery.specs.declared.fault.RecoverFault.{RecoverFault}
 use Rattle.wal_recovery.specs.declared.fault.RecoverFault.TheVariants as faults

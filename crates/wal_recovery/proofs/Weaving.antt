@@ -1,11 +1,12 @@
 -- Two ascending listings that are put into one row, item by item: the row ascends, and has just what they have.
+use Rattle.wal_base.proofs.Laws.{within_cases, within_head, within_tail}
 use Rattle.std.proofs.Common.{◌≡◌, ◌⊎◌, inl, inr, ◌++◌, List, [], ◌∷◌, Contains, subst, sym, ap, ◌∙◌, refl}
 use Rattle.disk_face.specs.declared.Side.{Side}
 use Rattle.disk_face.specs.declared.Side.TheVariants.{Primary, Secondary}
 use Rattle.disk_face.specs.declared.SegName.{SegName}
 use Rattle.disk_face.specs.declared.Listed.{Listed}
 use Rattle.disk_face.specs.Listing.{IsBefore, IsAscending}
-use Rattle.disk_face.proofs.Laws.{before_trans, not_before_itself, AllPairs-head, AllPairs-tail, Contains-head, Contains-later, Contains-cons}
+use Rattle.disk_face.proofs.Laws.{before_trans, not_before_itself, AllPairs-head, AllPairs-tail}
 use Rattle.segment_merge.proofs.Laws.{none_within}
 use Rattle.wal_recovery.specs.declared.listing.Found.{Found}
 use Rattle.wal_recovery.specs.Rows.{item_of, Ascends, IsBeforeHead, Takes, Weaves}
@@ -40,7 +41,7 @@ rest_ascends x xs asc = AllPairs-tail (λ (a b : Listed). IsBefore a.name b.name
 
 before_items : (name : SegName) (items : List Listed) → IsAscending items → IsBeforeHead name items → IsBeforeItems name items
 before_items name [] asc h item at = absurd (none_within item at)
-before_items name (x ∷ xs) asc h item at = elim (Contains-cons x item xs at) [
+before_items name (x ∷ xs) asc h item at = elim (within_cases x xs item at) [
   | inl e ↦ subst (λ (y : Listed). IsBefore name y.name) e h
   | inr later ↦ before_trans name x.name item.name h (first_before x xs asc item later)
 ]
@@ -59,7 +60,7 @@ taken f ones others a b (inl (is, cut, same, head)) up down =
     let up' : IsAscending (item_of f ∷ a) = subst IsAscending cut up in
     let down' : IsAscending b = subst IsAscending same down in
     record {
-      here = subst (λ s. Contains (on s ones others) (item_of f)) (sym is) (subst (λ xs. Contains xs (item_of f)) (sym cut) (Contains-head (item_of f) a));
+      here = subst (λ s. Contains (on s ones others) (item_of f)) (sym is) (subst (λ xs. Contains xs (item_of f)) (sym cut) (within_head (item_of f) a));
       sub = sub_of;
       cases = cases_of;
       before = before_of down' up';
@@ -68,11 +69,11 @@ taken f ones others a b (inl (is, cut, same, head)) up down =
     }
   where
     sub_of : (side : Side) (item : Listed) → Contains (on side a b) item → Contains (on side ones others) item
-    sub_of Primary item at = subst (λ xs. Contains xs item) (sym cut) (Contains-later (item_of f) item a at)
+    sub_of Primary item at = subst (λ xs. Contains xs item) (sym cut) (within_tail (item_of f) a item at)
     sub_of Secondary item at = subst (λ xs. Contains xs item) (sym same) at
 
     cases_of : (side : Side) (item : Listed) → Contains (on side ones others) item → (f ≡ found_on side item) ⊎ Contains (on side a b) item
-    cases_of Primary item at = elim (Contains-cons (item_of f) item a (subst (λ xs. Contains xs item) cut at)) [
+    cases_of Primary item at = elim (within_cases (item_of f) a item (subst (λ xs. Contains xs item) cut at)) [
       | inl e ↦ inl (λ i. record { side = is i; name = (e i).name; len = (e i).len })
       | inr later ↦ inr later
     ]
@@ -85,7 +86,7 @@ taken f ones others a b (inr (is, cut, same, head)) up down =
     let up' : IsAscending a = subst IsAscending same up in
     let down' : IsAscending (item_of f ∷ b) = subst IsAscending cut down in
     record {
-      here = subst (λ s. Contains (on s ones others) (item_of f)) (sym is) (subst (λ xs. Contains xs (item_of f)) (sym cut) (Contains-head (item_of f) b));
+      here = subst (λ s. Contains (on s ones others) (item_of f)) (sym is) (subst (λ xs. Contains xs (item_of f)) (sym cut) (within_head (item_of f) b));
       sub = sub_of;
       cases = cases_of;
       before = before_of down' up';
@@ -95,11 +96,11 @@ taken f ones others a b (inr (is, cut, same, head)) up down =
   where
     sub_of : (side : Side) (item : Listed) → Contains (on side a b) item → Contains (on side ones others) item
     sub_of Primary item at = subst (λ xs. Contains xs item) (sym same) at
-    sub_of Secondary item at = subst (λ xs. Contains xs item) (sym cut) (Contains-later (item_of f) item b at)
+    sub_of Secondary item at = subst (λ xs. Contains xs item) (sym cut) (within_tail (item_of f) b item at)
 
     cases_of : (side : Side) (item : Listed) → Contains (on side ones others) item → (f ≡ found_on side item) ⊎ Contains (on side a b) item
     cases_of Primary item at = inr (subst (λ xs. Contains xs item) same at)
-    cases_of Secondary item at = elim (Contains-cons (item_of f) item b (subst (λ xs. Contains xs item) cut at)) [
+    cases_of Secondary item at = elim (within_cases (item_of f) b item (subst (λ xs. Contains xs item) cut at)) [
       | inl e ↦ inl (λ i. record { side = is i; name = (e i).name; len = (e i).len })
       | inr later ↦ inr later
     ]
@@ -118,7 +119,7 @@ unfolding Weaves
 row_from [] ones others ro rs w up down g at = absurd (none_within g at)
 row_from (f ∷ row) ones others ro rs w up down g at =
     let k = taken f ones others w.0 w.1 w.2 up down in
-    elim (Contains-cons f g row at) [
+    elim (within_cases f row g at) [
       | inl e ↦ subst (λ (h : Found). Contains (on h.side ones others) (item_of h)) e k.here
       | inr later ↦ k.sub g.side (item_of g) (row_from row w.0 w.1 ro rs w.3 k.ones_ascend k.others_ascend g later)
     ]
@@ -133,9 +134,9 @@ row_to [] ones others ro rs w up down side item at = inr (subst (λ xs. Contains
 row_to (f ∷ row) ones others ro rs w up down side item at =
     let k = taken f ones others w.0 w.1 w.2 up down in
     elim (k.cases side item at) [
-      | inl e ↦ inl (subst (λ (h : Found). Contains (f ∷ row) h) e (Contains-head f row))
+      | inl e ↦ inl (subst (λ (h : Found). Contains (f ∷ row) h) e (within_head f row))
       | inr later ↦ elim (row_to row w.0 w.1 ro rs w.3 k.ones_ascend k.others_ascend side item later) [
-        | inl within ↦ inl (Contains-later f (found_on side item) row within)
+        | inl within ↦ inl (within_tail f row (found_on side item) within)
         | inr left ↦ inr left
       ]
     ]
@@ -173,12 +174,12 @@ row_ascends (f ∷ row) ones others ro rs w up down =
 pub one_name : (row : List Found) (f g : Found) → Ascends row → Contains row f → Contains row g → f.name ≡ g.name → f ≡ g
 unfolding Ascends
 one_name [] f g up a b e = absurd (none_within f a)
-one_name (h ∷ row) f g up a b e = elim (Contains-cons h f row a) [
-  | inl hf ↦ elim (Contains-cons h g row b) [
+one_name (h ∷ row) f g up a b e = elim (within_cases h row f a) [
+  | inl hf ↦ elim (within_cases h row g b) [
     | inl hg ↦ sym hf ∙ hg
     | inr later ↦ absurd (not_before_itself h.name g.name (up.0 g later) (ap (λ (x : Found). x.name) hf ∙ e))
   ]
-  | inr later ↦ elim (Contains-cons h g row b) [
+  | inr later ↦ elim (within_cases h row g b) [
     | inl hg ↦ absurd (not_before_itself h.name f.name (up.0 f later) (ap (λ (x : Found). x.name) hg ∙ sym e))
     | inr behind ↦ one_name row f g up.1 later behind e
   ]

@@ -1,4 +1,5 @@
 -- A replay whose commits all have their batches ends after all their numbers, and where these are within the limit each commit has its batch.
+use Rattle.batch_repr.proofs.Laws.{contiguous_back, end_append}
 use Rattle.std.proofs.Common.{◌≡◌, ℕ, zero, suc, Bool, true, false, ◌+◌, ◌≤◌, List, [], ◌∷◌, ◌++◌, length, take, map, Some, refl, sym, ap, ◌∙◌, arith, subst}
 use Rattle.std.specs.Prelude.{sum_by, slice_get}
 use Rattle.std.specs.List.{filter_map}
@@ -8,18 +9,12 @@ use Rattle.wal_base.specs.declared.entry.Entry.{Entry}
 use Rattle.batch_repr.specs.declared.batch.Batch.{Batch}
 use Rattle.batch_repr.specs.declared.limits.TheConstants.{NUMBER_FIRST, NUMBER_MAX}
 use Rattle.batch_repr.specs.Batches.{count_of, end_of, IsContiguous, end_after}
-use Rattle.wal_top.proofs.Numbering.{end_after-append}
 use Rattle.wal_top.specs.declared.script.Act.{Act}
 use Rattle.wal_top.specs.declared.script.Act.TheVariants.{Commit, Get}
 use Rattle.failover_writer.specs.declared.fault.JournalEnd.{JournalEnd}
 use Rattle.wal_top.specs.Replay.{committed, numbers_taken, visible_after, Answers, numbered, limited, dead, read, StaysDead, AnswersAll, IsReplayText, AllCommitted, LacksBatch}
 
 -- ---- all numbers
-
-contiguous_back : (from : ℕ) (front back : List Batch) → IsContiguous from (front ++ back) → IsContiguous (end_after from front) back
-unfolding IsContiguous end_after
-contiguous_back from [] back c = c
-contiguous_back from (batch ∷ front) back c = contiguous_back (end_of batch) front back c.2
 
 sum_of : List (List Entry) → ℕ
 sum_of [] = 0
@@ -44,7 +39,7 @@ all_numbers base acts batches end text is all =
     omega (
       arith,
       is.within,
-      end_after-append NUMBER_FIRST base batches,
+      end_append NUMBER_FIRST base batches,
       end_sum (end_after NUMBER_FIRST base) batches (contiguous_back NUMBER_FIRST base batches is.numbered),
       sums,
     )

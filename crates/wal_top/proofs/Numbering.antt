@@ -1,4 +1,5 @@
 -- A batch more after batches that are numbered one after another.
+use Rattle.batch_repr.proofs.Laws.{contiguous_push, end_push}
 use Rattle.std.proofs.Common.{◌≡◌, ℕ, ◌+◌, ◌<◌, ◌≤◌, List, [], ◌∷◌, ◌++◌, refl, sym, ap, ◌∙◌, subst, arith}
 use Rattle.wal_base.specs.declared.entry.Entry.{Entry}
 use Rattle.batch_repr.specs.declared.batch.Batch.{Batch}
@@ -6,28 +7,13 @@ use Rattle.batch_repr.specs.declared.limits.TheConstants.{NUMBER_FIRST, NUMBER_M
 use Rattle.batch_repr.specs.Batches.{count_of, end_of, IsContiguous, end_after}
 use Rattle.wal_top.specs.Kept.{IsKept}
 
-pub end_after-append : (from : ℕ) (xs ys : List Batch) → end_after from (xs ++ ys) ≡ end_after (end_after from xs) ys
-unfolding end_after
-end_after-append from [] ys = refl
-end_after-append from (x ∷ xs) ys = end_after-append (end_of x) xs ys
-
-pub end_after-push : (from : ℕ) (xs : List Batch) (x : Batch) → end_after from (xs ++ x ∷ []) ≡ end_of x
-unfolding end_after
-end_after-push from xs x = end_after-append from xs (x ∷ [])
-
-IsContiguous-push : (from : ℕ) (xs : List Batch) (x : Batch) → IsContiguous from xs → x.first ≡ end_after from xs → 0 < count_of x.entries
-    → IsContiguous from (xs ++ x ∷ [])
-unfolding IsContiguous end_after
-IsContiguous-push from [] x h e some = (e, some, tt)
-IsContiguous-push from (y ∷ xs) x h e some = (h.0, h.1, IsContiguous-push (end_of y) xs x h.2 e some)
-
 kept_more : (batches batches' : List Batch) (next next' : ℕ) (batch : Batch) → IsKept batches next → batches' ≡ batches ++ batch ∷ []
     → batch.first ≡ next → 0 < count_of batch.entries
     → next' ≡ end_of batch → next' ≤ NUMBER_MAX → IsKept batches' next'
 kept_more batches batches' next next' batch kept e first some end small =
     subst (λ (bs : List Batch). IsKept bs next') (sym e) (record {
-      numbered = IsContiguous-push NUMBER_FIRST batches batch kept.numbered (first ∙ kept.next_is) some;
-      next_is = end ∙ sym (end_after-push NUMBER_FIRST batches batch);
+      numbered = contiguous_push NUMBER_FIRST batches batch kept.numbered (first ∙ kept.next_is) some;
+      next_is = end ∙ sym (end_push NUMBER_FIRST batches batch);
       small = small;
     })
 
@@ -48,5 +34,5 @@ pub next_behind : (n m : ℕ) (history more : List Batch) (numbered : Batch) (en
     → numbered ≡ record { first = end_after NUMBER_FIRST history; entries = entries }
     → more ≡ history ++ record { first = end_after NUMBER_FIRST history; entries = entries } ∷ [] → n ≡ end_after NUMBER_FIRST more
 next_behind n m history more numbered entries a b is added =
-    a ∙ b ∙ ap end_of is ∙ sym (end_after-push NUMBER_FIRST history (record { first = end_after NUMBER_FIRST history; entries = entries }))
+    a ∙ b ∙ ap end_of is ∙ sym (end_push NUMBER_FIRST history (record { first = end_after NUMBER_FIRST history; entries = entries }))
     ∙ ap (end_after NUMBER_FIRST) (sym added)

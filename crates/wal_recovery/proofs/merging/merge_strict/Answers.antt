@@ -1,10 +1,10 @@
 -- Each WAL is merged from the end of those before it, so those up to it merge, and what refuses it refuses the directories.
+use Rattle.batch_repr.proofs.Laws.{contiguous_append, end_append}
 use Rattle.batch_repr.specs.declared.limits.TheConstants.{NUMBER_FIRST}
 use Rattle.std.proofs.Common.{◌≡◌, ℕ, map, List, length, take_all, ◌++◌, [], Err, IsTrue, All, sym, subst, ap, ◌∙◌, rules, arith}
 use Rattle.std.specs.Prelude.{IfErr, Result}
 use Rattle.batch_repr.specs.Batches.{end_after, IsContiguous}
 use Rattle.segment_merge.specs.Rows.{IsNumbered}
-use Rattle.segment_merge.proofs.Laws.{end_append, contiguous_append}
 use Rattle.disk_face.specs.View.{Files, files}
 use Rattle.disk_face.specs.Image.{dirs_as_read}
 use Rattle.disk_face.proofs.Laws.{goes_on_from, goes_on_further, same_from, same_further, same_files}
