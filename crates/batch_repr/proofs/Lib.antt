@@ -1,17 +1,17 @@
 pub mod Laws
 mod Examples
-mod NumberWriting
+mod WrittenNumber
 mod Drafts
 mod Written
 mod Shortest
-mod Fitting
+mod FitsBatch
 mod Tools
 mod Numbers
 mod Entries
 mod Outcomes
 mod Varints
 mod Fields
-mod Parting
+mod EndsWith
 mod Agreement
 mod Pinned
 mod Contiguous

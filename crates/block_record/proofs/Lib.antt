@@ -2,9 +2,9 @@ pub mod Laws
 mod Fragments
 mod Chains
 mod Rows
-mod Laying
+mod Laid
 mod Replay
-mod Beginnings
+mod ReadsPrefix
 mod Joined
 mod Walked
 mod Limits

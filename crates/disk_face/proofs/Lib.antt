@@ -4,7 +4,7 @@ mod Places
 mod Listings
 mod Images
 mod Spelling
-mod Passed
+mod Polled
 mod Asked
 mod Fieldless
 mod Limits

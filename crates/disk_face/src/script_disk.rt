@@ -141,7 +141,7 @@ impl<D: Disk> Disk for ScriptDisk<D> {
         Ok(id)
     }
 
-    #[tactic(auto, using(crate::proofs::Passed::passed_on))]
+    #[tactic(auto, using(crate::proofs::Polled::passed_on))]
     fn poll(&mut self, id: OpId) -> Progress
         requires { IsSome ((outer D.view self.old).in_flight id) }
         ensures goes_on { GoesOn (outer D.view self.old) (outer D.view self.new) }

@@ -1,3 +1,3 @@
 mod Polls
 mod Inserts
-mod Filling
+mod Filled

@@ -1,9 +1,9 @@
 pub mod Laws
 mod Parts
-mod Kept
+mod IsKeptAs
 mod Beside
-mod Fitting
+mod Fits
 mod Polls
-mod Sending
-mod Begins
+mod FramesFrom
+mod StartsOn
 mod Limits

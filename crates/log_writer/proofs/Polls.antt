@@ -17,7 +17,7 @@ use Rattle.log_writer.specs.Fits.{place_of_writer, act_of, Flies, HasFlight, Has
 use Rattle.log_writer.specs.Kept.{SegmentKept}
 use Rattle.log_writer.specs.Steps.{TakesPoll, after_answer, synced_with}
 use Rattle.log_writer.proofs.Parts.{no_bytes, bytes_front}
-use Rattle.log_writer.proofs.Fitting.{fits_kept, fits_kept_from}
+use Rattle.log_writer.proofs.Fits.{fits_kept, fits_kept_from}
 use Rattle.log_writer.proofs.Beside.{OthersStay, same_disk, ended_elsewhere, two_moments, one_moment, fits_beside}
 
 free_after : (old new : DiskView) (place : Place) (act : Act) (id : OpId) → Flies old place act id → Ends id old new → IsFree new place

@@ -14,7 +14,7 @@ use Rattle.segment_merge.specs.Returned.{MergedOrMemory, RefusedOrMemory, Memory
 use Rattle.segment_merge.specs.Keeping.{Kept}
 use Rattle.segment_merge.specs.Steps.{KeepsLenient}
 use Rattle.segment_merge.proofs.Places.{Places, sooner, one, later, places}
-use Rattle.segment_merge.proofs.Refused.{cut_row}
+use Rattle.segment_merge.proofs.IsFirstWrong.{cut_row}
 use Rattle.segment_merge.proofs.OneLenient.{one_lenient}
 use Rattle.segment_merge.proofs.LenientPass.{accepted_front}
 

@@ -10,7 +10,7 @@ use Rattle.segment_merge.specs.Lenient.{AreMergedOf, IsRowLenientlyRefused}
 use Rattle.segment_merge.specs.Returned.{MemoryOrRefusal}
 use Rattle.segment_merge.specs.Keeping.{Kept}
 use Rattle.segment_merge.specs.Steps.{KeepsLenient, LenientAnswers, RowAnswers}
-use Rattle.segment_merge.proofs.Answered.{row_more, whole_row}
+use Rattle.segment_merge.proofs.KeepsMerged.{row_more, whole_row}
 use Rattle.segment_merge.proofs.LenientPass.{keeps_own, accepted_none}
 use Rattle.segment_merge.proofs.LenientRefusals.{Answers}
 

@@ -7,9 +7,9 @@ mod Unique
 mod Cover
 mod Pass
 mod Places
-mod Refused
+mod IsFirstWrong
 mod OneRefusal
-mod Answered
+mod KeepsMerged
 mod OneLenient
 mod LenientPass
 mod LenientRefusals

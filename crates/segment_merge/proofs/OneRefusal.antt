@@ -8,7 +8,7 @@ use Rattle.segment_merge.specs.Rows.{batches_in}
 use Rattle.segment_merge.specs.Merging.{Merged}
 use Rattle.segment_merge.specs.Refusals.{expected_after, IsFirstWrong, IsGap, IsConflict, IsRowRefused}
 use Rattle.segment_merge.proofs.Places.{Places, sooner, one, later, places}
-use Rattle.segment_merge.proofs.Refused.{grows, merged_or_wrong, cut_row}
+use Rattle.segment_merge.proofs.IsFirstWrong.{grows, merged_or_wrong, cut_row}
 
 -- no row that goes on after a first wrong batch merges
 none_behind : (first : ℕ) (segments : List SegmentRead) (i e : ℕ) (b : Batch) (w : IsFirstWrong first segments i e b) (mid : List Batch)

@@ -20,8 +20,8 @@ use Rattle.wal_recovery.specs.Answers.{DiskMemoryOr}
 use Rattle.wal_recovery.specs.Rows.{stored_in, wal_in, wals_in}
 use Rattle.wal_recovery.specs.Gathered.{AreAsListed, AreListedWals}
 use Rattle.wal_recovery.specs.OneWal.{AddsReports, HoldsRow, IsRefusedWal}
-use Rattle.wal_recovery.proofs.Composing.{wals_more}
-use Rattle.wal_recovery.proofs.Strictly.{reports_push, by_index_at}
+use Rattle.wal_recovery.proofs.WalsMerge.{wals_more}
+use Rattle.wal_recovery.proofs.ReportOnAll.{reports_push, by_index_at}
 
 -- The WAL stands at this place.
 pub record StandsAt (wals : List FoundWal) (i : ℕ) (wal : FoundWal) : Type 0 where

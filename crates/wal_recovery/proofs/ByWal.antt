@@ -10,7 +10,7 @@ use Rattle.wal_recovery.specs.declared.listing.Found.{Found}
 use Rattle.wal_recovery.specs.declared.wals.FoundWal.{FoundWal}
 use Rattle.wal_recovery.specs.Listing.{Stored, Wal, AreByIndex, AreByNumber, IsOf, IsListingOf}
 use Rattle.wal_recovery.specs.Rows.{Ascends, IsRowOf, BeginsElsewhere, Groups, stored_in, wal_in, wals_in}
-use Rattle.wal_recovery.proofs.Grouping.{wal_up, index_up, IsStoredFound, found_stands, stands_found}
+use Rattle.wal_recovery.proofs.Groups.{wal_up, index_up, IsStoredFound, found_stands, stands_found}
 
 -- the segment is of the WAL, or of another one
 abbrev pub IsOfOrNot : Found → Wal → Type 0

@@ -10,7 +10,7 @@ use Rattle.wal_recovery.specs.declared.fault.RecoverFault.{RecoverFault}
 use Rattle.wal_recovery.specs.declared.reports.Recovered.{Recovered}
 use Rattle.wal_recovery.specs.Listing.{IsNextWal}
 use Rattle.wal_recovery.specs.Rows.{Ascends, IsRowOf, IsNextAfter, stored_in}
-use Rattle.wal_recovery.proofs.Grouping.{wal_up, found_stands, stands_found}
+use Rattle.wal_recovery.proofs.Groups.{wal_up, found_stands, stands_found}
 
 -- the last of the row
 record IsLast (row : List Found) (f : Found) : Type 0 where

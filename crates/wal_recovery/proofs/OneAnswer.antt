@@ -13,7 +13,7 @@ use Rattle.segment_merge.proofs.Laws.{none_within, within_head, within_tail, wit
 use Rattle.segment_merge.specs.Merging.{Merged}
 use Rattle.wal_recovery.specs.Listing.{Stored, Wal, AreByIndex, AreByNumber, IsOf, IsListingOf}
 use Rattle.wal_recovery.specs.Recovering.{log_number, takes_number, Spell, HoldsBatches, HoldRow, WalsMerge, Recovers}
-use Rattle.wal_recovery.proofs.Composing.{listed_some}
+use Rattle.wal_recovery.proofs.WalsMerge.{listed_some}
 use Rattle.wal_recovery.proofs.OneReading as reading
 
 -- ---- one listing

@@ -14,8 +14,8 @@ use Rattle.wal_recovery.specs.Listing.{Wal}
 use Rattle.wal_recovery.specs.Recovering.{log_number, HoldAll, RecoversLenient}
 use Rattle.wal_recovery.specs.Refused.{by_index, segments_of, ReachesLenient, IsLenientlyRefused}
 use Rattle.wal_recovery.specs.OneWal.{HoldsRow, IsLenientlyRefusedWal}
-use Rattle.wal_recovery.proofs.Gathering.{batches_by_index}
-use Rattle.wal_recovery.proofs.Leniently.{all_batches}
+use Rattle.wal_recovery.proofs.IsReportOf.{batches_by_index}
+use Rattle.wal_recovery.proofs.AreReportsMerged.{all_batches}
 use Rattle.wal_recovery.proofs.Duplicates.{listed_or_twice, one_duplicate}
 use Rattle.wal_recovery.proofs.OneBad.{held_or_bad, one_bad_batch}
 use Rattle.wal_recovery.proofs.OneAnswer.{one_listing, one_row}

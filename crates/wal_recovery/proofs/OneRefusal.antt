@@ -18,7 +18,7 @@ use Rattle.wal_recovery.specs.Recovering.{log_number, WalMerges, WalsMerge, Reco
 use Rattle.wal_recovery.specs.Refused.{IsBadBatch, Reaches, by_index, IsRefused}
 use Rattle.wal_recovery.specs.Gathered.{named_in_wal}
 use Rattle.wal_recovery.specs.OneWal.{HoldsRow, IsRefusedWal}
-use Rattle.wal_recovery.proofs.Gathering.{batches_by_index}
+use Rattle.wal_recovery.proofs.IsReportOf.{batches_by_index}
 use Rattle.wal_recovery.proofs.Duplicates.{listed_or_twice, one_duplicate}
 use Rattle.wal_recovery.proofs.OneBad.{held_or_bad, one_bad_batch}
 use Rattle.wal_recovery.proofs.OneAnswer.{one_listing, one_row, one_wals}

@@ -23,7 +23,7 @@ use Rattle.wal_recovery.specs.Answers.{FaultRose, DiskMemoryOr}
 use Rattle.wal_recovery.specs.Rows.{place_listed, bytes_at, stored_in, wal_in}
 use Rattle.wal_recovery.specs.Gathered.{IsAsListed, AreAsListed, counted_in, AddsSegments, GathersWal, IsFirstBadOf, IsOwnWal, named_in_wal}
 use Rattle.wal_recovery.specs.OneWal.{AddsReports, HoldsRow, IsRefusedWal}
-use Rattle.wal_recovery.proofs.Gathering.{AreOfWal, row_holds, reports_on, wal_merged}
+use Rattle.wal_recovery.proofs.IsReportOf.{AreOfWal, row_holds, reports_on, wal_merged}
 
 pub own_of : (wal : FoundWal) → IsOwnWal wal → AreOfWal wal.number wal.segments.items
 own_of wal own f at = All-contains (λ (g : Found). g.name.wal ≡ wal.number) wal.segments.items f own at

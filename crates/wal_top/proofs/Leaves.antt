@@ -12,7 +12,7 @@ use Rattle.wal_top.specs.Words.{IsReplay, StartsOperations}
 use Rattle.wal_top.specs.Reading.{TookAtMost}
 use Rattle.failover_writer.specs.Running.{OthersOnlySynced}
 use Rattle.wal_top.specs.Run.{WritesNoJournal, Leaves}
-use Rattle.wal_top.proofs.Taking.{took_none}
+use Rattle.wal_top.proofs.AddsPiece.{took_none}
 
 -- by a replay
 pub leaves_journal : (c : Invocation) → IsReplay c.words → TookAtMost (SCRIPT_MAX + 1) c.left.before c.left.after → GoesOn c.disk.before c.disk.after

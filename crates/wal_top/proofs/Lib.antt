@@ -2,7 +2,7 @@ mod Examples
 mod Limits
 mod OneScript
 mod Closings
-mod Telling
+mod TellsOf
 mod Saying
 mod Coming
 mod HasToSay
@@ -13,7 +13,7 @@ mod Leaves
 mod Letting
 mod Counting
 mod Going
-mod Taking
+mod AddsPiece
 mod LinesSoFar
 mod Answering
 mod Numbering

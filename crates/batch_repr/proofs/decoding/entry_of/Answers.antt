@@ -1,4 +1,4 @@
-use Rattle.batch_repr.proofs.Parting.{ends_after_one}
+use Rattle.batch_repr.proofs.EndsWith.{ends_after_one}
 use Rattle.batch_repr.proofs.decoding.entry_of.Goals as goal
 
 pub part_of-requires : goal.part_of-requires

@@ -1,5 +1,5 @@
 use Rattle.std.proofs.Common.{◌≡◌, ◌∙◌, arith}
-use Rattle.batch_repr.proofs.Parting.{string_before, has_room, part_is, ends_after}
+use Rattle.batch_repr.proofs.EndsWith.{string_before, has_room, part_is, ends_after}
 use Rattle.batch_repr.proofs.decoding.part_of.Goals as goal
 
 pub overflow_sub-end-2 : goal.overflow_sub-end-2

@@ -1,5 +1,5 @@
 use Rattle.std.proofs.Common.{arith, refl, ◌∷◌, [], ◌+◌, ◌%◌}
-use Rattle.batch_repr.proofs.NumberWriting.{left_first, left_next, kept_more, kept_all}
+use Rattle.batch_repr.proofs.WrittenNumber.{left_first, left_next, kept_more, kept_all}
 use Rattle.batch_repr.proofs.writing.push_varint.Goals as goal
 
 pub loop-rest-init : goal.loop-rest-init

@@ -1,6 +1,6 @@
 use Rattle.std.proofs.Common.{◌≡◌, ◌++◌, length, take}
 use Rattle.batch_repr.specs.Written.{varint}
-use Rattle.batch_repr.proofs.NumberWriting.{LeftOf}
+use Rattle.batch_repr.proofs.WrittenNumber.{LeftOf}
 use Rattle.batch_repr.proofs.writing.push_varint.Given as goal
 
 abbrev pub invariant-loop-rest : goal.invariant-loop-rest

@@ -1,4 +1,4 @@
-use Rattle.block_record.proofs.Beginnings.{first_are_read}
+use Rattle.block_record.proofs.ReadsPrefix.{first_are_read}
 use Rattle.block_record.proofs.theorems.first_records_are_read.Goals as goal
 
 pub returns : goal.returns

@@ -1,7 +1,7 @@
 use Rattle.failover_writer.specs.State.{acked}
 use Rattle.disk_face.specs.View.{files}
-use Rattle.failover_writer.proofs.Kept.{run_kept_now}
-use Rattle.failover_writer.proofs.OverBase.{base_recovers, none_of_opening}
+use Rattle.failover_writer.proofs.KeepsRun.{run_kept_now}
+use Rattle.failover_writer.proofs.RecoversTo.{base_recovers, none_of_opening}
 use Rattle.failover_writer.proofs.theorems.a_journal_keeps_its_base.Goals as goal
 
 pub returns : goal.returns

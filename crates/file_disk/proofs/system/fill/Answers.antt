@@ -1,5 +1,5 @@
 use Rattle.std.proofs.Common.{rules}
-use Rattle.file_disk.proofs.Filling.{filled_on}
+use Rattle.file_disk.proofs.Filled.{filled_on}
 use Rattle.file_disk.proofs.system.fill.Goals as goal
 
 pub loop-filled-preserved : goal.loop-filled-preserved

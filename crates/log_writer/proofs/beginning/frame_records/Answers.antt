@@ -8,7 +8,7 @@ use Rattle.batch_repr.specs.Written.{written}
 use Rattle.block_record.specs.Framing.{Standing, framed, standing_after}
 use Rattle.record_queue.specs.Queue.{Queue, IsRecordOf}
 use Rattle.log_writer.specs.Sending.{frames_from}
-use Rattle.log_writer.proofs.Sending.{framed_more, nothing_framed}
+use Rattle.log_writer.proofs.FramesFrom.{framed_more, nothing_framed}
 use Rattle.log_writer.proofs.beginning.frame_records.Goals as goal
 
 stays : (standing : Standing) → standing.place < BLOCK → standing_after standing [] ≡ standing

@@ -7,7 +7,7 @@ use Rattle.segment_merge.specs.Merging.{Merged}
 use Rattle.segment_merge.specs.Refusals.{IsRowRefused}
 use Rattle.segment_merge.specs.Returned.{MemoryOrRefusal}
 use Rattle.segment_merge.specs.Steps.{KeepsMerged}
-use Rattle.segment_merge.proofs.Answered.{Answers, row_more, whole_row, none_kept, why_refused, only_merged, only_gap, only_conflict}
+use Rattle.segment_merge.proofs.KeepsMerged.{Answers, row_more, whole_row, none_kept, why_refused, only_merged, only_gap, only_conflict}
 use Rattle.segment_merge.proofs.merging.merge.Goals as goal
 
 pub loop-segment-init : goal.loop-segment-init

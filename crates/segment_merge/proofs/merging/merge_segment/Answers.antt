@@ -4,7 +4,7 @@ use Rattle.std.proofs.lemmas.Iterator.Consumers.{YieldsList-turn}
 use Rattle.std.proofs.lemmas.Iterator.Adapters.{YieldsList-from_vec}
 use Rattle.segment_merge.specs.Rows.{IsNumbered, batches_in}
 use Rattle.segment_merge.specs.Steps.{SegmentAnswers}
-use Rattle.segment_merge.proofs.Answered.{IsUpTo, up_to_none, up_to_more, up_to_refused}
+use Rattle.segment_merge.proofs.KeepsMerged.{IsUpTo, up_to_none, up_to_more, up_to_refused}
 use Rattle.segment_merge.proofs.merging.merge_segment.Goals as goal
 
 pub loop-batch-init : goal.loop-batch-init

@@ -2,7 +2,7 @@ use Rattle.std.proofs.Common.{ℕ, List, length, take}
 use Rattle.segment_merge.specs.declared.segment.SegmentRead.{SegmentRead}
 use Rattle.segment_merge.specs.Rows.{batches_in}
 use Rattle.segment_merge.specs.Steps.{KeepsMerged}
-use Rattle.segment_merge.proofs.Answered.{IsUpTo}
+use Rattle.segment_merge.proofs.KeepsMerged.{IsUpTo}
 use Rattle.segment_merge.proofs.merging.merge_segment.Given as goal
 
 abbrev pub invariant-loop-batch : goal.invariant-loop-batch

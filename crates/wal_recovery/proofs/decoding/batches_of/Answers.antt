@@ -6,7 +6,7 @@ use Rattle.wal_recovery.specs.declared.decoding.DecodeFault.{DecodeFault}
 use Rattle.wal_recovery.specs.Recovering.{Spell}
 use Rattle.wal_recovery.specs.Refused.{IsBadRecord}
 use Rattle.wal_recovery.specs.Decoded.{BadOrMemory}
-use Rattle.wal_recovery.proofs.Spelled.{spell_more, bad_in}
+use Rattle.wal_recovery.proofs.Spell.{spell_more, bad_in}
 use Rattle.wal_recovery.proofs.decoding.batches_of.Goals as goal
 
 pub returns-in_err-batch-clause-bad : goal.returns-in_err-batch-clause-bad

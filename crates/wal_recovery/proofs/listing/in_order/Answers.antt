@@ -2,7 +2,7 @@ use Rattle.std.proofs.Common.{◌≡◌, [], ◌∷◌, ◌++◌, List, refl, sy
 use Rattle.batch_repr.proofs.Laws.{ok_of}
 use Rattle.wal_recovery.specs.declared.listing.Found.{Found}
 use Rattle.wal_recovery.specs.Rows.{Weaves}
-use Rattle.wal_recovery.proofs.Weaving.{weaves_more}
+use Rattle.wal_recovery.proofs.Weaves.{weaves_more}
 use Rattle.wal_recovery.proofs.listing.in_order.Goals as goal
 
 pub loop-row-init : goal.loop-row-init

@@ -9,11 +9,11 @@ use Rattle.wal_recovery.specs.declared.listing.Found.{Found}
 use Rattle.wal_recovery.specs.Answers.{DiskMemoryOr}
 use Rattle.wal_recovery.specs.Rows.{Ascends, IsRowOf, Weaves, RefusesTwice, MeetsOrMemory}
 use Rattle.wal_recovery.proofs.Tools.{ok_map, err_map}
-use Rattle.wal_recovery.proofs.Weaving.{row_ascends}
-use Rattle.wal_recovery.proofs.Listed.{both_listed, row_of, met_refused, row_named}
+use Rattle.wal_recovery.proofs.Weaves.{row_ascends}
+use Rattle.wal_recovery.proofs.IsListing.{both_listed, row_of, met_refused, row_named}
 use Rattle.disk_face.specs.View.{was_listed, Makes}
 use Rattle.wal_recovery.specs.Asking.{ListsRow, names_given}
-use Rattle.wal_recovery.proofs.Asking.{lists_row, lists_two, lists_one}
+use Rattle.wal_recovery.proofs.ReadsOnly.{lists_row, lists_two, lists_one}
 use Rattle.wal_recovery.proofs.listing.list_all.Goals as goal
 
 pub returns-clause-ascends : goal.returns-clause-ascends

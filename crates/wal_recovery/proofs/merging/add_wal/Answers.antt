@@ -9,7 +9,7 @@ use Rattle.wal_recovery.specs.Rows.{wal_in}
 use Rattle.wal_recovery.specs.Gathered.{AreAsListed}
 use Rattle.wal_recovery.specs.OneWal.{IsLenientlyRefusedWal}
 use Rattle.wal_recovery.proofs.OneWal.{wal_reports}
-use Rattle.wal_recovery.proofs.Leniently.{as_row, reports_merged_of, reports_more, row_refused_behind, read_refused_behind}
+use Rattle.wal_recovery.proofs.AreReportsMerged.{as_row, reports_merged_of, reports_more, row_refused_behind, read_refused_behind}
 use Rattle.wal_recovery.proofs.merging.add_wal.Goals as goal
 
 pub returns-in_err-row-clause-refused : goal.returns-in_err-row-clause-refused

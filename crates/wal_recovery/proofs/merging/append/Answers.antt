@@ -4,7 +4,7 @@ use Rattle.std.proofs.lemmas.Iterator.Consumers.{YieldsList-turn, YieldsList-end
 use Rattle.std.proofs.lemmas.Iterator.Adapters.{YieldsList-from_vec}
 use Rattle.batch_repr.specs.declared.batch.Batch.{Batch}
 use Rattle.batch_repr.proofs.Laws.{ok_of}
-use Rattle.wal_recovery.proofs.Lasts.{taken_more}
+use Rattle.wal_recovery.proofs.LastItem.{taken_more}
 use Rattle.wal_recovery.proofs.merging.append.Goals as goal
 
 pub loop-batch-preserved : goal.loop-batch-preserved

@@ -1,5 +1,5 @@
 use Rattle.std.proofs.Common.{sym, ◌∙◌}
-use Rattle.wal_recovery.proofs.Lasts.{end_last, end_none}
+use Rattle.wal_recovery.proofs.LastItem.{end_last, end_none}
 use Rattle.wal_recovery.proofs.merging.end_behind.Goals as goal
 
 pub returns-in-Some : goal.returns-in-Some

@@ -19,12 +19,12 @@ use Rattle.wal_recovery.specs.Answers.{DiskMemoryOr}
 use Rattle.wal_recovery.specs.Rows.{stored_in, wal_in, wals_in}
 use Rattle.wal_recovery.specs.Gathered.{AreAsListed, AreListedWals, counted_in}
 use Rattle.wal_recovery.specs.OneWal.{AddsReports, IsLenientlyRefusedWal}
-use Rattle.wal_recovery.proofs.Strictly.{end_within}
+use Rattle.wal_recovery.proofs.ReportOnAll.{end_within}
 use Rattle.wal_recovery.proofs.AtWal.{StandsAt, stands_at, reports_none, order_at, reports_at}
-use Rattle.wal_recovery.proofs.Leniently as leniently
-use Rattle.wal_recovery.proofs.Leniently.{reports_hold, reports_numbered, refused_behind}
+use Rattle.wal_recovery.proofs.AreReportsMerged as leniently
+use Rattle.wal_recovery.proofs.AreReportsMerged.{reports_hold, reports_numbered, refused_behind}
 use Rattle.wal_recovery.specs.Asking.{ReadsOnly, found_in}
-use Rattle.wal_recovery.proofs.Asking.{reads_none, reads_wal, reads_wal_within}
+use Rattle.wal_recovery.proofs.ReadsOnly.{reads_none, reads_wal, reads_wal_within}
 use Rattle.wal_recovery.proofs.merging.merge_all.Goals as goal
 
 pub loop-wal-init : goal.loop-wal-init

@@ -19,10 +19,10 @@ use Rattle.wal_recovery.specs.Answers.{DiskMemoryOr}
 use Rattle.wal_recovery.specs.Rows.{stored_in, wal_in}
 use Rattle.wal_recovery.specs.Gathered.{AreAsListed, AreListedWals, IsOwnWal}
 use Rattle.wal_recovery.specs.OneWal.{AddsReports, IsRefusedWal}
-use Rattle.wal_recovery.proofs.Strictly.{end_within}
+use Rattle.wal_recovery.proofs.ReportOnAll.{end_within}
 use Rattle.wal_recovery.proofs.AtWal.{StandsAt, stands_at, at_place, merged_none, reports_none, order_at, merged_at, reports_at, refused_at}
 use Rattle.wal_recovery.specs.Asking.{ReadsOnly, found_in}
-use Rattle.wal_recovery.proofs.Asking.{reads_none, reads_wal, reads_wal_within}
+use Rattle.wal_recovery.proofs.ReadsOnly.{reads_none, reads_wal, reads_wal_within}
 use Rattle.wal_recovery.proofs.merging.merge_strict.Goals as goal
 
 pub loop-wal-init : goal.loop-wal-init

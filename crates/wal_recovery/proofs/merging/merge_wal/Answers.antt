@@ -8,7 +8,7 @@ use Rattle.wal_recovery.specs.Answers.{FaultRose, DiskMemoryOr}
 use Rattle.wal_recovery.specs.Rows.{wal_in}
 use Rattle.wal_recovery.specs.Gathered.{AreAsListed}
 use Rattle.wal_recovery.specs.OneWal.{IsRefusedWal}
-use Rattle.wal_recovery.proofs.Strictly.{merged_numbered}
+use Rattle.wal_recovery.proofs.ReportOnAll.{merged_numbered}
 use Rattle.wal_recovery.proofs.OneWal.{named_rose, wal_reports, row_merged, row_refused, read_refused}
 use Rattle.wal_recovery.proofs.merging.merge_wal.Goals as goal
 

@@ -8,7 +8,7 @@ use Rattle.wal_recovery.specs.Recovering.{taking_numbers}
 use Rattle.wal_recovery.specs.Answers.{DiskMemoryOr}
 use Rattle.wal_recovery.specs.Rows.{place_listed, bytes_at}
 use Rattle.wal_recovery.specs.Gathered.{IsAsListed, IsReportOf, IsBadIn}
-use Rattle.wal_recovery.proofs.Spelled.{counted_numbered}
+use Rattle.wal_recovery.proofs.Spell.{counted_numbered}
 use Rattle.wal_recovery.proofs.merging.read_segment.Goals as goal
 
 pub returns-in_err-report-clause-bad : goal.returns-in_err-report-clause-bad

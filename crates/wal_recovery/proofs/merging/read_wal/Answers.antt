@@ -7,9 +7,9 @@ use Rattle.wal_recovery.specs.declared.fault.RecoverFault.{RecoverFault}
 use Rattle.wal_recovery.specs.declared.listing.Found.{Found}
 use Rattle.wal_recovery.specs.Answers.{DiskMemoryOr}
 use Rattle.wal_recovery.specs.Gathered.{AreAsListed, GathersWal, IsFirstBadOf}
-use Rattle.wal_recovery.proofs.Adding.{wal_none, wal_step, wal_row, first_bad}
+use Rattle.wal_recovery.proofs.GathersWal.{wal_none, wal_step, wal_row, first_bad}
 use Rattle.wal_recovery.specs.Asking.{ReadsOnly}
-use Rattle.wal_recovery.proofs.Asking.{reads_none, reads_taken, reads_within}
+use Rattle.wal_recovery.proofs.ReadsOnly.{reads_none, reads_taken, reads_within}
 use Rattle.wal_recovery.proofs.merging.read_wal.Goals as goal
 
 pub loop-segment-init : goal.loop-segment-init

@@ -1,5 +1,5 @@
 use Rattle.std.proofs.Common.{length}
-use Rattle.wal_recovery.proofs.Asking.{reads_one}
+use Rattle.wal_recovery.proofs.ReadsOnly.{reads_one}
 use Rattle.wal_recovery.proofs.reading.fill.Goals as goal
 
 pub returns-clause-asks : goal.returns-clause-asks

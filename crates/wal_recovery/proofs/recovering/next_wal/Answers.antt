@@ -1,5 +1,5 @@
 use Rattle.std.proofs.Common.{sym}
-use Rattle.wal_recovery.proofs.Lasts.{behind_last, behind_none}
+use Rattle.wal_recovery.proofs.LastItem.{behind_last, behind_none}
 use Rattle.wal_recovery.proofs.recovering.next_wal.Goals as goal
 
 pub returns-in-Some : goal.returns-in-Some

@@ -11,11 +11,11 @@ use Rattle.wal_recovery.specs.Resting.{AreSegmentsStable, OnlySynced}
 use Rattle.wal_recovery.specs.Answers.{OkOrFailed, ErrOrFailed}
 use Rattle.wal_recovery.specs.Rows.{Ascends, IsRowOf}
 use Rattle.wal_recovery.proofs.Tools.{on_ok_map, always_ok}
-use Rattle.wal_recovery.proofs.Rested.{same_then, synced_moments}
+use Rattle.wal_recovery.proofs.IsStable.{same_then, synced_moments}
 use Rattle.wal_recovery.proofs.NextWals.{next_wal_answered}
-use Rattle.wal_recovery.proofs.Answered.{twice_refused, only_recovered, only_refused, row_behind, recovered_before, refused_before, reported_before}
+use Rattle.wal_recovery.proofs.RecoversBy.{twice_refused, only_recovered, only_refused, row_behind, recovered_before, refused_before, reported_before}
 use Rattle.wal_recovery.specs.Asking.{ListsBoth, ReadsOnly}
-use Rattle.wal_recovery.proofs.Asking.{asks_once, lists_both}
+use Rattle.wal_recovery.proofs.ReadsOnly.{asks_once, lists_both}
 use Rattle.wal_recovery.proofs.recovering.recover.Goals as goal
 
 -- ---- a name that stands twice

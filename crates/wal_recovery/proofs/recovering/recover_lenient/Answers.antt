@@ -13,7 +13,7 @@ use Rattle.wal_recovery.proofs.ByWal.{wals_by_number}
 use Rattle.wal_recovery.proofs.WalsListed.{wals_own, wals_listed}
 use Rattle.wal_recovery.specs.declared.listing.Found.{Found}
 use Rattle.wal_recovery.specs.Asking.{ReadsOnly}
-use Rattle.wal_recovery.proofs.Asking.{found_of}
+use Rattle.wal_recovery.proofs.ReadsOnly.{found_of}
 use Rattle.wal_recovery.proofs.recovering.recover_lenient.Goals as goal
 
 pub merge_all-requires-clause-order : goal.merge_all-requires-clause-order

@@ -15,9 +15,9 @@ use Rattle.wal_recovery.specs.Rows.{place_listed, wals_in}
 use Rattle.wal_recovery.specs.Gathered.{AreListedWals}
 use Rattle.wal_recovery.proofs.ByWal.{wals_by_number}
 use Rattle.wal_recovery.proofs.WalsListed.{wals_own, wals_listed}
-use Rattle.wal_recovery.proofs.Rested.{may_sync, all_stable, same_then}
+use Rattle.wal_recovery.proofs.IsStable.{may_sync, all_stable, same_then}
 use Rattle.wal_recovery.specs.Asking.{ReadsOnly}
-use Rattle.wal_recovery.proofs.Asking.{found_of, reads_then_nothing}
+use Rattle.wal_recovery.proofs.ReadsOnly.{found_of, reads_then_nothing}
 use Rattle.wal_recovery.proofs.recovering.recover_strict.Goals as goal
 
 pub merge_strict-requires-clause-order : goal.merge_strict-requires-clause-order

@@ -2,7 +2,7 @@ use Rattle.std.proofs.Common.{refl}
 use Rattle.disk_face.specs.View.{files}
 use Rattle.wal_recovery.specs.Rows.{place_listed}
 use Rattle.wal_recovery.proofs.Syncs.{sync_moments, sync_done, file_there}
-use Rattle.wal_recovery.proofs.Asking.{reads_nothing, starts_one}
+use Rattle.wal_recovery.proofs.ReadsOnly.{reads_nothing, starts_one}
 use Rattle.wal_recovery.proofs.syncing.sync.Goals as goal
 
 pub returns-then-wait-clause-each_moment : goal.returns-then-wait-clause-each_moment

@@ -5,7 +5,7 @@ use Rattle.wal_recovery.specs.declared.listing.Found.{Found}
 use Rattle.wal_recovery.specs.Rows.{place_listed}
 use Rattle.wal_recovery.specs.Resting.{IsSynced}
 use Rattle.wal_recovery.proofs.Syncs.{moments_of_both, synced_more}
-use Rattle.wal_recovery.proofs.Asking.{reads_nothing}
+use Rattle.wal_recovery.proofs.ReadsOnly.{reads_nothing}
 use Rattle.wal_recovery.proofs.syncing.sync_all.Goals as goal
 
 pub loop-segment-preserved : goal.loop-segment-preserved

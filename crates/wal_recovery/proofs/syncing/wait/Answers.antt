@@ -1,5 +1,5 @@
 use Rattle.disk_face.proofs.Laws.{goes_on_further, same_further}
-use Rattle.wal_recovery.proofs.Asking.{reads_nothing, polls_one}
+use Rattle.wal_recovery.proofs.ReadsOnly.{reads_nothing, polls_one}
 use Rattle.wal_recovery.proofs.syncing.wait.Goals as goal
 
 pub loop-preserved : goal.loop-preserved

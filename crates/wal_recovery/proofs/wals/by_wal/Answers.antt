@@ -2,7 +2,7 @@ use Rattle.std.proofs.Common.{◌≡◌, [], ◌∷◌, ◌++◌, List, refl, sy
 use Rattle.batch_repr.proofs.Laws.{ok_of}
 use Rattle.wal_recovery.specs.declared.wals.FoundWal.{FoundWal}
 use Rattle.wal_recovery.specs.Rows.{Groups, IsGroup}
-use Rattle.wal_recovery.proofs.Grouping.{groups_more, group_is}
+use Rattle.wal_recovery.proofs.Groups.{groups_more, group_is}
 use Rattle.wal_recovery.proofs.wals.by_wal.Goals as goal
 
 pub loop-first-init : goal.loop-first-init

@@ -1,6 +1,6 @@
 use Rattle.std.proofs.Common.{arith}
 use Rattle.std.proofs.lemmas.List.{length-take}
-use Rattle.wal_top.proofs.Taking.{took_more}
+use Rattle.wal_top.proofs.AddsPiece.{took_more}
 use Rattle.wal_top.proofs.reading.read_by.Goals as goal
 
 pub returns-in_err-count-clause-took : goal.returns-in_err-count-clause-took

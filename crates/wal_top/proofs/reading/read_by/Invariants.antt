@@ -1,5 +1,5 @@
 use Rattle.std.proofs.Common.{◌≤◌}
-use Rattle.wal_top.proofs.Taking.{SoFar}
+use Rattle.wal_top.proofs.AddsPiece.{SoFar}
 use Rattle.wal_top.proofs.reading.read_by.Given as goal
 
 abbrev pub invariant-loop-room : goal.invariant-loop-room

@@ -10,7 +10,7 @@ use Rattle.disk_face.specs.Script.{TellsOf, stalled}
 use Rattle.failover_writer.specs.Running.{Runs}
 use Rattle.wal_top.specs.Doing.{ReplaysOver}
 use Rattle.wal_top.proofs.Saying.{ok_map, ok_then}
-use Rattle.wal_top.proofs.Telling.{goes_told, runs_others, replays_told}
+use Rattle.wal_top.proofs.TellsOf.{goes_told, runs_others, replays_told}
 use Rattle.wal_top.proofs.replay.replay.Goals as goal
 
 -- a disk that a script stalls, as it is seen

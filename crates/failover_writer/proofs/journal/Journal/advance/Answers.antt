@@ -4,9 +4,9 @@ use Rattle.failover_writer.specs.declared.fault.JournalFault.{JournalFault}
 use Rattle.failover_writer.specs.declared.fault.Step.{Step}
 use Rattle.failover_writer.specs.declared.fault.Step.TheVariants as steps
 use Rattle.failover_writer.specs.Answered.{StepsBy}
-use Rattle.failover_writer.proofs.Passing.{passes_further}
-use Rattle.failover_writer.proofs.Passed.{passes_all}
-use Rattle.failover_writer.proofs.Ruled.{rule_ended, rule_went}
+use Rattle.failover_writer.proofs.Passes.{passes_further}
+use Rattle.failover_writer.proofs.PassesOnce.{passes_all}
+use Rattle.failover_writer.proofs.Verdicts.{rule_ended, rule_went}
 use Rattle.failover_writer.proofs.journal.Journal.advance.Goals as goal
 
 pub returns-in_err-go_on-clause-rule : goal.returns-in_err-go_on-clause-rule

@@ -11,8 +11,8 @@ use Rattle.failover_writer.specs.Ranges.{StandsFor}
 use Rattle.failover_writer.specs.Stepping.{IsBehind, begun}
 use Rattle.failover_writer.specs.Keeping.{Passes}
 use Rattle.failover_writer.specs.Inside.{IsInOrder}
-use Rattle.failover_writer.proofs.Passing.{passes_same}
-use Rattle.failover_writer.proofs.Begun.{next_fits, begins_first, begun_stands, begun_in_order, begun_passes}
+use Rattle.failover_writer.proofs.Passes.{passes_same}
+use Rattle.failover_writer.proofs.BeginsNext.{next_fits, begins_first, begun_stands, begun_in_order, begun_passes}
 use Rattle.failover_writer.proofs.journal.Journal.begin_next.Goals as goal
 
 pub begin-requires-clause-fits : goal.begin-requires-clause-fits

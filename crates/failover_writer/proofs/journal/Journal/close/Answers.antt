@@ -3,9 +3,9 @@ use Rattle.std.proofs.Common.{◌≢◌, ℕ, None, ap, sym, subst, ◌∙◌, r
 use Rattle.failover_writer.specs.State.{JournalView}
 use Rattle.failover_writer.specs.Ranges.{StandsFor, Stands}
 use Rattle.failover_writer.specs.Closing.{Drains}
-use Rattle.failover_writer.proofs.Settling.{asking, asking_stands, closed_lasts, closed_synced, closed_rests, closed_lives}
-use Rattle.failover_writer.proofs.Sound.{sound_beside}
-use Rattle.failover_writer.proofs.Stopped.{survives}
+use Rattle.failover_writer.proofs.Lasts.{asking, asking_stands, closed_lasts, closed_synced, closed_rests, closed_lives}
+use Rattle.failover_writer.proofs.IsSoundJournal.{sound_beside}
+use Rattle.failover_writer.proofs.Survives.{survives}
 use Rattle.failover_writer.proofs.journal.Journal.close.Goals as goal
 
 -- what the journal held, and what its steps came to

@@ -8,7 +8,7 @@ use Rattle.failover_writer.specs.State.{JournalView}
 use Rattle.failover_writer.specs.Answered.{StepsBy, IsIdle, IsMarked}
 use Rattle.failover_writer.specs.Closing.{Drains}
 use Rattle.failover_writer.specs.Remaining.{Falls}
-use Rattle.failover_writer.proofs.Settling.{lasts_none, lasts_further, drained}
+use Rattle.failover_writer.proofs.Lasts.{lasts_none, lasts_further, drained}
 use Rattle.failover_writer.proofs.journal.Journal.drain.Goals as goal
 
 pub loop-init : goal.loop-init

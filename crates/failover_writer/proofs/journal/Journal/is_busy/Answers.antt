@@ -1,7 +1,7 @@
 -- Nothing is in flight where neither an earlier segment nor the current one is busy.
 use Rattle.std.proofs.Common.{ap}
 use Rattle.failover_writer.specs.State.{JournalView}
-use Rattle.failover_writer.proofs.Polled.{busy_found}
+use Rattle.failover_writer.proofs.PollsAt.{busy_found}
 use Rattle.failover_writer.proofs.journal.Journal.is_busy.Goals as goal
 
 pub returns-else-is_some-clause-busy : goal.returns-else-is_some-clause-busy

@@ -8,7 +8,7 @@ use Rattle.failover_writer.specs.Answered as answered
 use Rattle.failover_writer.specs.Answered.{StepsBy, IsIdle, IsMarked}
 use Rattle.failover_writer.specs.Remaining.{Falls}
 use Rattle.failover_writer.specs.Closing.{Moves}
-use Rattle.failover_writer.proofs.Settling.{lasts_none, lasts_further, moved_to}
+use Rattle.failover_writer.proofs.Lasts.{lasts_none, lasts_further, moved_to}
 use Rattle.failover_writer.proofs.journal.Journal.move_on.Goals as goal
 
 pub loop-init : goal.loop-init

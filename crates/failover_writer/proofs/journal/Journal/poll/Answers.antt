@@ -3,7 +3,7 @@ use Rattle.std.proofs.Common.{true, false, ap, sym, subst, ◌∙◌, arith}
 use Rattle.failover_writer.specs.State.{JournalView}
 use Rattle.failover_writer.specs.Ranges.{StandsFor}
 use Rattle.failover_writer.specs.Moves.{is_pending}
-use Rattle.failover_writer.proofs.Polled.{answered_at, stands_polled, passes_polled, order_polled, failed_polled, polls_at, same_broken, more_broken, whole_pending, whole_done, broken_failed}
+use Rattle.failover_writer.proofs.PollsAt.{answered_at, stands_polled, passes_polled, order_polled, failed_polled, polls_at, same_broken, more_broken, whole_pending, whole_done, broken_failed}
 use Rattle.failover_writer.proofs.journal.Journal.poll.Goals as goal
 
 pub returns-in-Pending-clause-polled : goal.returns-in-Pending-clause-polled

@@ -2,7 +2,7 @@
 use Rattle.std.proofs.Common.{◌≡◌, ℕ, suc, Bool, Option, length, ap, sym, subst, ◌∙◌}
 use Rattle.std.specs.Prelude.{◌||◌, IfSome}
 use Rattle.failover_writer.specs.Moves.{IsBusyAt, IsFirstBusy, PollsAll}
-use Rattle.failover_writer.proofs.PolledAll.{GoesEarly, GoesBoth, early_not, early_made, late_not, late_made}
+use Rattle.failover_writer.proofs.PollsAll.{GoesEarly, GoesBoth, early_not, early_made, late_not, late_made}
 use Rattle.failover_writer.proofs.journal.Journal.poll_all.Goals as goal
 use Rattle.failover_writer.proofs.journal.Journal.poll_all.Goals.{in-Some, in-None, in-Some-current_busy, in-None-current_busy}
 

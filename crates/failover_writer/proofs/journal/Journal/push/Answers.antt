@@ -7,8 +7,8 @@ use Rattle.batch_repr.specs.Batches.{count_of}
 use Rattle.batch_repr.specs.Spelling.{SpellsBatch}
 use Rattle.failover_writer.specs.State.{JournalView}
 use Rattle.failover_writer.specs.Ranges.{StandsFor}
-use Rattle.failover_writer.proofs.Pushed.{queue_end, queue_pushed, pushed_stands}
-use Rattle.failover_writer.proofs.Sound.{sound_beside}
+use Rattle.failover_writer.proofs.Pushes.{queue_end, queue_pushed, pushed_stands}
+use Rattle.failover_writer.proofs.IsSoundJournal.{sound_beside}
 use Rattle.failover_writer.proofs.journal.Journal.push.Goals as goal
 
 pub returns-then-sync-clause-keeps : goal.returns-then-sync-clause-keeps

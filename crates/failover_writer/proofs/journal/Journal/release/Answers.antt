@@ -4,8 +4,8 @@ use Rattle.std.specs.Prelude.{slice_get}
 use Rattle.log_writer.specs.Writer.{Writer}
 use Rattle.failover_writer.specs.State.{JournalView, most_synced}
 use Rattle.failover_writer.specs.Ranges.{StandsFor, sent_to_current}
-use Rattle.failover_writer.proofs.Released.{last_sent, released_stands, releases_as_seen}
-use Rattle.failover_writer.proofs.Sound.{sound_beside}
+use Rattle.failover_writer.proofs.Releases.{last_sent, released_stands, releases_as_seen}
+use Rattle.failover_writer.proofs.IsSoundJournal.{sound_beside}
 use Rattle.failover_writer.proofs.journal.Journal.release.Goals as goal
 
 -- what is released is what no segment needs

@@ -1,8 +1,8 @@
 -- Room changes nothing of what the journal holds.
 use Rattle.std.proofs.Common.{List, length, ap, refl, arith}
 use Rattle.batch_repr.specs.declared.batch.Batch.{Batch}
-use Rattle.failover_writer.proofs.Standing.{roomy_stands}
-use Rattle.failover_writer.proofs.Sound.{sound_beside}
+use Rattle.failover_writer.proofs.StandsFor.{roomy_stands}
+use Rattle.failover_writer.proofs.IsSoundJournal.{sound_beside}
 use Rattle.failover_writer.proofs.journal.Journal.reserve.Goals as goal
 
 pub invariant_of-self : goal.invariant_of-self

@@ -1,5 +1,5 @@
 -- All that the steps keep, they keep one after another.
-use Rattle.failover_writer.proofs.Stopped.{survives}
+use Rattle.failover_writer.proofs.Survives.{survives}
 use Rattle.failover_writer.proofs.journal.Journal.settle.Goals as goal
 
 pub returns-clause-survives : goal.returns-clause-survives

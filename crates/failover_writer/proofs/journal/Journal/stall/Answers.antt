@@ -2,7 +2,7 @@
 use Rattle.std.proofs.Common.{sym, subst}
 use Rattle.failover_writer.specs.State.{JournalView}
 use Rattle.failover_writer.specs.Ranges.{StandsFor}
-use Rattle.failover_writer.proofs.Standing.{same_stands}
+use Rattle.failover_writer.proofs.StandsFor.{same_stands}
 use Rattle.failover_writer.proofs.journal.Journal.stall.Goals as goal
 
 pub invariant_of-self : goal.invariant_of-self

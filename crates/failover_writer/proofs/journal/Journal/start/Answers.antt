@@ -3,8 +3,8 @@ use Rattle.std.proofs.Common.{List, [], ap, sym, refl, arith}
 use Rattle.std.specs.Prelude.{count_by}
 use Rattle.failover_writer.specs.State.{is_broken, most_synced}
 use Rattle.log_writer.specs.Writer.{Writer}
-use Rattle.failover_writer.proofs.Standing.{nothing_stands}
-use Rattle.failover_writer.proofs.Sound.{sound_alive}
+use Rattle.failover_writer.proofs.StandsFor.{nothing_stands}
+use Rattle.failover_writer.proofs.IsSoundJournal.{sound_alive}
 use Rattle.failover_writer.proofs.journal.Journal.start.Goals as goal
 
 pub returns-clause-stands : goal.returns-clause-stands

@@ -13,8 +13,8 @@ use Rattle.failover_writer.specs.Ranges.{StandsFor}
 use Rattle.failover_writer.specs.Inside.{IsInOrder}
 use Rattle.failover_writer.specs.Keeping.{Passes}
 use Rattle.failover_writer.specs.Moves.{IsRestingAt, MayStartNext}
-use Rattle.failover_writer.proofs.Passing.{passes_same}
-use Rattle.failover_writer.proofs.Started.{element_is, set_at_last, none_starts, not_behind, may_start, started_stands, started_passes, started_in_order, holds_unsent, current_fits}
+use Rattle.failover_writer.proofs.Passes.{passes_same}
+use Rattle.failover_writer.proofs.StartsNext.{element_is, set_at_last, none_starts, not_behind, may_start, started_stands, started_passes, started_in_order, holds_unsent, current_fits}
 use Rattle.failover_writer.proofs.journal.Journal.start_next.Goals as goal
 
 pub returns-in_default-clause-started : goal.returns-in_default-clause-started

@@ -9,11 +9,11 @@ use Rattle.failover_writer.specs.Stepping.{was_dead, idle}
 use Rattle.failover_writer.specs.Answered.{AsksInTurn, StepsBy}
 use Rattle.failover_writer.specs.Keeping.{Passes}
 use Rattle.failover_writer.specs.Lasting.{Lasts, Survives}
-use Rattle.failover_writer.proofs.Passing.{passes_still}
-use Rattle.failover_writer.proofs.Stopped.{survives}
-use Rattle.failover_writer.proofs.Stepped.{idle_of, waited_of, dead_of, harmed_of, smooth_of}
-use Rattle.failover_writer.proofs.Closing.{falls}
-use Rattle.failover_writer.proofs.Settling.{goal_kept, end_still, lasts_none, records_are}
+use Rattle.failover_writer.proofs.Passes.{passes_still}
+use Rattle.failover_writer.proofs.Survives.{survives}
+use Rattle.failover_writer.proofs.StepRule.{idle_of, waited_of, dead_of, harmed_of, smooth_of}
+use Rattle.failover_writer.proofs.Falls.{falls}
+use Rattle.failover_writer.proofs.Lasts.{goal_kept, end_still, lasts_none, records_are}
 use Rattle.failover_writer.proofs.journal.Journal.step.Goals as goal
 
 -- Nothing is asked.

@@ -6,8 +6,8 @@ use Rattle.log_writer.specs.declared.phase.Phase.TheVariants.{InFlight}
 use Rattle.log_writer.specs.Writer.{Writer}
 use Rattle.log_writer.specs.Fits.{Fits, place_of_writer}
 use Rattle.log_writer.specs.Kept.{SegmentKept}
-use Rattle.log_writer.proofs.Fitting.{fits_kept}
-use Rattle.log_writer.proofs.Begins.{begun_fits, begun_moments}
+use Rattle.log_writer.proofs.Fits.{fits_kept}
+use Rattle.log_writer.proofs.StartsOn.{begun_fits, begun_moments}
 use Rattle.log_writer.proofs.writer.LogWriter.begin.Goals as goal
 
 pub returns-in_default-clause-each_moment : goal.returns-in_default-clause-each_moment

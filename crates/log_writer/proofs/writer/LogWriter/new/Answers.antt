@@ -2,7 +2,7 @@ use Rattle.std.proofs.Common.{sym, subst}
 use Rattle.block_record.specs.Framing.{Standing}
 use Rattle.log_writer.specs.declared.phase.Phase.TheVariants.{New}
 use Rattle.log_writer.specs.Fits.{Fits}
-use Rattle.log_writer.proofs.Fitting.{new_fits}
+use Rattle.log_writer.proofs.Fits.{new_fits}
 use Rattle.log_writer.proofs.writer.LogWriter.new.Goals as goal
 
 pub returns-clause-fits : goal.returns-clause-fits

@@ -5,7 +5,7 @@ use Rattle.log_writer.specs.Writer.{Writer}
 use Rattle.disk_face.specs.declared.OpId.{OpId}
 use Rattle.log_writer.specs.Steps.{TakesPoll}
 use Rattle.log_writer.specs.Fits.{Fits}
-use Rattle.log_writer.proofs.Fitting.{fits_kept}
+use Rattle.log_writer.proofs.Fits.{fits_kept}
 use Rattle.log_writer.proofs.Polls.{polled_fits, polled_moments, polled_others, polled_other_moments, takes_poll}
 use Rattle.log_writer.proofs.writer.LogWriter.poll.Goals as goal
 

@@ -16,7 +16,7 @@ use Rattle.wal_recovery.specs.declared.fault.RecoverFault.{RecoverFault}
 use Rattle.wal_recovery.specs.declared.fault.RecoverFault.TheVariants as faults
 use Rattle.wal_recovery.specs.Answers.{DiskMemoryOr}
 use Rattle.wal_recovery.specs.Rows.{item_of, IsRowOf, Weaves, Meets, RefusesTwice, MeetsOrMemory}
-use Rattle.wal_recovery.proofs.Weaving.{on, found_on, row_from, row_to, left_from, left_ascends, row_ascends, one_name, first_before}
+use Rattle.wal_recovery.proofs.Weaves.{on, found_on, row_from, row_to, left_from, left_ascends, row_ascends, one_name, first_before}
 
 -- a file that reads is created
 pub read_open : (o : Option File) (bytes : List ℕ) → as_read o ≡ Some bytes → (f : File) × (o ≡ Some f) × (f.created ≡ true) × (f.reads ≡ bytes)

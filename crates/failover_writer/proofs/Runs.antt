@@ -21,9 +21,9 @@ use Rattle.failover_writer.specs.Moves.{Pushes}
 use Rattle.failover_writer.specs.Keeping.{IsElsewhere, KeepsBase, KeepsBases}
 use Rattle.failover_writer.specs.Lasting.{Lasts}
 use Rattle.failover_writer.specs.Sound.{IsSoundJournal}
-use Rattle.failover_writer.proofs.Kept.{run_kept_now}
-use Rattle.failover_writer.proofs.OverBase.{base_recovers, none_of_opening}
-use Rattle.failover_writer.proofs.Reading.{reads_as_image}
+use Rattle.failover_writer.proofs.KeepsRun.{run_kept_now}
+use Rattle.failover_writer.proofs.RecoversTo.{base_recovers, none_of_opening}
+use Rattle.failover_writer.proofs.ReadsAsImage.{reads_as_image}
 use Rattle.failover_writer.proofs.Segments.{not_theirs, synced_within}
 use Rattle.failover_writer.specs.declared.fault.JournalEnd.{JournalEnd}
 use Rattle.failover_writer.specs.Running.{PollsLeft, EndsAs, Runs, RunsOn, RunsStill, OthersSame, HasEnded}

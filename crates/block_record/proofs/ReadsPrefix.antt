@@ -9,7 +9,7 @@ use Rattle.block_record.specs.declared.records.Rec.{Rec}
 use Rattle.block_record.specs.Framing.{framed, laid}
 use Rattle.block_record.specs.ReadOut.{Link, next_place, chunk_end, IsChain, Spelled, ended, after_link, spelled_from, nothing, bytes_of, ReadsOut, ReadsPrefix}
 use Rattle.block_record.proofs.Fragments.{room_behind}
-use Rattle.block_record.proofs.Laying.{laid-append}
+use Rattle.block_record.proofs.Laid.{laid-append}
 use Rattle.block_record.proofs.Replay.{Outcome, chunks_end, behind, next_is, framed_read, framed_end, Replayed, laid_read, none_left}
 
 one_more : (start : ℕ) (so_far : Spelled) (kind : ChunkKind) (payload : List ℕ) → (extra : List Rec)

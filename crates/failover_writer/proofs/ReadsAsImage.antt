@@ -23,8 +23,8 @@ use Rattle.log_writer.proofs.Laws.{bytes_split, bytes_front}
 use Rattle.failover_writer.specs.State.{State, phase_is_broken, is_broken, broken_count}
 use Rattle.failover_writer.specs.Ranges.{AreJoined, StandsFor}
 use Rattle.failover_writer.specs.Keeping.{OthersStay}
-use Rattle.failover_writer.proofs.Opening.{reads_sent}
-use Rattle.failover_writer.proofs.Polled.{count_head}
+use Rattle.failover_writer.proofs.IsOpening.{reads_sent}
+use Rattle.failover_writer.proofs.PollsAt.{count_head}
 use Rattle.failover_writer.proofs.Segments.{not_theirs}
 
 -- ---- one file

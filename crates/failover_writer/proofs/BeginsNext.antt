@@ -22,9 +22,9 @@ use Rattle.failover_writer.specs.Ranges.{side_at, IsSegmentAt, StandsFor}
 use Rattle.failover_writer.specs.Inside.{IsInOrder}
 use Rattle.failover_writer.specs.Stepping.{IsBehind, begun, NoneBusy}
 use Rattle.failover_writer.specs.Keeping.{OthersStay, Passes}
-use Rattle.failover_writer.proofs.Sound.{sound_with}
-use Rattle.failover_writer.proofs.Passing.{passes_once}
-use Rattle.failover_writer.proofs.Passed.{first_or_last}
+use Rattle.failover_writer.proofs.IsSoundJournal.{sound_with}
+use Rattle.failover_writer.proofs.Passes.{passes_once}
+use Rattle.failover_writer.proofs.PassesOnce.{first_or_last}
 use Rattle.failover_writer.proofs.Segments.{place_at, index_in, place_is, apart_from, all_push, joined_push, not_theirs, fit_beside, most_synced_push, sent_to_last, count_push, synced_within}
 
 -- No operation is in flight on the file of a segment that is not begun.

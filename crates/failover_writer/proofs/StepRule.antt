@@ -23,7 +23,7 @@ use Rattle.failover_writer.specs.Stepping as stepping
 use Rattle.failover_writer.specs.Answered.{IsTold, FaultsRose, PollsFell, StepsBy, IsIdle, IsMarked, IsHarmed, IsSmoothSegment, IsSmooth}
 use Rattle.failover_writer.proofs.Lists.{all_append, all_front, all_back}
 use Rattle.failover_writer.proofs.Segments.{count_push}
-use Rattle.failover_writer.proofs.Polled.{count_same}
+use Rattle.failover_writer.proofs.PollsAt.{count_same}
 
 -- ---- how it is answered
 

@@ -8,8 +8,8 @@ use Rattle.failover_writer.specs.State.{State, broken_count}
 use Rattle.failover_writer.specs.Ranges.{side_at}
 use Rattle.failover_writer.specs.Stepping.{Verdict}
 use Rattle.failover_writer.specs.Sound.{HasGivenUp, IsSoundJournal}
-use Rattle.failover_writer.proofs.Stepped.{broken_phase, dying_broken}
-use Rattle.failover_writer.proofs.Sound.{some_records}
+use Rattle.failover_writer.proofs.StepRule.{broken_phase, dying_broken}
+use Rattle.failover_writer.proofs.IsSoundJournal.{some_records}
 
 -- A journal that gives up.
 pub sound_dead : (old : State) (side : Side) (count : ℕ) → IsSoundJournal old → Verdict IsToDie old

@@ -27,11 +27,11 @@ use Rattle.wal_recovery.specs.Answers.{DiskMemoryOr}
 use Rattle.wal_recovery.specs.Rows.{stored_in, wal_in, wals_in}
 use Rattle.wal_recovery.specs.Gathered.{AreAsListed, IsNumberedReport, counted_in, read_as, GathersWal, AreReportsMerged, IsFirstBadOf, IsOwnWal, AreListedWals, named_in_wal}
 use Rattle.wal_recovery.specs.OneWal.{HoldsRow, IsLenientlyRefusedWal}
-use Rattle.wal_recovery.proofs.Gathering.{row_holds, batches_by_index}
-use Rattle.wal_recovery.proofs.Adding.{counted_length, stored_length}
+use Rattle.wal_recovery.proofs.IsReportOf.{row_holds, batches_by_index}
+use Rattle.wal_recovery.proofs.GathersWal.{counted_length, stored_length}
 use Rattle.wal_recovery.proofs.AtWal.{StandsAt, cut_at, listed_at}
 use Rattle.wal_recovery.proofs.OneWal.{own_of, bad_refused}
-use Rattle.wal_recovery.proofs.Strictly.{lenient_numbered}
+use Rattle.wal_recovery.proofs.ReportOnAll.{lenient_numbered}
 
 -- ---- reports hold the row of their segments
 

@@ -24,7 +24,7 @@ use Rattle.failover_writer.specs.Stepping as stepping
 use Rattle.failover_writer.specs.Answered.{IsTold}
 use Rattle.failover_writer.specs.Moves.{IsFirstBusy, PollsAt, PollsAll, was_pending}
 use Rattle.failover_writer.proofs.Lists.{split_at, last_split}
-use Rattle.failover_writer.proofs.Passing.{Holds, passes_still, passes_further}
+use Rattle.failover_writer.proofs.Passes.{Holds, passes_still, passes_further}
 
 -- The first busy one of the earlier segments was polled, if one is, and the current one was not yet.
 pub record IsPolledEarly (state mid : State) (one : Option Progress) : Type 0 where

@@ -15,7 +15,7 @@ use Rattle.wal_recovery.specs.Refused.{by_index}
 use Rattle.wal_recovery.specs.Reports.{IsReport}
 use Rattle.wal_recovery.specs.Rows.{place_listed, bytes_at, stored_in, wal_in}
 use Rattle.wal_recovery.specs.Gathered.{IsAsListed, IsReportOf, counted_in}
-use Rattle.wal_recovery.proofs.Filling.{bytes_are}
+use Rattle.wal_recovery.proofs.HasLength.{bytes_are}
 
 -- each segment with the report on it
 abbrev pub AreReportsOf : Files → List Found → List SegReport → Type 0

@@ -27,9 +27,9 @@ use Rattle.failover_writer.specs.Answered.{StepsBy, StepsOn, MovesOn, IsIdle, Is
 use Rattle.failover_writer.specs.Closing.{Drains, Moves}
 use Rattle.failover_writer.specs.Lasting.{Lasts}
 use Rattle.failover_writer.proofs.Segments.{all_from, not_theirs}
-use Rattle.failover_writer.proofs.Released.{acked_within}
-use Rattle.failover_writer.proofs.Passing.{passes_still, passes_further}
-use Rattle.failover_writer.proofs.Closing.{polls_lower}
+use Rattle.failover_writer.proofs.Releases.{acked_within}
+use Rattle.failover_writer.proofs.Passes.{passes_still, passes_further}
+use Rattle.failover_writer.proofs.Falls.{polls_lower}
 
 -- ---- what a step leaves as it was
 

@@ -15,7 +15,7 @@ use Rattle.log_writer.specs.Parts.{segment_bytes}
 use Rattle.log_writer.specs.Fits.{place_of_writer, file_with, HasNumbers, IsOrdered, HoldsRecords, HoldsBroken, IsUnsent, HasFile, Fits}
 use Rattle.log_writer.specs.Kept.{SegmentKept, IsKeptFile}
 use Rattle.log_writer.proofs.Parts.{no_bytes, bytes_shorter, bytes_grown}
-use Rattle.log_writer.proofs.Kept.{file_kept}
+use Rattle.log_writer.proofs.IsKeptAs.{file_kept}
 
 module _ (records : List Batch) (w : Writer) (ordered : IsOrdered records w) (synced : ℕ) (begins : w.from ≤ synced) (few : synced ≤ w.synced) where
   fresh_kept : (f : Option File) → w.sent ≡ w.from → f ≡ Some fresh → IsKeptFile w.log w.from synced records f

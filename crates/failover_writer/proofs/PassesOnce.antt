@@ -6,7 +6,7 @@ use Rattle.disk_face.specs.Calls.{GoesOn}
 use Rattle.disk_face.proofs.Laws.{goes_on_from}
 use Rattle.failover_writer.specs.State.{State}
 use Rattle.failover_writer.specs.Keeping.{Passes}
-use Rattle.failover_writer.proofs.Passing.{Holds, passes_further}
+use Rattle.failover_writer.proofs.Passes.{Holds, passes_further}
 
 -- Where at most one moment passes, each is the first or the last.
 pub first_or_last : (before after : DiskView) → GoesOn before after → after.clock ≤ suc before.clock → (k : ℕ) → before.clock ≤ k

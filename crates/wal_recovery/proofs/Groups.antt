@@ -11,7 +11,7 @@ use Rattle.wal_recovery.specs.declared.wals.FoundWal.{FoundWal}
 use Rattle.wal_recovery.specs.Listing.{Stored, name_in, place_in, StandsIn}
 use Rattle.wal_recovery.specs.Rows.{place_listed, IsRowOf, BeginsElsewhere, IsGroup, Groups, bytes_at, bytes_or_none, stored_in}
 use Rattle.wal_recovery.proofs.Tools.{some_is}
-use Rattle.wal_recovery.proofs.Listed.{read_open, read_close}
+use Rattle.wal_recovery.proofs.IsListing.{read_open, read_close}
 
 -- one WAL more
 pub groups_more : (wals : List FoundWal) (row mid later : List Found) (wal : FoundWal) → Groups wals row mid → IsGroup wal mid later

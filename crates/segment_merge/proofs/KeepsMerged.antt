@@ -16,7 +16,7 @@ use Rattle.segment_merge.specs.Keeping.{Kept}
 use Rattle.segment_merge.specs.Steps.{Follows, IsAppended, IsSkipped, IsDenied, Steps, KeepsMerged}
 use Rattle.segment_merge.proofs.Unique.{one_merged}
 use Rattle.segment_merge.proofs.Pass.{MayFollow, appended, skipped, none_out_of_order, none_denied, at_most_next, next_segment, nothing_merged, next_is as next_number}
-use Rattle.segment_merge.proofs.Refused.{merged_or_wrong}
+use Rattle.segment_merge.proofs.IsFirstWrong.{merged_or_wrong}
 use Rattle.segment_merge.proofs.OneRefusal.{one_gap, one_conflict, gap_or_conflict}
 
 -- the flag says whether the segment has begun

@@ -28,11 +28,11 @@ use Rattle.failover_writer.specs.Stepping.{NoneBusy}
 use Rattle.failover_writer.specs.Moves.{IsBusyAt, PollsAt, is_pending}
 use Rattle.failover_writer.specs.Inside.{IsInOrder}
 use Rattle.failover_writer.specs.Keeping.{OthersStay, Passes}
-use Rattle.failover_writer.proofs.Sound.{sound_with, some_records}
+use Rattle.failover_writer.proofs.IsSoundJournal.{sound_with, some_records}
 use Rattle.failover_writer.proofs.Lists.{split_at, all_append, all_back}
 use Rattle.failover_writer.proofs.OneChanged.{SameSegment, same_file, synced_changed, stands_changed}
-use Rattle.failover_writer.proofs.Passing.{passes_once, opened_changed}
-use Rattle.failover_writer.proofs.Passed.{first_or_last}
+use Rattle.failover_writer.proofs.Passes.{passes_once, opened_changed}
+use Rattle.failover_writer.proofs.PassesOnce.{first_or_last}
 
 pub busy_flight : (phase : Phase) → IsBusy phase → (operation : Operation) × (id : OpId) × (phase ≡ InFlight operation id)
 busy_flight New busy = absurd busy

@@ -23,11 +23,11 @@ use Rattle.failover_writer.specs.Inside.{IsInOrder}
 use Rattle.failover_writer.specs.Stepping.{IsBehind, StartsNext, NoneBusy}
 use Rattle.failover_writer.specs.Moves.{NoneRests, MayStartNext, started, nothing}
 use Rattle.failover_writer.specs.Keeping.{OthersStay, Passes}
-use Rattle.failover_writer.proofs.Sound.{sound_with, some_records}
+use Rattle.failover_writer.proofs.IsSoundJournal.{sound_with, some_records}
 use Rattle.failover_writer.proofs.Segments.{place_at, index_in, index_is, apart_from_last, all_push, all_front, all_last, joined_front, joined_push, last_is, fit_beside, most_synced_push, sent_to_last, count_push}
-use Rattle.failover_writer.proofs.Begun.{alone_with}
-use Rattle.failover_writer.proofs.Passing.{passes_once}
-use Rattle.failover_writer.proofs.Passed.{first_or_last}
+use Rattle.failover_writer.proofs.BeginsNext.{alone_with}
+use Rattle.failover_writer.proofs.Passes.{passes_once}
+use Rattle.failover_writer.proofs.PassesOnce.{first_or_last}
 
 -- ---- the last of a list
 

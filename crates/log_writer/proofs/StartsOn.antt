@@ -19,9 +19,9 @@ use Rattle.log_writer.specs.Fits.{place_of_writer, act_of, Flies, HasFlight, Has
 use Rattle.log_writer.specs.Kept.{SegmentKept}
 use Rattle.log_writer.specs.Steps.{IsQueueOf, HoldsPart, next_operation, next_of_created}
 use Rattle.log_writer.specs.Sending.{frames_of, sending}
-use Rattle.log_writer.proofs.Fitting.{fits_kept}
+use Rattle.log_writer.proofs.Fits.{fits_kept}
 use Rattle.log_writer.proofs.Beside.{two_moments}
-use Rattle.log_writer.proofs.Sending.{frames_complete}
+use Rattle.log_writer.proofs.FramesFrom.{frames_complete}
 
 -- where an operation is the next one
 abbrev IsReadyFor : Operation → ℕ → ℕ → Phase → Type 0

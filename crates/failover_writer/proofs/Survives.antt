@@ -6,9 +6,9 @@ use Rattle.failover_writer.specs.State.{State, JournalView, acked}
 use Rattle.failover_writer.specs.Ranges.{StandsFor, KeepsRecords}
 use Rattle.failover_writer.specs.Keeping.{KeepsRun, RecoversTo, HasNoSegment, IsOpenedOn, IsOpening, KeepsBase, Passes}
 use Rattle.failover_writer.specs.Lasting.{Survives}
-use Rattle.failover_writer.proofs.Passing.{Holds}
-use Rattle.failover_writer.proofs.Kept.{run_kept, run_kept_now}
-use Rattle.failover_writer.proofs.OverBase.{base_recovers, none_of_opening}
+use Rattle.failover_writer.proofs.Passes.{Holds}
+use Rattle.failover_writer.proofs.KeepsRun.{run_kept, run_kept_now}
+use Rattle.failover_writer.proofs.RecoversTo.{base_recovers, none_of_opening}
 
 module _ (tells : Bool) (old new : State) (before after : DiskView) (passes : Passes tells old new before after) where
   -- The base of a journal is kept.
