@@ -1,13 +1,12 @@
 -- What a row of calls asks for in all, call by call, and where two rows are made one after the other.
 use Rattle.std.proofs.Common.{◌≡◌, ◌==◌, ◌&&◌, ◌+◌, ◌++◌, ◌≤◌, ℕ, Bool, true, false, List, [], ap, refl, sym, ◌∙◌, arith}
 use Rattle.std.specs.Prelude.{if◌then◌else◌, Contains}
-use Rattle.std.proofs.lemmas.Bool.Decides.{nat_tests}
 use Rattle.std.proofs.lemmas.List.{append_assoc}
 use Rattle.std.proofs.lemmas.List.Sums.{sum_by-append, get_or-le-sum_by}
 use Rattle.disk_face.specs.declared.Side.{Side}
-use Rattle.disk_face.specs.declared.Side.TheVariants.{Primary, Secondary}
 use Rattle.disk_face.specs.declared.SegName.{SegName}
 use Rattle.disk_face.specs.declared.Listed.{Listed}
+use Rattle.disk_face.specs.Equal.{both_left, both_right, nat_eq_only, nat_eq_self, side_eq_only, side_eq_self}
 use Rattle.disk_face.specs.View.{Call, was_listed, was_read, DiskView, Makes, side_eq}
 use Rattle.disk_face.specs.Asked.{name_eq, listings, lists_in, bytes_asked, bytes_in, length_among, length_listed, length_in, ListsOnce, ReadsAtMostListed}
 
@@ -43,30 +42,6 @@ reads_at_most-append more made a b side name = omega (
   a side name,
   b side name,
 )
-
-pub side_eq_self : (s : Side) → side_eq s s ≡ true
-side_eq_self Primary = refl
-side_eq_self Secondary = refl
-
-pub side_eq_only : (s t : Side) → side_eq s t ≡ true → s ≡ t
-side_eq_only Primary Primary e = refl
-side_eq_only Primary Secondary e = cc
-side_eq_only Secondary Primary e = cc
-side_eq_only Secondary Secondary e = refl
-
-nat_eq_self : (n : ℕ) → (n == n) ≡ true
-nat_eq_self n = grind (arith, nat_tests)
-
-nat_eq_only : (n m : ℕ) → (n == m) ≡ true → n ≡ m
-nat_eq_only n m e = grind (arith, nat_tests)
-
-both_left : (a b : Bool) → (a && b) ≡ true → a ≡ true
-both_left true b e = refl
-both_left false b e = e
-
-both_right : (a b : Bool) → (a && b) ≡ true → b ≡ true
-both_right true b e = e
-both_right false b e = cc
 
 pub name_eq_self : (n : SegName) → name_eq n n ≡ true
 name_eq_self n = simp (nat_eq_self)

@@ -9,3 +9,5 @@ pub mod NoFiles
 pub mod Names
 pub mod Script
 pub mod Seen
+pub mod Equal
+pub mod BySide

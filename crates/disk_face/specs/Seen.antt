@@ -6,7 +6,8 @@ use Rattle.disk_face.specs.declared.DiskOp.{DiskOp}
 use Rattle.disk_face.specs.declared.Progress.{Progress}
 use Rattle.disk_face.specs.declared.no_disk.NoDisk.{NoDisk}
 use Rattle.disk_face.specs.declared.script_disk.ScriptDisk.{ScriptDisk}
-use Rattle.disk_face.specs.View.{DiskView, by_side}
+use Rattle.disk_face.specs.View.{DiskView}
+use Rattle.disk_face.specs.BySide.{on_side}
 use Rattle.disk_face.specs.Answers.{SendsIfStarted}
 use Rattle.disk_face.specs.Script.{stalled, AnswersItself, PassesPollOn}
 
@@ -14,7 +15,7 @@ use Rattle.disk_face.specs.Script.{stalled, AnswersItself, PassesPollOn}
 abbrev pub bare : NoDisk → DiskView
 bare d = record {
   faults = λ s. 0;
-  polls_left = by_side d.primary_polls d.secondary_polls;
+  polls_left = on_side d.polls;
   in_flight = λ id. None;
   clock = 0;
   history = λ k p. None;
@@ -27,11 +28,11 @@ within view d = view d.inner
 
 -- how many polls the outer disk is still to answer by itself, by side
 abbrev pub own_polls_of : {D : Type 0} → ScriptDisk D → Side → ℕ
-own_polls_of d = by_side d.primary_polls d.secondary_polls
+own_polls_of d = on_side d.polls
 
 -- the outer disk: it means the disk within, with its own polls more left to stall, and its own calls
 abbrev pub outer : {D : Type 0} → (D → DiskView) → ScriptDisk D → DiskView
-outer view d = stalled (view d.inner) d.primary_polls d.secondary_polls d.log.calls
+outer view d = stalled (view d.inner) d.polls.primary d.polls.secondary d.log.calls
 
 -- the polls that the outer disk answers itself stay
 abbrev pub OwnPollsStay : {D : Type 0} → ScriptDisk D → ScriptDisk D → Type 0

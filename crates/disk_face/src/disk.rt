@@ -43,7 +43,7 @@ pub trait Disk {
         ensures stalls { StallsStay (view self.old) (view self.new) }
         ensures noted { AsksFor side name buf.old (view self.old) (view self.new) }
         ensures within { IfOk result (λ n. n ≤ length buf.new) }
-        ensures behind { IfOk result (λ n. drop n buf.new ≡ drop n buf.old) }
+        ensures beyond { IfOk result (λ n. drop n buf.new ≡ drop n buf.old) }
         ensures bytes { ReadsSegment tells side name at buf.new result (view self.old) }
         ensures no_file { ReadsNoFile tells (segment side name) result (view self.old) };
 

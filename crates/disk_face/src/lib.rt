@@ -10,6 +10,7 @@
 //! sent, a read begins with what was done, no moment is forgotten, and no count falls but the polls left.
 #![tactic(auto)]
 
+mod by_side;
 mod call_log;
 mod disk;
 mod names;
@@ -17,6 +18,7 @@ mod no_disk;
 mod script_disk;
 mod table_disk;
 
+pub use by_side::BySide;
 pub use call_log::CallLog;
 pub use disk::{Disk, StallDisk};
 pub use names::{INDEX_MAX, WAL_MAX};

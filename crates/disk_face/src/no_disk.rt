@@ -8,8 +8,8 @@ ghost use Rattle.disk_face.specs.Answers.{AsksFor};
 ghost use Rattle.disk_face.specs.Seen.{bare};
 
 use crate::{
-    CallLog, Disk, DiskErr, DiskOp, Names, OpId, Progress, SegName, Side, StallDisk, TableDisk,
-    TableNames,
+    BySide, CallLog, Disk, DiskErr, DiskOp, Names, OpId, Progress, SegName, Side, StallDisk,
+    TableDisk, TableNames,
 };
 use std::alloc::Global;
 use wal_base::NoMemory;
@@ -18,8 +18,7 @@ use wal_base::NoMemory;
 #[derive(Debug, Drop)]
 pub struct NoDisk {
     alloc: Global,
-    primary_polls: u64,
-    secondary_polls: u64,
+    polls: BySide,
     log: CallLog,
 }
 
@@ -33,8 +32,10 @@ impl NoDisk {
     {
         NoDisk {
             alloc,
-            primary_polls: 0,
-            secondary_polls: 0,
+            polls: BySide {
+                primary: 0,
+                secondary: 0,
+            },
             log: CallLog::new(),
         }
     }
@@ -100,11 +101,7 @@ impl Disk for NoDisk {
 
 impl StallDisk for NoDisk {
     fn stall(&mut self, side: Side, polls: u32) {
-        let polls = u64::from(polls);
-        match side {
-            Side::Primary => self.primary_polls = self.primary_polls.saturating_add(polls),
-            Side::Secondary => self.secondary_polls = self.secondary_polls.saturating_add(polls),
-        }
+        self.polls.add(side, polls);
     }
 }
 

@@ -9,7 +9,9 @@ ghost use Rattle.disk_face.specs.Calls.{place_of, GoesOn, SameDisk, StallsStay, 
 ghost use Rattle.disk_face.specs.Script.{stalled, TellsOf, StallsAlike, RaisesOwnPolls};
 ghost use Rattle.disk_face.specs.Seen.{outer, within, own_polls_of, OwnPollsStay, OuterSends, AnswersWhileOwn, PassesOnElse};
 
-use crate::{CallLog, Disk, DiskErr, DiskOp, Names, OpId, Progress, SegName, Side, StallDisk};
+use crate::{
+    BySide, CallLog, Disk, DiskErr, DiskOp, Names, OpId, Progress, SegName, Side, StallDisk,
+};
 use wal_base::NoMemory;
 
 /// A disk that answers polls by itself, over a disk within. Contracts see both.
@@ -39,8 +41,8 @@ impl<D: Disk> Scripted for ScriptDisk<D> {
 #[derive(Debug, Drop)]
 pub struct ScriptDisk<D: Disk> {
     inner: D,
-    primary_polls: u64,
-    secondary_polls: u64,
+    /// The polls that it is still to answer by itself.
+    polls: BySide,
     log: CallLog,
 }
 
@@ -55,8 +57,10 @@ impl<D: Disk> ScriptDisk<D> {
     {
         ScriptDisk {
             inner,
-            primary_polls: 0,
-            secondary_polls: 0,
+            polls: BySide {
+                primary: 0,
+                secondary: 0,
+            },
             log: CallLog::new(),
         }
     }
@@ -68,8 +72,7 @@ impl<D: Disk> ScriptDisk<D> {
     {
         let ScriptDisk {
             inner,
-            primary_polls: _,
-            secondary_polls: _,
+            polls: _,
             log: _,
         } = self;
         inner
@@ -109,7 +112,7 @@ impl<D: Disk> Disk for ScriptDisk<D> {
         ensures stalls { StallsStay (outer D.view self.old) (outer D.view self.new) }
         ensures noted { AsksFor side name buf.old (outer D.view self.old) (outer D.view self.new) }
         ensures within { IfOk result (λ n. n ≤ length buf.new) }
-        ensures behind { IfOk result (λ n. drop n buf.new ≡ drop n buf.old) }
+        ensures beyond { IfOk result (λ n. drop n buf.new ≡ drop n buf.old) }
         ensures bytes { ReadsSegment D.tells side name at buf.new result (outer D.view self.old) }
         ensures no_file { ReadsNoFile D.tells (segment side name) result (outer D.view self.old) }
 
@@ -155,18 +158,11 @@ impl<D: Disk> Disk for ScriptDisk<D> {
         ensures passed { PassesOnElse D.view D.tells id self.old self.new result }
     {
         self.log.note_poll(id);
-        let own = match id.side {
-            Side::Primary => self.primary_polls,
-            Side::Secondary => self.secondary_polls,
-        };
-        if own == 0 {
-            return self.inner.poll(id);
+        if self.polls.take_one(id.side) {
+            Progress::Pending
+        } else {
+            self.inner.poll(id)
         }
-        match id.side {
-            Side::Primary => self.primary_polls = own - 1,
-            Side::Secondary => self.secondary_polls = own - 1,
-        }
-        Progress::Pending
     }
 
     ghost finite = { λ d k told le. D.finite d.inner k told le };
@@ -180,10 +176,6 @@ impl<D: Disk> StallDisk for ScriptDisk<D> {
         ensures own { RaisesOwnPolls side polls (own_polls_of self.old) (own_polls_of self.new) }
         ensures within { within D.view self.new ≡ within D.view self.old }
     {
-        let polls = u64::from(polls);
-        match side {
-            Side::Primary => self.primary_polls = self.primary_polls.saturating_add(polls),
-            Side::Secondary => self.secondary_polls = self.secondary_polls.saturating_add(polls),
-        }
+        self.polls.add(side, polls);
     }
 }

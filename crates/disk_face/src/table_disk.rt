@@ -31,7 +31,7 @@ pub trait TableDisk: Disk {
         ensures same { SameDisk (Self.view self.old) (Self.view self.new) }
         ensures failed { CountsFailure Primary result (Self.view self.old) (Self.view self.new) }
         ensures within { IfOk result (λ n. n ≤ length buf.new) }
-        ensures behind { IfOk result (λ n. drop n buf.new ≡ drop n buf.old) }
+        ensures beyond { IfOk result (λ n. drop n buf.new ≡ drop n buf.old) }
         ensures bytes { ReadsFile Self.tells (table upto) at buf.new result (Self.view self.old) }
         ensures no_file { ReadsNoFile Self.tells (table upto) result (Self.view self.old) };
 

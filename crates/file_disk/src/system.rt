@@ -132,7 +132,7 @@ pub fn read<R: Files + AllocGlobal>(
     buf: &mut [u8],
 ) -> Result<usize, DiskErr>
     ensures within { IfOk result (λ n. n ≤ length buf.new) }
-    ensures behind { IfOk result (λ n. drop n buf.new ≡ drop n buf.old) }
+    ensures beyond { IfOk result (λ n. drop n buf.new ≡ drop n buf.old) }
 {
     let path = path_of(rt.alloc(), side, name)?;
     if at > LAST_PLACE {
@@ -153,7 +153,7 @@ pub fn read<R: Files + AllocGlobal>(
 /// the system does not say what it leaves of a buffer after the bytes that it reads.
 fn fill<I: Read>(input: &mut I, piece: &mut Vec<u8>, buf: &mut [u8]) -> io::Result<usize>
     ensures within { IfOk result (λ n. n ≤ length buf.new) }
-    ensures behind { IfOk result (λ n. drop n buf.new ≡ drop n buf.old) }
+    ensures beyond { IfOk result (λ n. drop n buf.new ≡ drop n buf.old) }
 {
     let mut filled = 0;
     while filled < buf.len() {

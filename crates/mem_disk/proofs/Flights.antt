@@ -5,7 +5,7 @@ use Rattle.disk_face.specs.declared.OpId.{OpId}
 use Rattle.disk_face.specs.View.{Flight, segment}
 use Rattle.mem_disk.specs.declared.parts.MemOp.{MemOp}
 use Rattle.mem_disk.specs.Mem.{side_eq, flight_if, flight_in, live_in, act_in_memory}
-use Rattle.mem_disk.specs.Finite.{side_eq_only, both_left, both_right}
+use Rattle.disk_face.specs.Equal.{both_left, both_right, side_eq_only}
 
 pub live_set : (ops : List MemOp) (i : ℕ) (x y : MemOp) → slice_get ops i ≡ Some x → x.live ≡ true → y.live ≡ false
     → live_in (slice_set ops i y) + 1 ≡ live_in ops

@@ -12,7 +12,8 @@ use Rattle.disk_face.specs.View.{Place, segment, File}
 use Rattle.disk_face.specs.Listing.{IsBefore, IsAscending, AreSegmentNames, IsSegmentName, HasLength, IsListing}
 use Rattle.disk_face.proofs.Laws.{not_before_itself}
 use Rattle.mem_disk.specs.declared.parts.MemFile.{MemFile}
-use Rattle.mem_disk.specs.Finite.{side_eq_self, side_eq_only, both_left, both_right, is_at_self, is_at_only}
+use Rattle.disk_face.specs.Equal.{both_left, both_right, side_eq_only, side_eq_self}
+use Rattle.mem_disk.specs.Finite.{is_at_self, is_at_only}
 use Rattle.mem_disk.specs.Mem.{side_eq, is_at, file_of, files_held, AreInOrder, is_named, listed_of}
 use Rattle.mem_disk.proofs.Orders.{IsBeforeAll, Ascend, ordered_open}
 use Rattle.mem_disk.proofs.Held.{held_skip}

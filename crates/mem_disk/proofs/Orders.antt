@@ -6,7 +6,7 @@ use Rattle.disk_face.specs.declared.Side.{Side}
 use Rattle.disk_face.specs.declared.SegName.{SegName}
 use Rattle.disk_face.specs.Listing.{IsBefore}
 use Rattle.mem_disk.specs.declared.parts.MemFile.{MemFile}
-use Rattle.mem_disk.specs.Finite.{side_eq_self, side_eq_only, both_left, both_right}
+use Rattle.disk_face.specs.Equal.{both_left, both_right, side_eq_only, side_eq_self}
 use Rattle.mem_disk.specs.Mem.{side_eq, is_before, is_before_all, AreInOrder}
 
 -- of two files of one side the first stands before the second one, by their names

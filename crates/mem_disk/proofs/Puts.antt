@@ -6,7 +6,8 @@ use Rattle.disk_face.specs.View.{Place, segment}
 use Rattle.disk_face.specs.Listing.{IsBefore}
 use Rattle.disk_face.proofs.Laws.{before_trans, before_or_after}
 use Rattle.mem_disk.specs.declared.parts.MemFile.{MemFile}
-use Rattle.mem_disk.specs.Finite.{side_eq_self, side_eq_only, both_left, both_right, is_at_self}
+use Rattle.disk_face.specs.Equal.{both_left, both_right, side_eq_only, side_eq_self}
+use Rattle.mem_disk.specs.Finite.{is_at_self}
 use Rattle.mem_disk.specs.Mem.{side_eq, is_at, file_of, files_held, is_before, goes_before, put, AreInOrder, ChangesAt}
 use Rattle.mem_disk.proofs.Orders.{StandsBefore, IsBeforeAll, Ascend, before_true, before_false, ordered_open, ordered_close}
 use Rattle.mem_disk.proofs.Held.{held_here, held_other, held_skip, set_others_same}

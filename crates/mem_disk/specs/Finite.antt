@@ -1,9 +1,7 @@
 -- The laws of a disk in memory (docs/FORMATS.md, "The disk"): it has no more files than its list, and each is sound.
 use Rattle.std.proofs.Common.{◌≡◌, ◌==◌, ◌&&◌, ℕ, suc, Bool, true, false, cond, List, [], ◌∷◌, length, sym, refl, subst, Option, Some, None, arith, drop, take, append-nil, ◌∙◌}
-use Rattle.std.proofs.lemmas.Bool.Decides.{nat_tests}
 use Rattle.std.specs.Prelude.{IsSome, Contains, if◌then◌else◌}
 use Rattle.disk_face.specs.declared.Side.{Side}
-use Rattle.disk_face.specs.declared.Side.TheVariants.{Primary, Secondary}
 use Rattle.disk_face.specs.declared.SegName.{SegName}
 use Rattle.disk_face.specs.View.{Place, segment, table, File, Files, Call, IsFiniteFiles, files}
 use Rattle.mem_disk.specs.declared.parts.MemFile.{MemFile}
@@ -12,33 +10,10 @@ use Rattle.mem_disk.specs.declared.parts.Undo.{Undo}
 use Rattle.mem_disk.specs.Mem.{side_eq, is_at, file_of, files_held, was_of, all_undone, mem_view}
 use Rattle.disk_face.specs.Image.{IsSoundFile, IsSound}
 use Rattle.disk_face.specs.Calls.{fresh}
-
-pub side_eq_self : (s : Side) → side_eq s s ≡ true
-side_eq_self Primary = refl
-side_eq_self Secondary = refl
-
-pub side_eq_only : (s t : Side) → side_eq s t ≡ true → s ≡ t
-side_eq_only Primary Primary e = refl
-side_eq_only Primary Secondary e = cc
-side_eq_only Secondary Primary e = cc
-side_eq_only Secondary Secondary e = refl
-
-nat_eq_self : (n : ℕ) → (n == n) ≡ true
-nat_eq_self n = grind (arith, nat_tests)
-
-nat_eq_only : (n m : ℕ) → (n == m) ≡ true → n ≡ m
-nat_eq_only n m e = grind (arith, nat_tests)
+use Rattle.disk_face.specs.Equal.{both_left, both_right, nat_eq_only, nat_eq_self, side_eq_only, side_eq_self}
 
 pub is_at_self : (side : Side) (name : SegName) → is_at side name (segment side name) ≡ true
 is_at_self side name = simp (side_eq_self, nat_eq_self)
-
-pub both_left : (a b : Bool) → (a && b) ≡ true → a ≡ true
-both_left true b e = refl
-both_left false b e = e
-
-pub both_right : (a b : Bool) → (a && b) ≡ true → b ≡ true
-both_right true b e = e
-both_right false b e = cc
 
 pub is_at_only : (side : Side) (name : SegName) (q : Place) → is_at side name q ≡ true → q ≡ segment side name
 is_at_only side name (segment s n) e =

@@ -5,5 +5,4 @@ pub mod Leaving
 pub mod Sent
 pub mod Finite
 pub mod Seen
-pub mod Counts
 pub mod Changes

@@ -217,7 +217,7 @@ pub fn sent_of(files: &Vec<MemFile>, side: Side, name: SegName) -> Option<&[u8]>
 fn copy_out(content: &[u8], at: u64, buf: &mut [u8]) -> usize
     ensures fills { FillsFrom content.now at buf.new result }
     ensures within { result ≤ length buf.new }
-    ensures behind { drop result buf.new ≡ drop result buf.old }
+    ensures beyond { drop result buf.new ≡ drop result buf.old }
 {
     let at = at as usize;
     if at >= content.len() {
@@ -234,7 +234,7 @@ pub fn read_file(files: &Vec<MemFile>, side: Side, name: SegName, at: u64, buf: 
     ensures fills { HeldFills files.now.items side name at buf.new result }
     ensures no_file { files_held files.now.items (segment side name) ≡ None → result ≡ 0 }
     ensures within { result ≤ length buf.new }
-    ensures behind { drop result buf.new ≡ drop result buf.old }
+    ensures beyond { drop result buf.new ≡ drop result buf.old }
 {
     let Some(i) = find(files, side, name) else {
         return 0;

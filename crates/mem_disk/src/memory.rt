@@ -14,14 +14,16 @@ ghost use Rattle.mem_disk.specs.Finite.{finite_mem, sound_mem};
 ghost use Rattle.mem_disk.specs.Mem.{files_held, live_in, AreInOrder};
 
 use crate::chance::is_chance_free;
-use crate::counts::{BySide, CallFaults};
+use crate::counts::CallFaults;
 use crate::crash::files_left;
 use crate::files::{begin, content_of, place, read_file, sent_of, settle, undo_of};
 use crate::listing::list_files;
 use crate::ops::{begin_op, end_op, op_of};
 use crate::parts::{MemFile, MemOp, Undo};
 use crate::picks::CrashPick;
-use disk_face::{CallLog, Disk, DiskErr, DiskOp, Names, OpId, Progress, SegName, Side, StallDisk};
+use disk_face::{
+    BySide, CallLog, Disk, DiskErr, DiskOp, Names, OpId, Progress, SegName, Side, StallDisk,
+};
 use std::alloc::Global;
 use wal_base::NoMemory;
 
@@ -238,7 +240,7 @@ impl Disk for MemDisk {
         ensures same { SameDisk (seen self.old) (seen self.new) }
         ensures failed { CountsFailure side result (seen self.old) (seen self.new) }
         ensures within { IfOk result (λ n. n ≤ length buf.new) }
-        ensures behind { IfOk result (λ n. drop n buf.new ≡ drop n buf.old) }
+        ensures beyond { IfOk result (λ n. drop n buf.new ≡ drop n buf.old) }
         ensures bytes { IfOk result (SegmentFills (seen self.old) side name at buf.new) }
         ensures no_file { IfOk result (NoneIfAbsent (seen self.old) side name) }
         ensures noted { AsksFor side name buf.old (seen self.old) (seen self.new) }

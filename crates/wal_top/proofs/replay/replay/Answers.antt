@@ -6,7 +6,8 @@ use Rattle.batch_repr.specs.declared.batch.Batch.{Batch}
 use Rattle.batch_repr.specs.Batches.{end_after}
 use Rattle.disk_face.specs.declared.script_disk.ScriptDisk.{ScriptDisk}
 use Rattle.disk_face.specs.View.{DiskView}
-use Rattle.disk_face.specs.Script.{TellsOf, stalled}
+use Rattle.disk_face.specs.Script.{TellsOf}
+use Rattle.disk_face.specs.Seen.{outer}
 use Rattle.failover_writer.specs.Running.{Runs}
 use Rattle.wal_top.specs.Doing.{ReplaysOver}
 use Rattle.wal_top.proofs.Saying.{ok_map, ok_then}
@@ -15,7 +16,7 @@ use Rattle.wal_top.proofs.replay.replay.Goals as goal
 
 -- a disk that a script stalls, as it is seen
 abbrev seen : {D : Type 0} → (D → DiskView) → ScriptDisk D → DiskView
-seen view d = stalled (view d.inner) d.primary_polls d.secondary_polls d.log.calls
+seen view d = outer view d
 
 after : (g : _) (c : goal.After-into_inner g) → TellsOf (g.D.Disk.view c.into_inner.result) (seen g.D.Disk.view c.go-ended.new.self.journal.disk)
 after g c = subst (λ (d : ScriptDisk _). TellsOf (g.D.Disk.view c.into_inner.result) (seen g.D.Disk.view d)) c.answered-said.ensures.disk

@@ -1,8 +1,8 @@
--- A number for each side, of a disk in memory (docs/FORMATS.md, "The disk").
+-- A number for each side (docs/FORMATS.md, "The disk").
 use Rattle.std.specs.Prelude.{◌≡◌, ℕ, ◌+◌, ◌<◌, Bool, MatchBool}
 use Rattle.disk_face.specs.declared.Side.{Side}
 use Rattle.disk_face.specs.View.{by_side}
-use Rattle.mem_disk.specs.declared.counts.BySide.{BySide}
+use Rattle.disk_face.specs.declared.by_side.BySide.{BySide}
 
 -- the number of that side
 abbrev pub on_side : BySide → Side → ℕ
