@@ -19,10 +19,14 @@ IsImageOf (table n) (Some f) (Some bytes) = (f.created ≡ true → bytes ≡ f.
 abbrev pub IsImage : Files → Dirs → Type 0
 IsImage files dirs = (p : Place) → IsImageOf p (files p) (dirs p)
 
+-- the log number of a WAL: its lowest 32 bits
+abbrev pub log_number : ℕ → ℕ
+log_number wal = wal % 2 ^ 32
+
 -- the log number of a file's chunks: the low 32 bits of its number
 abbrev pub log_of : Place → ℕ
-log_of (segment s n) = n.wal % 2 ^ 32
-log_of (table upto) = upto % 2 ^ 32
+log_of (segment s n) = log_number n.wal
+log_of (table upto) = log_number upto
 
 -- `Chunk bytes at log size` says that a whole chunk of that log number and of that many bytes stands there.
 -- Wherever one stands in a file of the image, the same bytes were sent to that place.

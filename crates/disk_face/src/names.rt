@@ -4,6 +4,7 @@ ghost use Rattle.std.specs.Prelude.{◌≡◌, ◌+◌, ◌≤◌, ◌<◌, ◌+
 ghost use Rattle.std.specs.Option.{MatchOption};
 ghost use Rattle.arrayvec.specs.ArrayVec.{array_vec_len};
 ghost use Rattle.disk_face.specs.declared.SegName.{SegName};
+ghost use Rattle.disk_face.specs.Image.{log_number};
 ghost use Rattle.disk_face.specs.Listing.{IsSegmentName};
 ghost use Rattle.disk_face.specs.Names.{filled, seg_text, NamesNone, FindsNamed, OfEachStem, CutsStem};
 
@@ -21,6 +22,13 @@ pub const INDEX_MAX: u32 = 999;
 const TEXT_ROOM: usize = 45;
 
 impl SegName {
+    /// The log number of its chunks: the lowest 32 bits of the number of its WAL.
+    pub fn log(&self) -> u32
+        ensures { result ≡ log_number self.now.wal }
+    {
+        (self.wal % (1 << 32)) as u32
+    }
+
     /// Reads the one spelling of a name. `None` exactly where the text is the spelling of no name.
     pub fn parse(text: &[u8]) -> Option<SegName>
         ensures some { IfSome result (λ name. (seg_text name ≡ text.now) × IsSegmentName name) }

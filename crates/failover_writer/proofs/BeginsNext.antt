@@ -10,6 +10,7 @@ use Rattle.disk_face.specs.View.{Place, segment, creating, Act, Flight, Files, D
 use Rattle.disk_face.specs.Calls.{GoesOn, Starts}
 use Rattle.disk_face.proofs.Laws.{same_id}
 use Rattle.batch_repr.specs.declared.batch.Batch.{Batch}
+use Rattle.log_writer.specs.Promises.{unstarted}
 use Rattle.log_writer.specs.declared.goal.Goal.{Goal}
 use Rattle.log_writer.specs.Steps.{BeginsJust, next_operation}
 use Rattle.log_writer.specs.declared.phase.Operation.TheVariants.{Create}
@@ -38,21 +39,6 @@ next_free tells records state v stands id f flies at =
 pub acked_within : (tells : Bool) (records : List Batch) (state : State) (v : DiskView) → StandsFor tells records state v → acked state ≤ length records
 acked_within tells records state v stands = synced_within tells records v 0 state.segments (omega arith) stands.fit
 
--- The writer of a segment of which nothing was started.
-abbrev pub new_writer : Side → SegName → ℕ → ℕ → Writer
-new_writer side name log from = record {
-  side = side;
-  name = name;
-  log = log;
-  from = from;
-  sent = from;
-  written = from;
-  synced = from;
-  place = 0;
-  waiting = 0;
-  phase = New;
-}
-
 -- A new writer fits, on the file of the segment that comes next.
 pub next_fits : (tells : Bool) (state : State) (v : DiskView) (side : Side) (name : SegName) (from : ℕ) (w : Writer) → side ≡ side_at (length state.segments)
     → name ≡ record { wal = state.wal; index = length state.segments } → from ≡ acked state → length state.segments < 10
@@ -68,7 +54,7 @@ next_fits tells state v side name from w side_is name_is from_is few fits record
 -- What a new writer begins is its creation.
 pub begins_first : (state : State) (side : Side) (name : SegName) (log from len : ℕ) (goal : Goal) (started : Bool) (w new : Writer)
     (before after : DiskView) → side ≡ side_at (length state.segments)
-    → name ≡ record { wal = state.wal; index = length state.segments } → from ≡ acked state → w ≡ new_writer side name log from
+    → name ≡ record { wal = state.wal; index = length state.segments } → from ≡ acked state → w ≡ unstarted side name log from
     → BeginsJust (next_operation w.phase w.written goal) len started w new before after
     → (id : OpId) × begun state id new × Starts (record { place = place_of_writer new; act = creating }) side id before after
     × (place_of_writer new ≡ place_of_writer w)

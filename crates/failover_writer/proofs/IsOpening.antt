@@ -16,11 +16,11 @@ use Rattle.disk_face.specs.declared.Side.{Side}
 use Rattle.disk_face.specs.declared.SegName.{SegName}
 use Rattle.disk_face.specs.View.{Place, segment, File, Files, Dirs}
 use Rattle.disk_face.specs.Listing.{IsSegmentName}
-use Rattle.disk_face.specs.Image.{IsImageOf, IsImage, IsChanceFree, IsRestedFile, IsRested, as_read, dirs_as_read}
+use Rattle.disk_face.specs.Image.{IsImageOf, IsImage, IsChanceFree, IsRestedFile, IsRested, as_read, dirs_as_read, log_number}
 use Rattle.disk_face.proofs.Laws.{image_of_created}
 use Rattle.segment_merge.proofs.Laws.{none_within, within_head, within_tail, within_cases}
 use Rattle.wal_recovery.specs.Listing.{Stored, Wal, name_in, place_in, AreByIndex, AreByNumber, IsOf, StandsIn, IsListingOf, IsNextWal}
-use Rattle.wal_recovery.specs.Recovering.{log_number, HoldsBatches, HoldRow, WalsMerge, Recovers}
+use Rattle.wal_recovery.specs.Recovering.{HoldsBatches, HoldRow, WalsMerge, Recovers}
 use Rattle.wal_recovery.specs.Resting.{IsStable, AreSegmentsStable, IsAsOrSynced, OnlySynced}
 use Rattle.failover_writer.specs.Keeping.{IsOpening}
 

@@ -13,13 +13,13 @@ use Rattle.block_record.specs.ReadOut.{bytes_of}
 use Rattle.disk_face.specs.declared.Side.{Side}
 use Rattle.disk_face.specs.declared.SegName.{SegName}
 use Rattle.disk_face.specs.View.{Place, segment, Dirs, DiskView, files}
-use Rattle.disk_face.specs.Image.{IsImage, IsChanceFree}
+use Rattle.disk_face.specs.Image.{IsImage, IsChanceFree, log_number}
 use Rattle.disk_face.proofs.Laws.{same_number, same_side}
 use Rattle.segment_merge.specs.Ranges as ranges
 use Rattle.segment_merge.specs.Ranges.{between, Range, AreRanges}
 use Rattle.segment_merge.proofs.Laws.{none_within, within_head, within_tail, within_cases}
 use Rattle.wal_recovery.specs.Listing.{Stored, place_in, AreByIndex, StandsIn}
-use Rattle.wal_recovery.specs.Recovering.{log_number, taking_numbers, Spell, HoldsBatches, HoldRow}
+use Rattle.wal_recovery.specs.Recovering.{taking_numbers, Spell, HoldsBatches, HoldRow}
 use Rattle.log_writer.specs.Writer.{Writer}
 use Rattle.log_writer.specs.Fits.{Fits, place_of_writer}
 use Rattle.log_writer.specs.Kept.{IsPrefixRead, IsKeptAs}

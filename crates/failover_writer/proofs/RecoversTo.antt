@@ -7,12 +7,12 @@ use Rattle.std.proofs.lemmas.List.Elements.{Contains-append_left, Contains-push,
 use Rattle.batch_repr.specs.declared.batch.Batch.{Batch}
 use Rattle.batch_repr.specs.Batches.{end_after}
 use Rattle.disk_face.specs.View.{segment, Place, File, Files, Dirs}
-use Rattle.disk_face.specs.Image.{IsImageOf}
+use Rattle.disk_face.specs.Image.{IsImageOf, log_number}
 use Rattle.disk_face.proofs.Laws.{same_number}
 use Rattle.segment_merge.specs.Merging.{Merged}
 use Rattle.segment_merge.proofs.Laws.{none_within, within_head, within_tail, one_merged, nothing_merged}
 use Rattle.wal_recovery.specs.Listing.{Stored, Wal, name_in, place_in, AreByIndex, AreByNumber, IsOf, StandsIn, IsListingOf}
-use Rattle.wal_recovery.specs.Recovering.{log_number, HoldRow, WalMerges, Recovers}
+use Rattle.wal_recovery.specs.Recovering.{HoldRow, WalMerges, Recovers}
 use Rattle.wal_recovery.proofs.Laws.{wals_more, listed_some}
 use Rattle.failover_writer.specs.Keeping.{AreSegmentsOf, IsSameElsewhere, IsRunOver, KeepsRun, RecoversTo, IsOpening, HasNoSegment}
 

@@ -1,7 +1,7 @@
 //! The journal and its step.
 
 ghost use Rattle.disk_face.specs.declared.names.TheConstants.{WAL_MAX};
-ghost use Rattle.std.specs.Prelude.{◌≡◌, ◌≢◌, ◌↔◌, ◌⊎◌, ◌≤◌, ◌<◌, ◌-◌, suc, List, [], ◌∷◌, ◌++◌, length, take, drop, Option, None, Ok, MatchBool, IfOk, IfErr, IfSome, OnOk, OnErr, IsTrue, nat_lt};
+ghost use Rattle.std.specs.Prelude.{◌≡◌, ◌≢◌, ◌↔◌, ◌⊎◌, ◌≤◌, ◌<◌, ◌-◌, suc, List, [], ◌∷◌, ◌++◌, length, take, drop, Option, None, Ok, MatchBool, IfOk, IfErr, IfSome, OnOk, OnErr, IsTrue};
 ghost use Rattle.batch_repr.specs.declared.batch.Batch.{Batch};
 ghost use Rattle.disk_face.specs.declared.Progress.{Progress};
 ghost use Rattle.disk_face.specs.View.{files, NothingInFlight};
@@ -52,7 +52,7 @@ pub struct Journal<D: Disk> {
 }
 
 impl<D: Disk> Model for Journal<D> {
-    ghost use Rattle.failover_writer.specs.State.{State, JournalView};
+    ghost use Rattle.failover_writer.specs.State.{JournalView};
     ghost use Rattle.failover_writer.specs.Inside.{IsInOrder};
 
     ghost Value = { JournalView D };
@@ -364,7 +364,7 @@ impl<D: Disk> Journal<D> {
             wal: self.wal,
             index: index as u32,
         };
-        let log = (self.wal % (1 << 32)) as u32;
+        let log = name.log();
         let goal = self.goal();
         let mut writer = LogWriter::new(self.alloc, side_at(index), name, log, self.acked)?;
         // The room is there before anything is started.

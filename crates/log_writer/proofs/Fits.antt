@@ -16,6 +16,8 @@ use Rattle.log_writer.specs.Fits.{place_of_writer, file_with, HasNumbers, IsOrde
 use Rattle.log_writer.specs.Kept.{SegmentKept, IsKeptFile}
 use Rattle.log_writer.proofs.Parts.{no_bytes, bytes_shorter, bytes_grown}
 use Rattle.log_writer.proofs.IsKeptAs.{file_kept}
+use Rattle.disk_face.specs.Image.{log_number}
+use Rattle.log_writer.specs.Promises.{unstarted}
 
 module _ (records : List Batch) (w : Writer) (ordered : IsOrdered records w) (synced : ℕ) (begins : w.from ≤ synced) (few : synced ≤ w.synced) where
   fresh_kept : (f : Option File) → w.sent ≡ w.from → f ≡ Some fresh → IsKeptFile w.log w.from synced records f
@@ -92,21 +94,9 @@ pub fits_kept : (tells : Bool) (records : List Batch) (w : Writer) (v : DiskView
 fits_kept tells records w v fits told = fits_kept_from tells records w v w.synced fits told fits.ordered.from (omega arith)
 
 -- A new writer fits where nothing was sent to its file.
-pub new_fits : (side : Side) (name : SegName) (log from : ℕ) → log ≡ name.wal % 4294967296
+pub new_fits : (side : Side) (name : SegName) (log from : ℕ) → log ≡ log_number name.wal
     → (tells : Bool) (records : List Batch) (v : DiskView) → from ≤ length records → IsFree v (segment side name)
-    → (IsTrue tells → IsUnsent (files v (segment side name))) → Fits tells records
-    (record {
-      side = side;
-      name = name;
-      log = log;
-      from = from;
-      sent = from;
-      written = from;
-      synced = from;
-      place = 0;
-      waiting = 0;
-      phase = New;
-    }) v
+    → (IsTrue tells → IsUnsent (files v (segment side name))) → Fits tells records (unstarted side name log from) v
 new_fits side name log from log_is tells records v within free absent = record {
   ordered = record {
     log = log_is;

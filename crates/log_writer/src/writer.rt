@@ -1,6 +1,7 @@
 //! A writer of one segment: what it is, how it is made, and what it tells.
 
 ghost use Rattle.std.specs.Prelude.{◌≡◌, ◌≤◌, ◌%◌, ◌^◌, ◌↔◌, IfOk, IsTrue};
+ghost use Rattle.disk_face.specs.Image.{log_number};
 ghost use Rattle.log_writer.specs.declared.phase.Phase.TheVariants.{Broken};
 ghost use Rattle.log_writer.specs.declared.polling.TheConstants.{WAITING_MAX};
 ghost use Rattle.log_writer.specs.Fits.{IsBusy};
@@ -47,7 +48,7 @@ impl Model for LogWriter {
 }
 
 impl LogWriter {
-    /// A segment that is to begin with the record `from`. `log` is the low 32 bits of the number of its WAL. It asks
+    /// A segment that is to begin with the record `from`. `log` is the log number of its WAL. It asks
     /// nothing of a disk. `Err` means out of memory.
     pub fn new(
         alloc: Global,
@@ -56,7 +57,7 @@ impl LogWriter {
         log: u32,
         from: u64,
     ) -> Result<LogWriter, NoMemory>
-        requires log { log ≡ name.wal % 2 ^ 32 }
+        requires log { log ≡ log_number name.wal }
         ensures made { IfOk result (λ writer. writer ≡ unstarted side name log from) }
         ensures fits { IfOk result (FitsIfUnsent side name from) }
     {

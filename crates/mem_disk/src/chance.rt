@@ -63,7 +63,7 @@ fn is_file_sent(alloc: Global, file: &MemFile, picks: &[FilePick]) -> Result<boo
     };
     let mut bytes = Vec::from_slice(alloc, &file.sent[..kept])?;
     add_tail(&mut bytes, tail)?;
-    let log = (file.name.wal % (1 << 32)) as u32;
+    let log = file.name.log();
     Ok(are_chunks_sent(&bytes, sent_in(file), log))
 }
 

@@ -13,14 +13,13 @@ use Rattle.segment_merge.specs.Lenient as lenient
 use Rattle.segment_merge.specs.Returned.{MemoryOrRefusal}
 use Rattle.segment_merge.proofs.Laws.{merged_none}
 use Rattle.disk_face.specs.View.{Files}
-use Rattle.disk_face.specs.Image.{dirs_as_read}
+use Rattle.disk_face.specs.Image.{dirs_as_read, log_number}
 use Rattle.wal_recovery.specs.declared.fault.RecoverFault.{RecoverFault}
 use Rattle.wal_recovery.specs.declared.fault.RecoverFault.TheVariants as faults
-use Rattle.wal_recovery.specs.declared.listing.Found.{Found}
 use Rattle.wal_recovery.specs.declared.reports.SegReport.{SegReport}
 use Rattle.wal_recovery.specs.declared.wals.FoundWal.{FoundWal}
 use Rattle.wal_recovery.specs.Listing.{Stored, Wal, IsListingOf}
-use Rattle.wal_recovery.specs.Recovering.{log_number, taking_numbers, HoldRow, HoldAll}
+use Rattle.wal_recovery.specs.Recovering.{taking_numbers, HoldRow, HoldAll}
 use Rattle.wal_recovery.specs.Refused.{by_index, segments_of, ReachesLenient, IsLenientlyRefused}
 use Rattle.wal_recovery.specs.Reports.{IsReport, ReportOnAll}
 use Rattle.wal_recovery.specs.Answers.{DiskMemoryOr}

@@ -2,6 +2,7 @@
 use Rattle.wal_base.proofs.Laws.{within_head, within_tail}
 use Rattle.std.proofs.Common.{◌≡◌, ℕ, List, [], ◌∷◌, map, Contains, length, subst, sym, ap, ◌∙◌, refl}
 use Rattle.std.specs.List.{AllZip}
+use Rattle.disk_face.specs.Image.{log_number}
 use Rattle.batch_repr.specs.declared.batch.Batch.{Batch}
 use Rattle.segment_merge.specs.Rows.{batches_in}
 use Rattle.segment_merge.specs.Merging.{Merged}
@@ -10,7 +11,7 @@ use Rattle.wal_recovery.specs.declared.listing.Found.{Found}
 use Rattle.wal_recovery.specs.declared.reports.SegReport.{SegReport}
 use Rattle.wal_recovery.specs.declared.wals.FoundWal.{FoundWal}
 use Rattle.wal_recovery.specs.Listing.{Stored}
-use Rattle.wal_recovery.specs.Recovering.{log_number, taking_numbers, HoldsBatches, HoldRow, WalMerges}
+use Rattle.wal_recovery.specs.Recovering.{taking_numbers, HoldsBatches, HoldRow, WalMerges}
 use Rattle.wal_recovery.specs.Refused.{by_index}
 use Rattle.wal_recovery.specs.Reports.{IsReport}
 use Rattle.wal_recovery.specs.Rows.{place_listed, bytes_at, stored_in, wal_in}

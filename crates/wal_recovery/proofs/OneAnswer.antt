@@ -3,6 +3,7 @@ use Rattle.batch_repr.specs.declared.limits.TheConstants.{NUMBER_FIRST}
 use Rattle.std.proofs.Common.{◌≡◌, inl, inr, ℕ, suc, ◌≤◌, ◌<◌, Bool, List, [], ◌∷◌, ◌++◌, sym, subst, ap, ◌∙◌, refl, arith}
 use Rattle.std.specs.Prelude.{Contains}
 use Rattle.std.specs.List.{filter}
+use Rattle.disk_face.specs.Image.{log_number}
 use Rattle.batch_repr.specs.declared.batch.Batch.{Batch}
 use Rattle.batch_repr.specs.Batches.{end_after}
 use Rattle.batch_repr.specs.Spelling.{SpellsBatch}
@@ -12,7 +13,7 @@ use Rattle.disk_face.specs.View.{Dirs}
 use Rattle.segment_merge.proofs.Laws.{none_within, within_head, within_tail, within_cases, one_merged}
 use Rattle.segment_merge.specs.Merging.{Merged}
 use Rattle.wal_recovery.specs.Listing.{Stored, Wal, AreByIndex, AreByNumber, IsOf, IsListingOf}
-use Rattle.wal_recovery.specs.Recovering.{log_number, takes_number, Spell, HoldsBatches, HoldRow, WalsMerge, Recovers}
+use Rattle.wal_recovery.specs.Recovering.{takes_number, Spell, HoldsBatches, HoldRow, WalsMerge, Recovers}
 use Rattle.wal_recovery.proofs.WalsMerge.{listed_some}
 use Rattle.wal_recovery.proofs.OneReading as reading
 

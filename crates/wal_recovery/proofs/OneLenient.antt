@@ -1,6 +1,7 @@
 -- Where gaps are accepted, directories have one answer. Of two WALs that are refused the lesser is merged on the way to the other.
 use Rattle.std.proofs.Common.{◌≡◌, ◌⊎◌, inl, inr, ℕ, List, [], ◌∷◌, ◌++◌, map, sym, subst, ap, ◌∙◌, refl, append_assoc}
 use Rattle.std.proofs.lemmas.List.{map-append}
+use Rattle.disk_face.specs.Image.{log_number}
 use Rattle.batch_repr.specs.declared.batch.Batch.{Batch}
 use Rattle.segment_merge.specs.declared.segment.SegmentRead.{SegmentRead}
 use Rattle.segment_merge.specs.declared.fault.MergeFault.TheVariants as merges
@@ -11,7 +12,7 @@ use Rattle.disk_face.specs.View.{Dirs}
 use Rattle.wal_recovery.specs.declared.fault.RecoverFault.{RecoverFault}
 use Rattle.wal_recovery.specs.declared.fault.RecoverFault.TheVariants as faults
 use Rattle.wal_recovery.specs.Listing.{Wal}
-use Rattle.wal_recovery.specs.Recovering.{log_number, HoldAll, RecoversLenient}
+use Rattle.wal_recovery.specs.Recovering.{HoldAll, RecoversLenient}
 use Rattle.wal_recovery.specs.Refused.{by_index, segments_of, ReachesLenient, IsLenientlyRefused}
 use Rattle.wal_recovery.specs.OneWal.{HoldsRow, IsLenientlyRefusedWal}
 use Rattle.wal_recovery.proofs.IsReportOf.{batches_by_index}

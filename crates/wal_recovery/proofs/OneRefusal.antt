@@ -2,6 +2,7 @@
 use Rattle.batch_repr.proofs.Laws.{end_append}
 use Rattle.batch_repr.specs.declared.limits.TheConstants.{NUMBER_FIRST}
 use Rattle.std.proofs.Common.{◌≡◌, ◌⊎◌, inl, inr, ℕ, List, [], ◌∷◌, ◌++◌, sym, subst, ap, ◌∙◌, refl}
+use Rattle.disk_face.specs.Image.{log_number}
 use Rattle.batch_repr.specs.declared.batch.Batch.{Batch}
 use Rattle.batch_repr.specs.declared.fault.BatchFault.{BatchFault}
 use Rattle.batch_repr.specs.Batches.{end_after}
@@ -14,7 +15,7 @@ use Rattle.disk_face.specs.View.{Dirs}
 use Rattle.wal_recovery.specs.declared.fault.RecoverFault.{RecoverFault}
 use Rattle.wal_recovery.specs.declared.fault.RecoverFault.TheVariants as faults
 use Rattle.wal_recovery.specs.Listing.{Stored, Wal, IsDuplicate}
-use Rattle.wal_recovery.specs.Recovering.{log_number, WalMerges, WalsMerge, Recovers}
+use Rattle.wal_recovery.specs.Recovering.{WalMerges, WalsMerge, Recovers}
 use Rattle.wal_recovery.specs.Refused.{IsBadBatch, Reaches, by_index, IsRefused}
 use Rattle.wal_recovery.specs.Gathered.{named_in_wal}
 use Rattle.wal_recovery.specs.OneWal.{HoldsRow, IsRefusedWal}

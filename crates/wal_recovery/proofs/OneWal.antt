@@ -2,6 +2,7 @@
 use Rattle.std.proofs.Common.{◌≡◌, ℕ, List, ◌∷◌, ◌++◌, IsTrue, map, Contains, Bool, subst, sym, ap, ◌∙◌, refl}
 use Rattle.std.proofs.lemmas.List.{map-append}
 use Rattle.std.proofs.lemmas.List.Elements.{All-contains, Contains-append_left, Contains-append_right}
+use Rattle.disk_face.specs.Image.{log_number}
 use Rattle.batch_repr.specs.declared.batch.Batch.{Batch}
 use Rattle.block_record.specs.ReadOut.{ReadsOut}
 use Rattle.segment_merge.specs.declared.segment.SegmentRead.{SegmentRead}
@@ -18,7 +19,7 @@ use Rattle.wal_recovery.specs.declared.fault.RecoverFault.TheVariants as faults
 use Rattle.wal_recovery.specs.declared.listing.Found.{Found}
 use Rattle.wal_recovery.specs.declared.reports.SegReport.{SegReport}
 use Rattle.wal_recovery.specs.declared.wals.FoundWal.{FoundWal}
-use Rattle.wal_recovery.specs.Recovering.{log_number, WalMerges}
+use Rattle.wal_recovery.specs.Recovering.{WalMerges}
 use Rattle.wal_recovery.specs.Answers.{FaultRose, DiskMemoryOr}
 use Rattle.wal_recovery.specs.Rows.{place_listed, bytes_at, stored_in, wal_in}
 use Rattle.wal_recovery.specs.Gathered.{IsAsListed, AreAsListed, counted_in, AddsSegments, GathersWal, IsFirstBadOf, IsOwnWal, named_in_wal}

@@ -10,7 +10,7 @@ use Rattle.segment_merge.specs.declared.fault.MergeFault.TheVariants as merges
 use Rattle.segment_merge.specs.Rows.{IsNumbered}
 use Rattle.segment_merge.specs.Lenient.{MergedLenient}
 use Rattle.disk_face.specs.View.{Files}
-use Rattle.disk_face.specs.Image.{dirs_as_read}
+use Rattle.disk_face.specs.Image.{dirs_as_read, log_number}
 use Rattle.disk_face.specs.Listing.{HasLength}
 use Rattle.wal_recovery.specs.declared.fault.RecoverFault.{RecoverFault}
 use Rattle.wal_recovery.specs.declared.fault.RecoverFault.TheVariants as faults
@@ -18,7 +18,7 @@ use Rattle.wal_recovery.specs.declared.listing.Found.{Found}
 use Rattle.wal_recovery.specs.declared.reports.SegReport.{SegReport}
 use Rattle.wal_recovery.specs.declared.wals.FoundWal.{FoundWal}
 use Rattle.wal_recovery.specs.Listing.{IsListingOf}
-use Rattle.wal_recovery.specs.Recovering.{log_number, taking_numbers, Spell}
+use Rattle.wal_recovery.specs.Recovering.{taking_numbers, Spell}
 use Rattle.wal_recovery.specs.Refused.{IsBadRecord, by_index}
 use Rattle.wal_recovery.specs.Rows.{place_listed, bytes_at, stored_in, wals_in}
 

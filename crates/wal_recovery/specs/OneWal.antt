@@ -1,5 +1,6 @@
 -- One WAL as it is read and merged, from the end of those before it (docs/FORMATS.md, "Recovery").
 use Rattle.std.specs.Prelude.{◌≡◌, ℕ, List, ◌++◌}
+use Rattle.disk_face.specs.Image.{log_number}
 use Rattle.batch_repr.specs.declared.batch.Batch.{Batch}
 use Rattle.segment_merge.specs.declared.segment.SegmentRead.{SegmentRead}
 use Rattle.segment_merge.specs.Refusals.{IsGap, IsConflict}
@@ -8,7 +9,7 @@ use Rattle.wal_recovery.specs.declared.fault.RecoverFault.{RecoverFault}
 use Rattle.wal_recovery.specs.declared.fault.RecoverFault.TheVariants as faults
 use Rattle.wal_recovery.specs.declared.reports.SegReport.{SegReport}
 use Rattle.wal_recovery.specs.Listing.{Wal}
-use Rattle.wal_recovery.specs.Recovering.{log_number, HoldRow}
+use Rattle.wal_recovery.specs.Recovering.{HoldRow}
 use Rattle.wal_recovery.specs.Refused.{IsBadBatch, by_index}
 use Rattle.wal_recovery.specs.Reports.{ReportOn}
 

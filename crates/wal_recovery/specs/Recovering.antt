@@ -2,6 +2,7 @@
 use Rattle.batch_repr.specs.declared.limits.TheConstants.{NUMBER_FIRST}
 use Rattle.std.specs.Prelude.{◌≡◌, ℕ, ◌%◌, ◌^◌, Bool, List, [], ◌∷◌, ◌++◌, nat_lt}
 use Rattle.std.specs.List.{filter, AllZip}
+use Rattle.disk_face.specs.Image.{log_number}
 use Rattle.batch_repr.specs.declared.batch.Batch.{Batch}
 use Rattle.batch_repr.specs.Batches.{count_of, end_after}
 use Rattle.batch_repr.specs.Spelling.{SpellsBatch}
@@ -11,10 +12,6 @@ use Rattle.segment_merge.specs.Merging.{Merged}
 use Rattle.segment_merge.specs.Lenient.{MergedLenient}
 use Rattle.disk_face.specs.View.{Dirs}
 use Rattle.wal_recovery.specs.Listing.{Stored, Wal, IsListingOf}
-
--- the number that the chunks of a WAL carry
-abbrev pub log_number : ℕ → ℕ
-log_number wal = wal % 2 ^ 32
 
 abbrev pub takes_number : Batch → Bool
 takes_number batch = nat_lt 0 (count_of batch.entries)

@@ -2,6 +2,7 @@
 use Rattle.batch_repr.specs.declared.limits.TheConstants.{NUMBER_FIRST}
 use Rattle.std.specs.Prelude.{◌≡◌, ℕ, ◌++◌, Bool, List, [], ◌∷◌}
 use Rattle.std.specs.List.{flat_map}
+use Rattle.disk_face.specs.Image.{log_number}
 use Rattle.batch_repr.specs.declared.batch.Batch.{Batch}
 use Rattle.batch_repr.specs.declared.fault.BatchFault.{BatchFault}
 use Rattle.batch_repr.specs.Batches.{end_after}
@@ -15,7 +16,7 @@ use Rattle.disk_face.specs.View.{Dirs}
 use Rattle.wal_recovery.specs.declared.fault.RecoverFault.{RecoverFault}
 use Rattle.wal_recovery.specs.declared.fault.RecoverFault.TheVariants as faults
 use Rattle.wal_recovery.specs.Listing.{Stored, Wal, IsListingOf, IsDuplicate}
-use Rattle.wal_recovery.specs.Recovering.{log_number, Spell, HoldRow, WalsMerge, HoldAll}
+use Rattle.wal_recovery.specs.Recovering.{Spell, HoldRow, WalsMerge, HoldAll}
 
 -- The first of the records that spells no batch: it stands at this place, and this is the first thing wrong with it.
 pub record IsBadRecord (records : List Rec) (place : ℕ) (fault : BatchFault) : Type 0 where

@@ -1,12 +1,13 @@
 -- What recovery reports of each segment (docs/FORMATS.md, "Recovery").
 use Rattle.std.specs.Prelude.{◌≡◌, ℕ, List, [], ◌∷◌, ◌++◌, length}
 use Rattle.std.specs.List.{AllZip}
+use Rattle.disk_face.specs.Image.{log_number}
 use Rattle.block_record.specs.declared.records.Rec.{Rec}
 use Rattle.block_record.specs.ReadOut.{ReadsOut}
 use Rattle.disk_face.specs.View.{Dirs}
 use Rattle.wal_recovery.specs.declared.reports.SegReport.{SegReport}
 use Rattle.wal_recovery.specs.Listing.{Stored, Wal, name_in, IsListingOf}
-use Rattle.wal_recovery.specs.Recovering.{log_number, Spell}
+use Rattle.wal_recovery.specs.Recovering.{Spell}
 
 -- The report says of the segment where it stands, how long it is, how it reads, and all its batches.
 pub record IsReport (wal : ℕ) (stored : Stored) (report : SegReport) : Type 0 where

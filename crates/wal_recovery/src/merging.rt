@@ -37,7 +37,7 @@ fn report_of(alloc: Global, segment: Found, bytes: Vec<u8>) -> Result<SegReport,
     ensures rose { IfErr result IsNoDisk }
 {
     let Found { side, name, len } = segment;
-    let log = (name.wal % (1 << 32)) as u32;
+    let log = name.log();
     let out = read_out_shared(alloc, log, bytes)?;
     match batches_of(alloc, out.records.as_slice()) {
         Ok(batches) => Ok(SegReport {
@@ -174,7 +174,7 @@ fn append(batches: &mut Batches, more: Batches) -> Result<(), RecoverFault>
 }
 
 /// The number after the last of the batches, or this one where there is none.
-fn end_behind(from: u64, batches: &[Batch]) -> u64
+fn next_after(from: u64, batches: &[Batch]) -> u64
     requires { All IsNumbered batches.now }
     ensures { result ≡ end_after from batches.now }
 {
@@ -216,7 +216,7 @@ pub(crate) fn merge_strict<D: Disk>(
     let mut next = NUMBER_FIRST;
     for wal in wals.as_slice() {
         let own = merge_wal(alloc, disk, next, wal, reports)?;
-        next = end_behind(next, own.as_slice());
+        next = next_after(next, own.as_slice());
         append(&mut batches, own)?;
     }
     Ok(Merged { batches, next })
@@ -273,6 +273,6 @@ pub(crate) fn merge_all<D: Disk>(
         so_far = add_wal(alloc, disk, so_far, wal, reports)?;
     }
     let batches = so_far.into_batches();
-    let next = end_behind(NUMBER_FIRST, batches.as_slice());
+    let next = next_after(NUMBER_FIRST, batches.as_slice());
     Ok(Merged { batches, next })
 }

@@ -97,7 +97,7 @@ impl Rig {
                 wal: segment.wal,
                 index: segment.index,
             };
-            let log = (segment.wal % (1 << 32)) as u32;
+            let log = name.log();
             let bytes = bytes_of(rt, alloc, log, segment.batches);
             rig.put(rt, segment.side, name, bytes.as_slice());
         }

@@ -75,14 +75,14 @@ returns-in_err-so_far-clause-refused g c =
     (λ told listed. refused_behind (files first) c.args.wals.now c.loop-wal.wal-index c.wal-item.result at c.loop-wal.reports c.loop-wal.so_far fault (c.loop-wal.invariant.reports told listed) c.loop-wal.invariant.merged
     (λ before m. subst (λ (fs : Files). AreAsListed fs c.wal-item.result.segments.items → DiskMemoryOr (IsLenientlyRefusedWal before (wal_in fs c.wal-item.result)) fault) now (c.in_err-so_far.ensures.refused before m told)) listed)
 
-pub end_behind-next-requires : goal.end_behind-next-requires
-end_behind-next-requires g c = subst (All IsNumbered) (sym c.as_slice.ensures) (subst (All IsNumbered) (sym c.into_batches-batches.ensures) (reports_numbered c.loop-wal.reports c.loop-wal.so_far c.loop-wal.invariant.merged))
+pub next_after-next-requires : goal.next_after-next-requires
+next_after-next-requires g c = subst (All IsNumbered) (sym c.as_slice.ensures) (subst (All IsNumbered) (sym c.into_batches-batches.ensures) (reports_numbered c.loop-wal.reports c.loop-wal.so_far c.loop-wal.invariant.merged))
 
 pub returns-clause-within : goal.returns-clause-within
 returns-clause-within g c =
     let numbered : All IsNumbered c.into_batches-batches.result = subst (All IsNumbered) (sym c.into_batches-batches.ensures) (reports_numbered c.loop-wal.reports c.loop-wal.so_far c.loop-wal.invariant.merged) in
     let low = end_within NUMBER_FIRST c.into_batches-batches.result (omega arith) numbered in
-    omega (arith, low, c.end_behind-next.ensures, ap (end_after NUMBER_FIRST) c.as_slice.ensures)
+    omega (arith, low, c.next_after-next.ensures, ap (end_after NUMBER_FIRST) c.as_slice.ensures)
 
 pub returns-clause-merged : goal.returns-clause-merged
 returns-clause-merged g c =

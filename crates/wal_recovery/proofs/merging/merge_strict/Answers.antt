@@ -52,8 +52,8 @@ merge_wal-requires g c =
       own = at_place IsOwnWal c.args.wals.now c.loop-wal.wal-index c.wal-item.result at c.requires.own;
     }
 
-pub end_behind-next-requires : goal.end_behind-next-requires
-end_behind-next-requires g c = subst (All IsNumbered) (sym c.as_slice.ensures) c.in_ok-own.ensures.numbered
+pub next_after-next-requires : goal.next_after-next-requires
+next_after-next-requires g c = subst (All IsNumbered) (sym c.as_slice.ensures) c.in_ok-own.ensures.numbered
 
 pub loop-wal-preserved : goal.loop-wal-preserved
 loop-wal-preserved g c =
@@ -63,7 +63,7 @@ loop-wal-preserved g c =
     let now : files mid ≡ files first = same_files first mid c.loop-wal.invariant.same in
     let at : StandsAt c.args.wals.now c.loop-wal.wal-index c.wal-item.result = stands_at c.as_slice-wal-items.ensures c.loop-wal-test.true c.wal-item.is in
     let own = c.in_ok-own.own in
-    let ends : c.end_behind-next.result ≡ end_after c.loop-wal.next own = c.end_behind-next.ensures ∙ ap (end_after c.loop-wal.next) c.as_slice.ensures in
+    let ends : c.next_after-next.result ≡ end_after c.loop-wal.next own = c.next_after-next.ensures ∙ ap (end_after c.loop-wal.next) c.as_slice.ensures in
     let longer : c.append.new.batches ≡ c.loop-wal.batches ++ own = c.in_ok-append.ensures.added in
     record {
       goes = goes_on_further first mid new c.loop-wal.invariant.goes c.in_ok-own.ensures.goes_on;

@@ -1,6 +1,6 @@
 use Rattle.std.proofs.Common.{sym, ◌∙◌}
 use Rattle.wal_recovery.proofs.LastItem.{end_last, end_none}
-use Rattle.wal_recovery.proofs.merging.end_behind.Goals as goal
+use Rattle.wal_recovery.proofs.merging.next_after.Goals as goal
 
 pub returns-in-Some : goal.returns-in-Some
 returns-in-Some c = c.end.ensures ∙ end_last c.args.from c.args.batches.now c.in-Some.last.now (sym c.in-Some.ensures.value)
