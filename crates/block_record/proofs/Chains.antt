@@ -1,12 +1,11 @@
 -- Chains of chunks.
-use Rattle.std.proofs.Common.{◌≡◌, ℕ, suc, ◌+◌, ◌-◌, ◌%◌, ◌≤◌, List, [], ◌∷◌, length, take, drop, refl, sym, ap, subst, ◌∙◌, arith, Bool, true, false, min, nat_lt}
+use Rattle.std.proofs.Common.{◌≡◌, ℕ, suc, ◌+◌, ◌≤◌, List, [], ◌∷◌, length, drop, refl, sym, ap, subst, arith, Bool, true, false, nat_lt}
 use Rattle.std.specs.Prelude.{not, ◌==◌, ◌↔◌, IsTrue}
-use Rattle.std.specs.List.{list_any, slice_range}
-use Rattle.std.proofs.lemmas.List.{drop-take, take-take, drop-drop, take_rest, take_min, drop_min, length-take, length-drop}
+use Rattle.std.specs.List.{list_any}
 use Rattle.crc_chunk.specs.declared.chunk.ChunkKind.{ChunkKind}
 use Rattle.crc_chunk.specs.declared.chunk.ChunkKind.TheVariants.{Full, First, Middle, Last}
-use Rattle.crc_chunk.specs.Chunk.{chunk, ChunkAt}
-use Rattle.crc_chunk.proofs.Laws.{one_chunk, within_segment}
+use Rattle.crc_chunk.specs.Chunk.{ChunkAt}
+use Rattle.crc_chunk.proofs.Laws.{one_chunk}
 use Rattle.block_record.specs.Framing.{left_in_block}
 use Rattle.block_record.specs.ReadOut.{Link, MayFollow, leaves_open, next_place, chunk_end, IsChain, IsLongestChain, Spelled, after_link, spelled_from, nothing, ReadsOut}
 

@@ -3,9 +3,8 @@ use Rattle.crc_chunk.proofs.Laws.{chunk_len}
 use Rattle.std.proofs.Common.{◌≡◌, ℕ, zero, suc, ◌+◌, ◌-◌, ◌*◌, ◌%◌, ◌<◌, ◌≤◌, List, ◌∷◌, ◌++◌, length, take, drop, replicate, refl, sym, ap, ◌∙◌, append_assoc, arith, Bool, true, false, nat_lt}
 use Rattle.std.proofs.lemmas.List.{length-take, length-drop, length-append, length-replicate, take_all, drop_all}
 use Rattle.std.proofs.lemmas.Bool.{ltb-true, ltb-false}
-use Rattle.crc_chunk.specs.declared.chunk.ChunkKind.{ChunkKind}
 use Rattle.crc_chunk.specs.declared.chunk.ChunkKind.TheVariants.{Full, First, Middle, Last}
-use Rattle.crc_chunk.specs.Chunk.{covered, chunk}
+use Rattle.crc_chunk.specs.Chunk.{chunk}
 use Rattle.block_record.specs.Framing.{left_in_block, room_at, cut, blocks_for, later_fragments, fragments, later_chunks, chunks, padding, padded, framed}
 
 one_block : (len : ℕ) → 0 < len → len ≤ 32757 → blocks_for len ≡ 1

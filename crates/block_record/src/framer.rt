@@ -1,7 +1,7 @@
 //! The writer of records: where it stands, and what it appends.
 
 ghost use Rattle.crc_chunk.specs.declared.chunk.TheConstants.{BLOCK, HEADER};
-ghost use Rattle.std.specs.Prelude.{◌≡◌, ℕ, ◌+◌, ◌≤◌, ◌<◌, List, ◌++◌, length, take, replicate, OnOk, OnErr};
+ghost use Rattle.std.specs.Prelude.{◌≡◌, ℕ, ◌+◌, ◌≤◌, ◌<◌, ◌++◌, length, take, replicate, OnOk, OnErr};
 ghost use Rattle.crc_chunk.specs.Chunk.{chunk};
 ghost use Rattle.block_record.specs.Framing.{fragments, later_fragments, chunks, later_chunks, padding, framed, standing_after};
 ghost use Rattle.block_record.specs.Promises.{framed_by, FramesTo};

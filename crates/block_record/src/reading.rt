@@ -1,7 +1,7 @@
 //! The reader of a segment: it goes from chunk to chunk while one stands there that may follow.
 
 ghost use Rattle.crc_chunk.specs.declared.chunk.TheConstants.{HEADER};
-ghost use Rattle.std.specs.Prelude.{◌≡◌, ◌↔◌, ℕ, ◌+◌, ◌<◌, ◌≤◌, ◌^◌, List, length, IsTrue, IfOk, IfSome, IfNone, not, ◌||◌, ◌==◌};
+ghost use Rattle.std.specs.Prelude.{◌≡◌, ◌↔◌, ℕ, ◌+◌, ◌<◌, ◌≤◌, ◌^◌, IsTrue, IfOk, IfSome, IfNone, not, ◌||◌, ◌==◌};
 ghost use Rattle.std.specs.List.{list_any};
 ghost use Rattle.block_record.specs.ReadOut.{MayFollow, leaves_open, next_place, ReadsOut, NoChunkAt};
 ghost use Rattle.block_record.specs.Promises.{IsChunkFound, IsFoundAt, NoChunkFollows};

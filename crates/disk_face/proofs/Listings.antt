@@ -1,5 +1,5 @@
 -- The order of names, and ascending lists: any two names are in order, and a longer list ascends as its parts do.
-use Rattle.std.proofs.Common.{◌≡◌, ◌≢◌, ◌⊎◌, inl, inr, zero, suc, List, ◌∷◌, All, AllPairs, Contains, sym, refl, arith}
+use Rattle.std.proofs.Common.{◌≡◌, ◌≢◌, ◌⊎◌, inl, inr, suc, List, ◌∷◌, All, AllPairs, sym, arith}
 use native.Mathlib.Decide.{dec_le}
 use Rattle.disk_face.specs.declared.SegName.{SegName}
 use Rattle.disk_face.specs.Listing.{IsBefore}

@@ -22,7 +22,7 @@ use Rattle.failover_writer.specs.declared.fault.JournalFault.{JournalFault}
 use Rattle.failover_writer.specs.declared.fault.Step.{Step}
 use Rattle.failover_writer.specs.State.{State, len, acked, most_synced, is_broken, phase_is_broken}
 use Rattle.failover_writer.specs.Stepping as stepping
-use Rattle.failover_writer.specs.Stepping.{IsBehind, NoneBusy, WantsMore, HasWork, PollsFirst, Polls, nothing_begun, asked, Verdict, IsToStay, BeginsNext, StartsNext, Releases, first, none_to_begin, switches, starts, stays, IsUp, StepRule, was_dead, idle, dies, goes, short}
+use Rattle.failover_writer.specs.Stepping.{NoneBusy, WantsMore, HasWork, PollsFirst, Polls, nothing_begun, asked, Verdict, IsToStay, BeginsNext, StartsNext, Releases, first, none_to_begin, switches, starts, stays, IsUp, StepRule, was_dead, idle, dies, goes, short}
 use Rattle.failover_writer.specs.Answered.{IsTold, PollsFell, StepsBy}
 use Rattle.failover_writer.specs.Remaining.{still_to, rank_in, rank, ranks, work, polls_left, measure, Falls}
 use Rattle.failover_writer.proofs.Segments.{all_last, most_synced_push}

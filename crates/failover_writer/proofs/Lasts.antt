@@ -33,29 +33,35 @@ use Rattle.failover_writer.proofs.Falls.{polls_lower}
 
 -- ---- what a step leaves as it was
 
-pub goal_still : (old new : State) → new ≡ old → KeepsGoal old new
-goal_still old new is = record {
+pub end_still : (old new : State) → new ≡ old → KeepsEnd old new
+end_still old new is = record {
   wal = ap (λ (s : State). s.wal) is;
   base = ap (λ (s : State). s.base) is;
   threshold = ap (λ (s : State). s.threshold) is;
   next = ap (λ (s : State). s.next) is;
   end = ap (λ (s : State). len s) is;
-  want = ap (λ (s : State). s.want) is;
 }
 
-pub goal_further : (old mid new : State) → KeepsGoal old mid → KeepsGoal mid new → KeepsGoal old new
-goal_further old mid new one two = record {
+pub end_further : (old mid new : State) → KeepsEnd old mid → KeepsEnd mid new → KeepsEnd old new
+end_further old mid new one two = record {
   wal = two.wal ∙ one.wal;
   base = two.base ∙ one.base;
   threshold = two.threshold ∙ one.threshold;
   next = two.next ∙ one.next;
   end = two.end ∙ one.end;
-  want = two.want ∙ one.want;
 }
 
+pub goal_still : (old new : State) → new ≡ old → KeepsGoal old new
+goal_still old new is = record { keeps = end_still old new is; want = ap (λ (s : State). s.want) is }
+
+pub goal_further : (old mid new : State) → KeepsGoal old mid → KeepsGoal mid new → KeepsGoal old new
+goal_further old mid new one two = record { keeps = end_further old mid new one.keeps two.keeps; want = two.want ∙ one.want }
+
 goal_beside : (old new : State) (segments : List Writer) → new ≡ record old { segments = segments } → KeepsGoal old new
-goal_beside old new segments is = let same = goal_still (record old { segments = segments }) new is in record
-    { wal = same.wal; base = same.base; threshold = same.threshold; next = same.next; end = same.end; want = same.want }
+goal_beside old new segments is =
+    let same = goal_still (record old { segments = segments }) new is in
+    let e = same.keeps in
+    record { keeps = record { wal = e.wal; base = e.base; threshold = e.threshold; next = e.next; end = e.end }; want = same.want }
 
 goal_polled : {old polled : State} {one other : Option Progress} → Polls old one other polled → KeepsGoal old polled
 goal_polled {old = old} {polled = polled} polls = goal_beside old polled polled.segments (polls_lower polls).same
@@ -69,21 +75,25 @@ goal_went polled new (stays verdict none) = goal_still polled polled refl
 
 goal_died : (polled new : State) (side : Side) (count : ℕ) → Dies polled new side count → KeepsGoal polled new
 goal_died polled new side count died = record {
-  wal = ap (λ (s : State). s.wal) died.new_is;
-  base = ap (λ (s : State). s.base) died.new_is;
-  threshold = ap (λ (s : State). s.threshold) died.new_is;
-  next = ap (λ (s : State). s.next) died.new_is;
-  end = ap (λ (s : State). len s) died.new_is;
+  keeps = record {
+    wal = ap (λ (s : State). s.wal) died.new_is;
+    base = ap (λ (s : State). s.base) died.new_is;
+    threshold = ap (λ (s : State). s.threshold) died.new_is;
+    next = ap (λ (s : State). s.next) died.new_is;
+    end = ap (λ (s : State). len s) died.new_is;
+  };
   want = ap (λ (s : State). s.want) died.new_is;
 }
 
 goal_released : (started new : State) → Releases started new → KeepsGoal started new
 goal_released started new releases = record {
-  wal = ap (λ (s : State). s.wal) releases.new_is;
-  base = ap (λ (s : State). s.base) releases.new_is;
-  threshold = ap (λ (s : State). s.threshold) releases.new_is;
-  next = ap (λ (s : State). s.next) releases.new_is;
-  end = releases.end;
+  keeps = record {
+    wal = ap (λ (s : State). s.wal) releases.new_is;
+    base = ap (λ (s : State). s.base) releases.new_is;
+    threshold = ap (λ (s : State). s.threshold) releases.new_is;
+    next = ap (λ (s : State). s.next) releases.new_is;
+    end = releases.end;
+  };
   want = ap (λ (s : State). s.want) releases.new_is;
 }
 
@@ -97,18 +107,6 @@ goal_kept {old = old} (goes one other polled started new up polls went releases)
 goal_kept (short one other polled up polls) = goal_polled polls
 
 -- ---- steps one after another
-
-pub end_still : (old new : State) → KeepsGoal old new → KeepsEnd old new
-end_still old new same = record { wal = same.wal; base = same.base; threshold = same.threshold; next = same.next; end = same.end }
-
-end_further : (old mid new : State) → KeepsEnd old mid → KeepsEnd mid new → KeepsEnd old new
-end_further old mid new one two = record {
-  wal = two.wal ∙ one.wal;
-  base = two.base ∙ one.base;
-  threshold = two.threshold ∙ one.threshold;
-  next = two.next ∙ one.next;
-  end = two.end ∙ one.end;
-}
 
 rose_before : (before between after : DiskView) → GoesOn before between → GoesOn between after → FaultsRose before between → FaultsRose before after
 rose_before before between after one two rose =

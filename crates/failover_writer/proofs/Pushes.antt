@@ -1,9 +1,9 @@
 -- A record comes after the others. What it is numbered by, and what the queue holds with it.
-use Rattle.batch_repr.proofs.Laws.{contiguous_append, contiguous_push, end_append, end_push}
+use Rattle.batch_repr.proofs.Laws.{contiguous_push, end_push}
 use Rattle.std.proofs.Common.{◌≡◌, ℕ, ◌+◌, ◌<◌, ◌≤◌, Bool, List, [], ◌∷◌, ◌++◌, length, drop, ap, sym, ◌∙◌, arith}
 use Rattle.std.proofs.lemmas.List.{length-append, length-drop, drop-append-le}
 use Rattle.batch_repr.specs.declared.batch.Batch.{Batch}
-use Rattle.batch_repr.specs.Batches.{count_of, end_of, end_after, IsContiguous}
+use Rattle.batch_repr.specs.Batches.{count_of, end_of}
 use Rattle.disk_face.specs.View.{DiskView}
 use Rattle.record_queue.specs.Queue as queues
 use Rattle.record_queue.specs.Queue.{Queue}

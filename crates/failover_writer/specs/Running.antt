@@ -4,7 +4,7 @@ use Rattle.batch_repr.specs.declared.batch.Batch.{Batch}
 use Rattle.crc_chunk.specs.Chunk.{IsChunkOf}
 use Rattle.disk_face.specs.declared.Side.{Side}
 use Rattle.disk_face.specs.declared.SegName.{SegName}
-use Rattle.disk_face.specs.View.{Place, segment, File, Files, Dirs, DiskView, files, NothingInFlight}
+use Rattle.disk_face.specs.View.{Place, segment, File, Files, DiskView, files, NothingInFlight}
 use Rattle.disk_face.specs.Image.{IsRested, directories, IsImage, IsChanceFree, dirs_as_read}
 use Rattle.disk_face.specs.Listing.{IsSegmentName}
 use Rattle.disk_face.specs.declared.names.TheConstants.{WAL_MAX}

@@ -12,11 +12,7 @@ pub record KeepsEnd (old new : State) : Type 0 where
 
 -- A call that adds no record and asks for no sync: the length up to which one was asked for stays too.
 pub record KeepsGoal (old new : State) : Type 0 where
-  pub wal : new.wal ≡ old.wal
-  pub base : new.base ≡ old.base
-  pub threshold : new.threshold ≡ old.threshold
-  pub next : new.next ≡ old.next
-  pub end : len new ≡ len old
+  pub keeps : KeepsEnd old new
   pub want : new.want ≡ old.want
 
 -- A call that makes no step: the segments, the mark of a dead journal, and the number of the first queued record stay.

@@ -1,6 +1,6 @@
 //! The batches that a merge has kept so far.
 
-ghost use Rattle.std.specs.Prelude.{◌≡◌, ◌≤◌, ◌∷◌, ◌++◌, [], MatchBool, OnErr, OnOk};
+ghost use Rattle.std.specs.Prelude.{◌≡◌, ◌≤◌, ◌∷◌, ◌++◌, [], MatchBool, OnOk};
 ghost use Rattle.batch_repr.specs.Batches.{end_of};
 ghost use Rattle.segment_merge.specs.Rows.{IsNumbered};
 ghost use Rattle.segment_merge.specs.Promises.{HasKept};

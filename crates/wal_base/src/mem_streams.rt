@@ -1,6 +1,6 @@
 //! Streams in memory, whose calls can be made to fail. They tell everything.
 
-ghost use Rattle.std.specs.Prelude.{◌≡◌, ◌<◌, ◌≤◌, ◌↔◌, ℕ, [], ◌++◌, length, take, drop, min, Some, None, IfSome, IfOk, OnOk, OnErr, IsErr, IsErrOf};
+ghost use Rattle.std.specs.Prelude.{◌≡◌, ◌<◌, ◌≤◌, ◌↔◌, ℕ, [], ◌++◌, length, take, drop, min, Some, None, IfOk, OnOk, OnErr, IsErr, IsErrOf};
 ghost use Rattle.wal_base.specs.Faults.{HasCause, StaysUnless};
 ghost use Rattle.wal_base.specs.Told.{HandsOut, EndsAtNone, Took};
 ghost use Rattle.wal_base.specs.Memory.{failed_take, handed_out};

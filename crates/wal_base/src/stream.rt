@@ -1,6 +1,6 @@
 //! Where the bytes of a run come from, and where they go.
 
-ghost use Rattle.std.specs.Prelude.{◌≡◌, ◌<◌, ◌≤◌, ℕ, List, [], length, take, IfSome, Option, IfOk, OnErr, IsErr, IsErrOf};
+ghost use Rattle.std.specs.Prelude.{◌≡◌, ◌<◌, ◌≤◌, ℕ, List, [], length, take, Option, IfOk, OnErr, IsErr, IsErrOf};
 ghost use Rattle.wal_base.specs.Faults.{HasCause, StaysUnless};
 ghost use Rattle.wal_base.specs.Told.{HandsOut, EndsAtNone, Took};
 

@@ -17,7 +17,7 @@ use Rattle.failover_writer.specs.State.{State, len, acked}
 use Rattle.failover_writer.specs.declared.fault.JournalEnd.{JournalEnd}
 use Rattle.wal_top.specs.Printing.{commit_line, end_line}
 use Rattle.failover_writer.specs.Running.{Runs, RunsStill, HasEnded}
-use Rattle.wal_top.specs.Doing.{numbered_behind, Stage, Logs, Commits, Closes, EndsRun}
+use Rattle.wal_top.specs.Doing.{numbered_next, Stage, Logs, Commits, Closes, EndsRun}
 use Rattle.failover_writer.proofs.Laws.{len_is, has_ended}
 
 -- a journal with the mark of it is dead
@@ -74,7 +74,7 @@ ends_run tells died old mid acked_now begun visible count text c sound acked_is 
 pub commits_stage : (tells : Bool) (entries : List Entry) (old : Stage) (batches : List Batch) (journal : State) (view : DiskView)
     (text : List ℕ) (numbered : Batch) (first count : ℕ) → old.journal.dead ≡ None
     → end_after NUMBER_FIRST old.batches + count_of entries ≤ NUMBER_MAX
-    → batches ≡ old.batches ++ numbered_behind old.batches entries ∷ [] → numbered ≡ numbered_behind old.batches entries
+    → batches ≡ old.batches ++ numbered_next old.batches entries ∷ [] → numbered ≡ numbered_next old.batches entries
     → first ≡ numbered.first → count ≡ count_of numbered.entries → text ≡ old.text ++ commit_line 0 first count
     → Logs numbered old.journal old.view journal view → ((start : DiskView) (wal number : ℕ) (own : List Batch)
     → Runs THRESHOLD tells start wal number own old.journal old.view → Runs THRESHOLD tells start wal number (own ++ numbered ∷ []) journal view)

@@ -18,7 +18,7 @@ use Rattle.wal_top.specs.declared.status.Status.{Status}
 use Rattle.wal_top.specs.Printing.{commit_line, limit_line, dead_line, get_line, end_line}
 use Rattle.wal_top.specs.Replay.{committed, visible_after, Answers, numbered, limited, dead, read, StaysDead, AnswersAll, LacksBatch}
 use Rattle.failover_writer.specs.Running.{Runs}
-use Rattle.wal_top.specs.Doing.{numbered_behind, Stage, Commits, OnlyReplies, DoesCommit, commits, past, died, DoesGet, DoesAct, DoesAll, DoesRun, IsShort, EndsRun, IsBegun, ReplaysOver, status_after}
+use Rattle.wal_top.specs.Doing.{numbered_next, Stage, Commits, OnlyReplies, DoesCommit, commits, past, died, DoesGet, DoesAct, DoesAll, DoesRun, IsShort, EndsRun, IsBegun, ReplaysOver, status_after}
 use Rattle.wal_top.specs.Doing as doing
 
 -- one act more after answered ones
@@ -169,7 +169,7 @@ module _ (tells : Bool) (base : List Batch) (start : DiskView) (wal : ℕ) (acts
 
   commit_goes : (entries : List Entry) → act ≡ Commit entries → Commits tells entries old new → GoesOn tells base start wal acts new rest
   commit_goes entries is c =
-      let batch = numbered_behind old.batches entries in
+      let batch = numbered_next old.batches entries in
       record {
         front = g.front ++ act ∷ [];
         acts_are = acts_split;
@@ -197,8 +197,8 @@ module _ (tells : Bool) (base : List Batch) (start : DiskView) (wal : ℕ) (acts
             (one_more g.front entries g.own batch refl old.limited (g.short c.lives)));
       }
     where
-      whole : (more : List Batch) → new.batches ++ more ≡ old.batches ++ numbered_behind old.batches entries ∷ more
-      whole more = ap (λ (l : List Batch). l ++ more) c.batches ∙ append_assoc old.batches (numbered_behind old.batches entries ∷ []) more
+      whole : (more : List Batch) → new.batches ++ more ≡ old.batches ++ numbered_next old.batches entries ∷ more
+      whole more = ap (λ (l : List Batch). l ++ more) c.batches ∙ append_assoc old.batches (numbered_next old.batches entries ∷ []) more
 
   -- a reply that adds no batch
   reply_goes : (line : List ℕ) (now : Bool) → ((more : List Batch)

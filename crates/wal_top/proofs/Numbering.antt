@@ -1,10 +1,10 @@
 -- A batch more after batches that are numbered one after another.
 use Rattle.batch_repr.proofs.Laws.{contiguous_push, end_push}
-use Rattle.std.proofs.Common.{◌≡◌, ℕ, ◌+◌, ◌<◌, ◌≤◌, List, [], ◌∷◌, ◌++◌, refl, sym, ap, ◌∙◌, subst, arith}
+use Rattle.std.proofs.Common.{◌≡◌, ℕ, ◌+◌, ◌<◌, ◌≤◌, List, [], ◌∷◌, ◌++◌, sym, ap, ◌∙◌, subst, arith}
 use Rattle.wal_base.specs.declared.entry.Entry.{Entry}
 use Rattle.batch_repr.specs.declared.batch.Batch.{Batch}
 use Rattle.batch_repr.specs.declared.limits.TheConstants.{NUMBER_FIRST, NUMBER_MAX}
-use Rattle.batch_repr.specs.Batches.{count_of, end_of, IsContiguous, end_after}
+use Rattle.batch_repr.specs.Batches.{count_of, end_of, end_after}
 use Rattle.wal_top.specs.Kept.{IsKept}
 
 kept_more : (batches batches' : List Batch) (next next' : ℕ) (batch : Batch) → IsKept batches next → batches' ≡ batches ++ batch ∷ []

@@ -23,8 +23,8 @@ use Rattle.wal_top.specs.Replay.{IsReplayText, AllCommitted, LacksBatch}
 use Rattle.failover_writer.specs.Running.{Runs, HasEnded, RunsOn, RunsStill}
 
 -- the batch of these entries, numbered after the others
-abbrev pub numbered_behind : List Batch → List Entry → Batch
-numbered_behind batches entries = record { first = end_after NUMBER_FIRST batches; entries = entries }
+abbrev pub numbered_next : List Batch → List Entry → Batch
+numbered_next batches entries = record { first = end_after NUMBER_FIRST batches; entries = entries }
 
 -- a replay in its course: the batches of the store, the journal with its disk, the text of the answers, and whether a commit reached the limit
 pub record InCourse (Disk : Type 0) : Type 0 where
@@ -63,12 +63,12 @@ pub record Logs (batch : Batch) (old : State) (before : DiskView) (new : State) 
 pub record Commits (tells : Bool) (entries : List Entry) (old new : Stage) : Type 0 where
   pub lives : old.journal.dead ≡ None
   pub room : end_after NUMBER_FIRST old.batches + count_of entries ≤ NUMBER_MAX
-  pub batches : new.batches ≡ old.batches ++ numbered_behind old.batches entries ∷ []
+  pub batches : new.batches ≡ old.batches ++ numbered_next old.batches entries ∷ []
   pub reply : new.text ≡ old.text ++ commit_line 0 (end_after NUMBER_FIRST old.batches) (count_of entries)
   pub limited : new.limited ≡ old.limited
-  pub logs : Logs (numbered_behind old.batches entries) old.journal old.view new.journal new.view
+  pub logs : Logs (numbered_next old.batches entries) old.journal old.view new.journal new.view
   pub runs : (start : DiskView) (wal first : ℕ) (own : List Batch) → Runs THRESHOLD tells start wal first own old.journal old.view
-      → Runs THRESHOLD tells start wal first (own ++ numbered_behind old.batches entries ∷ []) new.journal new.view
+      → Runs THRESHOLD tells start wal first (own ++ numbered_next old.batches entries ∷ []) new.journal new.view
 
 -- Nothing but a reply is added.
 pub record OnlyReplies (line : List ℕ) (limited : Bool) (old new : Stage) : Type 0 where

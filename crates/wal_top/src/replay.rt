@@ -1,10 +1,9 @@
 //! The acts of a script, done one after another over a journal.
 
-ghost use Rattle.std.specs.Prelude.{◌≡◌, ◌≢◌, ◌+◌, ◌≤◌, ℕ, Ok, Err, None, List, IfOk, IfErr, IsTrue, OnOk};
-ghost use Rattle.batch_repr.specs.declared.batch.Batch.{Batch};
+ghost use Rattle.std.specs.Prelude.{◌≡◌, ◌≢◌, ◌+◌, ◌≤◌, ℕ, Ok, Err, None, IfOk, IfErr, IsTrue, OnOk};
 ghost use Rattle.batch_repr.specs.declared.limits.TheConstants.{NUMBER_FIRST, NUMBER_MAX};
 ghost use Rattle.batch_repr.specs.Batches.{count_of, end_after, IsContiguous};
-ghost use Rattle.disk_face.specs.View.{DiskView, files, NothingInFlight};
+ghost use Rattle.disk_face.specs.View.{files, NothingInFlight};
 ghost use Rattle.disk_face.specs.Calls.{GoesOn};
 ghost use Rattle.failover_writer.specs.declared.fault.JournalFault.TheVariants as faults;
 ghost use Rattle.failover_writer.specs.Ranges.{AreUnsent};

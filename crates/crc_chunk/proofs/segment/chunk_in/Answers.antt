@@ -1,4 +1,4 @@
-use Rattle.std.proofs.Common.{◌≡◌, ℕ, List, ◌+◌, ◌-◌, ◌%◌, ◌∙◌, arith, length, ap, subst, min}
+use Rattle.std.proofs.Common.{◌≡◌, ℕ, List, ◌-◌, ◌%◌, ◌∙◌, arith, length, ap, subst, min}
 use Rattle.std.proofs.lemmas.List.{length-drop, take_rest}
 use Rattle.crc_chunk.specs.declared.chunk.TheConstants.{BLOCK}
 use Rattle.crc_chunk.specs.Chunk.{ChunkAt}
@@ -19,9 +19,11 @@ returns-clause-place c =
     let len : c.min-2.result ≡ min (length c.args.segment.now - c.min.result) BLOCK = c.min-2.ensures
     ∙ ap (λ (n : ℕ). min n BLOCK) (ap length (take_rest c.args.segment.now c.min.result) ∙ length-drop c.min.result c.args.segment.now) in
     let block = block_is c.args.segment.now (c.args.at - c.args.at % BLOCK) c.min.result c.min-2.result c.min.ensures len in
-    let place = c.in-Some.ensures.place in
-    (omega (arith, place.0), omega (arith, place.1),
-    ends_in_segment c.args.segment.now _ c.args.at block c.in-Some.span.to (omega (arith, place.0, place.1)) place.2)
+    let place = c.in-Some.ensures.place in (
+      omega (arith, place.0),
+      omega (arith, place.1),
+      ends_in_segment c.args.segment.now _ c.args.at block c.in-Some.span.to (omega (arith, place.0, place.1)) place.2,
+    )
 
 pub returns-in_default-clause-none : goal.returns-in_default-clause-none
 returns-in_default-clause-none c = λ kind payload h.

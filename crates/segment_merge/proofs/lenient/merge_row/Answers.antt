@@ -4,7 +4,7 @@ use Rattle.std.proofs.lemmas.Iterator.Consumers.{YieldsList-turn, YieldsList-end
 use Rattle.std.proofs.lemmas.Iterator.Adapters.{YieldsList-from_vec}
 use Rattle.std.specs.Prelude.{List, ℕ}
 use Rattle.segment_merge.specs.declared.segment.SegmentRead.{SegmentRead}
-use Rattle.segment_merge.specs.Rows.{IsNumberedSegment, batches_in}
+use Rattle.segment_merge.specs.Rows.{batches_in}
 use Rattle.segment_merge.specs.Merging.{all_of}
 use Rattle.segment_merge.specs.Steps.{KeepsLenient, RowAnswers}
 use Rattle.segment_merge.proofs.LenientRows.{row_begun, row_goes_on, row_refused}

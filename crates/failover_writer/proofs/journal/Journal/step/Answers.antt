@@ -13,7 +13,7 @@ use Rattle.failover_writer.proofs.Passes.{passes_still}
 use Rattle.failover_writer.proofs.Survives.{survives}
 use Rattle.failover_writer.proofs.StepRule.{idle_of, waited_of, dead_of, harmed_of, smooth_of}
 use Rattle.failover_writer.proofs.Falls.{falls}
-use Rattle.failover_writer.proofs.Lasts.{goal_kept, end_still, lasts_none, records_are}
+use Rattle.failover_writer.proofs.Lasts.{goal_kept, lasts_none, records_are}
 use Rattle.failover_writer.proofs.journal.Journal.step.Goals as goal
 
 -- Nothing is asked.
@@ -106,7 +106,7 @@ returns-clause-lasts g c =
     let new = c.advance.new.self in
     let by = steps_by g c in
     record {
-      setting = end_still old.state new.state (goal_kept by.rule);
+      setting = (goal_kept by.rule).keeps;
       acked = (passes g c).acked;
       harmed = harmed_of old.state new.state (g.D.Disk.view old.disk) (g.D.Disk.view new.disk) c.advance.result by;
       smooth = smooth_of old.state new.state (g.D.Disk.view old.disk) (g.D.Disk.view new.disk) c.advance.result by;
