@@ -1,4 +1,6 @@
-use crate::{ChunkKind, ChunkSpan, HEADER, chunk_at, crc32c, header_of, masked, put_chunk};
+use crate::{
+    BLOCK, ChunkKind, ChunkSpan, HEADER, chunk_at, chunk_in, crc32c, header_of, masked, put_chunk,
+};
 
 /// The bytes that another program, which goes bit by bit, took the checksums of.
 const BYTES: [u8; 40] = [
@@ -63,4 +65,18 @@ fn chunks_of_the_examples(rt: HostRuntime) {
     };
     assert_eq!(rt; chunk_at(&block, 0, 1), Some(span));
     assert_eq!(rt; chunk_at(&block, 0, 2), None);
+}
+
+#[test]
+fn a_chunk_of_a_second_block(rt: HostRuntime) {
+    let mut segment = [0; BLOCK + 28];
+    put_chunk(&mut segment[BLOCK..], ChunkKind::Full, 1, &PAYLOAD);
+    let span = ChunkSpan {
+        kind: ChunkKind::Full,
+        from: 32_779,
+        to: 32_796,
+    };
+    assert_eq!(rt; chunk_in(&segment, BLOCK, 1), Some(span));
+    assert_eq!(rt; chunk_in(&segment, 0, 1), None);
+    assert_eq!(rt; chunk_in(&segment[..BLOCK + 27], BLOCK, 1), None);
 }

@@ -3,8 +3,8 @@ ghost use Rattle.disk_face.specs.View.{segment, table, files, NothingInFlight, I
 ghost use Rattle.disk_face.specs.Listing.{IsTableNumber};
 
 use crate::{
-    CallLog, Disk, DiskErr, DiskOp, NoDisk, OpId, Progress, ScriptDisk, SegName, Side, StallDisk,
-    TableDisk,
+    BySide, CallLog, Disk, DiskErr, DiskOp, NoDisk, OpId, Progress, ScriptDisk, SegName, Side,
+    StallDisk, TableDisk,
 };
 use std::mem::size_of;
 use wal_base::{Buf, NoMemory};
@@ -155,7 +155,7 @@ fn a_name_has_one_spelling(rt: HostRuntime) {
 }
 
 #[test]
-fn names_are_put_behind_each_other(rt: HostRuntime) -> Result<(), NoMemory> {
+fn names_are_put_after_one_another(rt: HostRuntime) -> Result<(), NoMemory> {
     let mut text = Buf::new(rt.alloc())?;
     for (wal, index) in [(1, 0), (1, 1), (1_234_567, 12), (999_999_999_999, 999)] {
         SegName { wal, index }.put(&mut text)?;
@@ -165,4 +165,31 @@ fn names_are_put_behind_each_other(rt: HostRuntime) -> Result<(), NoMemory> {
         b"000001.log000001-001.log1234567-012.log999999999999-999.log".as_slice()
     );
     Ok(())
+}
+
+#[test]
+fn a_log_number_has_32_bits(rt: HostRuntime) {
+    let name = SegName {
+        wal: 4_294_967_298,
+        index: 7,
+    };
+    assert_eq!(rt; name.log(), 2);
+}
+
+#[test]
+fn each_side_has_its_number(rt: HostRuntime) {
+    let mut counts = BySide {
+        primary: 0,
+        secondary: 1,
+    };
+    counts.add(Side::Primary, 2);
+    counts.raise(Side::Secondary);
+    assert!(rt; counts.take_one(Side::Primary));
+    let expected = BySide {
+        primary: 1,
+        secondary: 2,
+    };
+    assert_eq!(rt; counts, expected);
+    assert!(rt; counts.take_one(Side::Primary));
+    assert!(rt; !counts.take_one(Side::Primary));
 }
