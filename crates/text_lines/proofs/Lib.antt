@@ -1,4 +1,5 @@
 mod Examples
+mod Begins
 mod Runs
 mod Changing
 mod Keeping

@@ -1,4 +1,5 @@
 pub mod Printed
+pub mod Pieces
 pub mod Lines
 pub mod Refusals
 pub mod Store

@@ -2,12 +2,13 @@
 //!
 //! Stands on `batch_repr` for batches and what a store answers after them, and on `disk_face` for the names of
 //! segments. The layer above uses one contract: each call adds to a text exactly the line that its definition says, and
-//! of a store one line for each key that has a value, in order of bytes.
+//! of a store one line for each key that has a value, in order of bytes; on out of memory it leaves the text as it was.
 //!
 //! No value of this crate is kept: a text is the list of its bytes.
 #![tactic(auto)]
 
 mod batches;
+mod pieces;
 mod printed;
 mod refusals;
 mod segments;
@@ -16,6 +17,7 @@ mod store;
 mod tests;
 
 pub use batches::put_batch;
+pub use pieces::{Piece, put_pieces};
 pub use printed::{put_number, put_printed};
 pub use refusals::{put_bad_batch, put_conflict, put_duplicate, put_gap};
 pub use segments::{SegmentLine, put_recovered_end, put_segment, side_name};

@@ -1,9 +1,9 @@
 //! The line of a segment, and the line that ends what was recovered.
 
-ghost use Rattle.std.specs.Prelude.{◌≡◌, ◌++◌, OnOk};
+ghost use Rattle.std.specs.Prelude.{◌≡◌, ◌++◌, OnOk, OnErr};
 ghost use Rattle.text_lines.specs.Lines.{side_word, torn_word, segment_line, recovered_end};
 
-use crate::put_number;
+use crate::{Piece, put_pieces};
 use disk_face::{SegName, Side};
 use wal_base::{Buf, NoMemory};
 
@@ -22,35 +22,43 @@ pub struct SegmentLine {
     pub torn: bool,
 }
 
-/// Adds the line of a segment that has so many records. After an `Err` a part of it may stand there.
+/// Adds the line of a segment that has so many records. On out of memory the text is as it was.
 pub fn put_segment(out: &mut Buf, segment: &SegmentLine, records: usize) -> Result<(), NoMemory>
-    ensures { OnOk result (out.new ≡ out.old ++ segment_line segment.now records) }
+    ensures ok { OnOk result (out.new ≡ out.old ++ segment_line segment.now records) }
+    ensures err { OnErr result (out.new ≡ out.old) }
 {
-    out.append(b"segment ")?;
-    segment.name.put(out)?;
-    out.append(b" ")?;
-    out.append(side_name(segment.side).as_bytes())?;
-    out.append(b" bytes ")?;
-    put_number(out, segment.len)?;
-    out.append(b" records ")?;
-    put_number(out, records as u64)?;
-    out.append(b" ends ")?;
-    put_number(out, segment.ends_at)?;
-    out.append(b" ")?;
-    out.append(torn_name(segment.torn).as_bytes())?;
-    out.append(b"\n")
+    let line = [
+        Piece::Text(b"segment "),
+        Piece::Name(segment.name),
+        Piece::Text(b" "),
+        Piece::Text(side_name(segment.side).as_bytes()),
+        Piece::Text(b" bytes "),
+        Piece::Number(segment.len),
+        Piece::Text(b" records "),
+        Piece::Number(records as u64),
+        Piece::Text(b" ends "),
+        Piece::Number(segment.ends_at),
+        Piece::Text(b" "),
+        Piece::Text(torn_name(segment.torn).as_bytes()),
+        Piece::Text(b"\n"),
+    ];
+    put_pieces(out, &line)
 }
 
-/// Adds the line that ends what was recovered: how many batches, and the number after them. After an `Err` a part of it
-/// may stand there.
+/// Adds the line that ends what was recovered: how many batches, and the number after them. On out of memory the text
+/// is as it was.
 pub fn put_recovered_end(out: &mut Buf, batches: usize, next: u64) -> Result<(), NoMemory>
-    ensures { OnOk result (out.new ≡ out.old ++ recovered_end batches next) }
+    ensures ok { OnOk result (out.new ≡ out.old ++ recovered_end batches next) }
+    ensures err { OnErr result (out.new ≡ out.old) }
 {
-    out.append(b"end batches ")?;
-    put_number(out, batches as u64)?;
-    out.append(b" next ")?;
-    put_number(out, next)?;
-    out.append(b"\n")
+    let line = [
+        Piece::Text(b"end batches "),
+        Piece::Number(batches as u64),
+        Piece::Text(b" next "),
+        Piece::Number(next),
+        Piece::Text(b"\n"),
+    ];
+    put_pieces(out, &line)
 }
 
 /// The word of a side.

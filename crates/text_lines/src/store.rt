@@ -1,6 +1,6 @@
 //! The store that batches leave, a line for each key that has a value.
 
-ghost use Rattle.std.specs.Prelude.{◌≡◌, ℕ, List, ◌++◌, None, fold, map, OnOk, IfOk};
+ghost use Rattle.std.specs.Prelude.{◌≡◌, ℕ, List, ◌++◌, None, fold, map, take, length, OnOk, OnErr, IfOk};
 ghost use Rattle.std.specs.List.{flat_map};
 ghost use Rattle.std.specs.Ordering.{nat_cmp};
 ghost use Rattle.std.specs.Cmp.Lexicographic.{slice_cmp};
@@ -9,19 +9,23 @@ ghost use Rattle.batch_repr.specs.Batches.{entries_in};
 ghost use Rattle.text_lines.specs.Holding.{held, changed, shown};
 ghost use Rattle.text_lines.specs.Store.{held_line, IsStoreText};
 
-use crate::put_printed;
+use crate::pieces::whole_or_none;
+use crate::{Piece, put_pieces};
 use batch_repr::Batch;
 use std::alloc::Global;
 use std::collections::BTreeMap;
 use wal_base::{Buf, Entry, NoMemory};
 
-/// Adds a line for each key that has a value after the batches, in order of bytes. After an `Err` a part of them may
-/// stand there.
+/// Adds a line for each key that has a value after the batches, in order of bytes. On out of memory the
+/// text is as it was.
 pub fn put_store(alloc: Global, out: &mut Buf, batches: &[Batch]) -> Result<(), NoMemory>
-    ensures { OnOk result ((lines : List ℕ) × IsStoreText batches.now lines × (out.new ≡ out.old ++ lines)) }
+    ensures ok { OnOk result ((lines : List ℕ) × IsStoreText batches.now lines × (out.new ≡ out.old ++ lines)) }
+    ensures err { OnErr result (out.new ≡ out.old) }
 {
     let holding = hold(alloc, batches)?;
-    put_holding(out, &holding)
+    let len = out.as_slice().len();
+    let added = add_holding(out, &holding);
+    whole_or_none(out, len, added)
 }
 
 /// Holds each key that has a value after the batches, with it. Both are borrowed, and not copied.
@@ -67,10 +71,11 @@ fn change_by<'b>(
     Ok(())
 }
 
-/// Adds a line for each key that is held.
-fn put_holding<'b>(out: &mut Buf, holding: &BTreeMap<&'b [u8], &'b [u8]>) -> Result<(), NoMemory>
+/// Adds a line for each key that is held. After an `Err` a part of them may stand there.
+fn add_holding<'b>(out: &mut Buf, holding: &BTreeMap<&'b [u8], &'b [u8]>) -> Result<(), NoMemory>
     ensures lines { OnOk result (out.new ≡ out.old ++ flat_map held_line (map shown holding.now.entries)) }
     ensures ordered { IsOrdered (λ key other. slice_cmp nat_cmp key.now other.now) holding.now }
+    ensures err { OnErr result (take (length out.old) out.new ≡ out.old) }
 {
     for (key, value) in holding {
         put_held(out, key, value)?;
@@ -78,12 +83,16 @@ fn put_holding<'b>(out: &mut Buf, holding: &BTreeMap<&'b [u8], &'b [u8]>) -> Res
     Ok(())
 }
 
-/// Adds the line of a key with its value.
-fn put_held(out: &mut Buf, key: &[u8], value: &[u8]) -> Result<(), NoMemory>
-    ensures { OnOk result (out.new ≡ out.old ++ held_line (record { key = key.now; value = value.now })) }
+/// Adds the line of a key with its value. On out of memory the text is as it was.
+fn put_held<'p>(out: &mut Buf, key: &'p [u8], value: &'p [u8]) -> Result<(), NoMemory>
+    ensures ok { OnOk result (out.new ≡ out.old ++ held_line (record { key = key.now; value = value.now })) }
+    ensures err { OnErr result (out.new ≡ out.old) }
 {
-    put_printed(out, key)?;
-    out.append(b" = ")?;
-    put_printed(out, value)?;
-    out.append(b"\n")
+    let line = [
+        Piece::Printed(key),
+        Piece::Text(b" = "),
+        Piece::Printed(value),
+        Piece::Text(b"\n"),
+    ];
+    put_pieces(out, &line)
 }

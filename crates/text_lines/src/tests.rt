@@ -164,3 +164,20 @@ fn a_store_has_a_line_for_each_key_with_a_value(rt: HostRuntime) {
     put_store(rt.alloc(), &mut out, &[first, second]).expect(&rt, "memory");
     assert_eq!(rt; out.as_slice(), b"b = 2\nc = \\e\n".as_slice());
 }
+
+/// Adds a line many times, and looks each time at what it added. An allocation is refused only where that is asked for:
+/// `rt try --test --fail-alloc N`.
+#[test]
+fn a_line_is_added_whole_or_not_at_all(rt: HostRuntime) {
+    let Ok(mut out) = Buf::new(rt.alloc()) else {
+        return;
+    };
+    for _ in 0..64 {
+        let before = out.as_slice().len();
+        let added: &[u8] = match put_recovered_end(&mut out, 7, 18) {
+            Ok(()) => b"end batches 7 next 18\n",
+            Err(_) => b"",
+        };
+        assert_eq!(rt; out.as_slice().get(before..), Some(added));
+    }
+}

@@ -1,11 +1,7 @@
--- Each piece is added after the others, and together they are the line.
-use Rattle.std.proofs.Common.{◌≡◌, [], ◌∷◌, ◌++◌, append_assoc, subst, List, ℕ}
-use Rattle.std.specs.Prelude.{OnOk}
-use Rattle.text_lines.specs.Refusals.{gap_line}
+-- The pieces, one after another, are the line.
+use Rattle.std.proofs.Common.{append_assoc}
+use Rattle.std.proofs.lemmas.List.{append-nil}
 use Rattle.text_lines.proofs.refusals.put_gap.Goals as goal
 
-pub returns : goal.returns
-returns c =
-    let text : c.put_number-2.new.out ++ 10 ∷ [] ≡ c.args.out.now ++ gap_line c.args.name c.args.expected c.args.found =
-    rw (c.in_ok-put_number-2.ensures, c.in_ok-append-3.ensures.ok, c.in_ok-put_number.ensures, c.in_ok-append-2.ensures.ok, c.in_ok-put.ensures.ok, c.in_ok-append.ensures.ok) (simp append_assoc) in
-    subst (λ (t : List ℕ). OnOk c.append-4.result (c.append-4.new.self ≡ t)) text c.append-4.ensures.ok
+pub returns-clause-ok : goal.returns-clause-ok
+returns-clause-ok c = simp append_assoc (simp (append_assoc, append-nil) at c.put_pieces.ensures.ok)

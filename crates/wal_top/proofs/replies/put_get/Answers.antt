@@ -13,5 +13,5 @@ returns c =
     ∙ c.in_ok-back.ensures.ok ∙ simp append_assoc in
     let text : c.put_answer.new.out ++ c.as_bytes-2.result.now ≡ c.args.out.now ++ get_line c.args.session c.args.key.now
     (option_map (λ v. v.now) c.args.value) c.args.visible =
-    rw (c.in_ok-put_answer.ensures, c.in_ok-put_printed.ensures, c.in_ok-append.ensures.ok, front, back) (simp append_assoc) in
+    rw (c.in_ok-put_answer.ensures, c.in_ok-put_printed.ensures.ok, c.in_ok-append.ensures.ok, front, back) (simp append_assoc) in
     subst (λ (t : List ℕ). OnOk c.append-2.result (c.append-2.new.self ≡ t)) text c.append-2.ensures.ok

@@ -14,7 +14,7 @@ returns-in_ok-put_recovered_end-in-Ok-clause-says g c words' left' faults is sta
     let call : Invocation = record { words = words'; left = left'; source_faults = faults; tells = g.D.Disk.tells; disk = change_in g.D.Disk.view c.args.disk.now c.recover.new.disk } in
     let e = c.in-Ok.ensures in
     says_segments call c.in-Ok.found.batches c.in-Ok.found.next _ e.next stays c.in-Ok.found.segments c.len-count.result c.put_reports.new.text c.len-count.ensures is e.recovered e.reports (e.starts_nothing refl)
-    (c.in_ok-put_reports-in-Ok.ensures ∙ ap (λ (t : List ℕ). t ++ segments_text c.in-Ok.found.segments) c.in_ok-text-in-Ok.ensures) c.in_ok-put_recovered_end-in-Ok.ensures
+    (c.in_ok-put_reports-in-Ok.ensures ∙ ap (λ (t : List ℕ). t ++ segments_text c.in-Ok.found.segments) c.in_ok-text-in-Ok.ensures) c.in_ok-put_recovered_end-in-Ok.ensures.ok
 
 pub returns-in-Err-clause-says : goal.returns-in-Err-clause-says
 returns-in-Err-clause-says g c =
