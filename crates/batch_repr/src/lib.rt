@@ -24,7 +24,9 @@ pub use batch::{Batch, Batches};
 pub use builder::BatchBuilder;
 pub use decoding::{decode, decode_shared};
 pub use fault::{BatchFault, BuildFault};
-pub use limits::{BATCH_MAX, KEY_MAX, NUMBER_FIRST, NUMBER_MAX, VALUE_MAX};
+pub use limits::{
+    BATCH_MAX, BATCHES_MAX, KEY_MAX, NUMBER_FIRST, NUMBER_MAX, SESSIONS_MAX, VALUE_MAX,
+};
 pub use numbered::Numbered;
 pub use theorems::{bytes_have_one_reading, fits_exactly_where_not_refused, shortest_is_written};
 pub use unnumbered::Unnumbered;

@@ -1,4 +1,4 @@
-//! The limits of keys, values and batches. They are this project's own.
+//! The limits of keys, values, batches and runs. They are this project's own.
 
 /// The most bytes of a key.
 pub const KEY_MAX: usize = 65_535;
@@ -14,6 +14,12 @@ pub const NUMBER_FIRST: u64 = 10;
 
 /// The greatest number at which a batch may end: 2^56 - 1.
 pub const NUMBER_MAX: u64 = 72_057_594_037_927_935;
+
+/// The most batches that one run commits.
+pub const BATCHES_MAX: u64 = 1_048_576;
+
+/// The most sessions that one run has.
+pub const SESSIONS_MAX: u32 = 64;
 
 /// The bytes of a batch's header.
 pub(crate) const HEADER: usize = 12;
