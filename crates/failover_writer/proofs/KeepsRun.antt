@@ -158,7 +158,7 @@ run_kept_now tells records opening state v told stands opened dirs image chance_
         (all_kept tells records v dirs told image chance_free state.wal 0 0 state.segments stands.joined stands.fit)
         (none_beside opening state (files v) opened stands.named stands.few stands.joined dirs image)
 
-    merged : (e : ℕ) × (ranges.most_synced 0 row.held ≤ e) × (e ≤ length records)
+    merged : (e : ℕ) × (ranges.greatest_synced 0 row.held ≤ e) × (e ≤ length records)
         × Merged state.base (map (ranges.records_in records) row.held) (take e records)
     merged = parts_merge state.base records stands.numbered row.held row.are
 

@@ -149,7 +149,7 @@ pub record OwnRow (wal : ℕ) (records : List Batch) (dirs : Dirs) (index synced
   pub segments : List Stored
   pub held : List Range
   pub are : AreRanges (length records) synced held
-  pub kept : most_synced synced ws ≤ ranges.most_synced synced held
+  pub kept : most_synced synced ws ≤ ranges.greatest_synced synced held
   pub by : AreByIndex index segments
   pub holds : HoldRow (log_number wal) segments (map (ranges.records_in records) held)
   pub same : (stored : Stored) → Contains segments stored ↔ ((index ≤ stored.index) × StandsIn dirs wal stored)
@@ -204,7 +204,7 @@ module _ (wal : ℕ) (named : wal ≤ 999999999999) (records : List Batch) (are 
         segments = later.segments;
         held = later.held;
         are = subst (λ (n : ℕ). AreRanges (length records) n later.held) still later.are;
-        kept = subst (λ (n : ℕ). most_synced (max synced w.synced) ws ≤ ranges.most_synced n later.held) still later.kept;
+        kept = subst (λ (n : ℕ). most_synced (max synced w.synced) ws ≤ ranges.greatest_synced n later.held) still later.kept;
         by = by_weaker index (suc index) later.segments (omega arith) later.by;
         holds = later.holds;
         same = λ stored. (
@@ -221,7 +221,7 @@ module _ (wal : ℕ) (named : wal ≤ 999999999999) (records : List Batch) (are 
       → NoneBeside index (w ∷ ws) → IsKeptIn wal records dirs w
       → (content : List ℕ) → dirs (place_at wal index) ≡ Some content → OwnRow wal records dirs (suc index) (max synced w.synced) ws
       → OwnRow wal records dirs index synced (w ∷ ws)
-  unfolding AreJoined AreRanges AreByIndex most_synced ranges.most_synced
+  unfolding AreJoined AreRanges AreByIndex most_synced ranges.greatest_synced
   row_with index synced w ws few joined none kept content there later =
       let here : Stored = record { side = side_at index; index = index; content = content } in
       let as_kept : IsKeptAs (log_number wal) w.from w.synced records (Some content) =
@@ -253,7 +253,7 @@ module _ (wal : ℕ) (named : wal ≤ 999999999999) (records : List Batch) (are 
   pub own_row : (index synced : ℕ) (ws : List Writer) → index + length ws ≤ 1000 → AreJoined wal index synced ws
       → AllByRecursion (IsKeptIn wal records dirs) ws → NoneBeside index ws
       → OwnRow wal records dirs index synced ws
-  unfolding AreJoined AreRanges AreByIndex most_synced ranges.most_synced
+  unfolding AreJoined AreRanges AreByIndex most_synced ranges.greatest_synced
   own_row index synced [] few joined kept none = record {
     segments = [];
     held = [];

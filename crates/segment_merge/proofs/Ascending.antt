@@ -3,13 +3,13 @@ use Rattle.batch_repr.proofs.Laws.{end_append}
 use Rattle.std.proofs.Common.{ℕ, ◌≤◌, ◌<◌, List, [], ◌∷◌, ◌++◌, arith}
 use Rattle.batch_repr.specs.declared.batch.Batch.{Batch}
 use Rattle.batch_repr.specs.Batches.{count_of, end_of, end_after}
-use Rattle.segment_merge.specs.Merging.{IsAscending}
+use Rattle.segment_merge.specs.Merging.{AscendByNumber}
 use Rattle.segment_merge.specs.Keeping.{AreKept}
 
-pub ascending_push : (from : ℕ) (batches : List Batch) (batch : Batch) → IsAscending from batches → end_after from batches ≤ batch.first
+pub ascending_push : (from : ℕ) (batches : List Batch) (batch : Batch) → AscendByNumber from batches → end_after from batches ≤ batch.first
     → 0 < count_of batch.entries
-    → IsAscending from (batches ++ batch ∷ [])
-unfolding IsAscending end_after
+    → AscendByNumber from (batches ++ batch ∷ [])
+unfolding AscendByNumber end_after
 ascending_push from [] batch up below some = (below, some, tt)
 ascending_push from (b ∷ batches) batch up below some = (up.0, up.1, ascending_push (end_of b) batches batch up.2 below some)
 
@@ -23,5 +23,5 @@ kept_push batches next batch k below some = record {
 }
 
 pub kept_none : (next : ℕ) → AreKept [] next
-unfolding IsAscending end_after
+unfolding AscendByNumber end_after
 kept_none next = record { ascending = tt; below = omega arith }

@@ -7,7 +7,7 @@ use Rattle.std.proofs.lemmas.List.Concat.{flat_map-append}
 use Rattle.std.proofs.lemmas.List.Elements.{Contains-append_left, Contains-append_right, Contains-append_cases}
 use Rattle.batch_repr.specs.declared.batch.Batch.{Batch}
 use Rattle.batch_repr.specs.Batches.{count_of, end_after, IsContiguous}
-use Rattle.segment_merge.specs.Merging.{Merged, all_of, greatest_end, BeginsBy, AreJoined}
+use Rattle.segment_merge.specs.Merging.{Merged, all_of, greatest_end, BeginsBy, AreSegmentsJoined}
 use Rattle.segment_merge.specs.declared.segment.SegmentRead.{SegmentRead}
 use Rattle.segment_merge.specs.Rows.{batches_in}
 use Rattle.segment_merge.specs.Refusals.{expected_after, IsFirstWrong}
@@ -27,8 +27,8 @@ within_row before front back after b h =
           (Contains-append_left (front ++ back) (all_of after) b (Contains-append_left front back b here))
     ])
 
-head_joined : (bound : ℕ) (segment : List Batch) (after : List (List Batch)) → AreJoined bound (segment ∷ after) → BeginsBy bound segment
-unfolding AreJoined
+head_joined : (bound : ℕ) (segment : List Batch) (after : List (List Batch)) → AreSegmentsJoined bound (segment ∷ after) → BeginsBy bound segment
+unfolding AreSegmentsJoined
 head_joined bound segment after j = j.0
 
 begins_cut : (bound : ℕ) (front back : List Batch) → BeginsBy bound (front ++ back) → BeginsBy bound front

@@ -10,7 +10,7 @@ use Rattle.segment_merge.specs.declared.segment.SegmentRead.{SegmentRead}
 use Rattle.segment_merge.specs.declared.fault.MergeFault.{MergeFault}
 use Rattle.segment_merge.specs.declared.fault.MergeFault.TheVariants as faults
 use Rattle.segment_merge.specs.Rows.{IsNumbered, batches_in}
-use Rattle.segment_merge.specs.Merging.{all_of, IsAscending}
+use Rattle.segment_merge.specs.Merging.{all_of, AscendByNumber}
 use Rattle.segment_merge.specs.Lenient.{IsPast, IsNewOrKept, IsAccepted, IsRowLenientlyRefused}
 use Rattle.segment_merge.specs.Returned.{MemoryOrRefusal}
 use Rattle.segment_merge.specs.Keeping.{Kept}
@@ -22,13 +22,13 @@ use Rattle.segment_merge.proofs.Places.{Places, sooner, one, later, places}
 
 -- ---- ends of batches in order
 
-end_rises : (from : ℕ) (batches : List Batch) → IsAscending from batches → from ≤ end_after from batches
-unfolding IsAscending end_after
+end_rises : (from : ℕ) (batches : List Batch) → AscendByNumber from batches → from ≤ end_after from batches
+unfolding AscendByNumber end_after
 end_rises from [] up = omega arith
 end_rises from (b ∷ batches) up = omega (arith, up.0, end_rises (end_of b) batches up.2)
 
-ends_within : (from : ℕ) (batches : List Batch) (batch : Batch) → IsAscending from batches → Contains batches batch → end_of batch ≤ end_after from batches
-unfolding IsAscending end_after
+ends_within : (from : ℕ) (batches : List Batch) (batch : Batch) → AscendByNumber from batches → Contains batches batch → end_of batch ≤ end_after from batches
+unfolding AscendByNumber end_after
 ends_within from [] batch up h = absurd (none_within batch h)
 ends_within from (b ∷ batches) batch up h = elim (within_cases b batches batch h) [
   | inl e ↦ subst (λ x. end_of x ≤ end_after (end_of b) batches) e (end_rises (end_of b) batches up.2)
@@ -39,9 +39,9 @@ two_cases : (m n : ℕ) → (m < n) ⊎ (n ≤ m)
 two_cases m n = grind arith
 
 -- a number below the last end is below the end of some batch
-below_some : (from n : ℕ) (batches : List Batch) → IsAscending from batches → from ≤ n → n < end_after from batches → (batch : Batch)
+below_some : (from n : ℕ) (batches : List Batch) → AscendByNumber from batches → from ≤ n → n < end_after from batches → (batch : Batch)
     × Contains batches batch × (n < end_of batch)
-unfolding IsAscending end_after
+unfolding AscendByNumber end_after
 below_some from n [] up le less = absurd (omega (arith, le, less))
 below_some from n (b ∷ batches) up le less = elim (two_cases n (end_of b)) [
   | inl below ↦ (b, within_head b batches, below)
@@ -73,15 +73,15 @@ accepted_push all batch a new before x after e = of (places all batch [] before 
     of (later mid is) = a before x mid is
 
 -- batches in the order of their numbers are accepted
-ascending_cut : (from : ℕ) (before : List Batch) (batch : Batch) (after : List Batch) → IsAscending from (before ++ batch ∷ after)
-    → IsAscending from before × (end_after from before ≤ batch.first)
-unfolding IsAscending end_after
+ascending_cut : (from : ℕ) (before : List Batch) (batch : Batch) (after : List Batch) → AscendByNumber from (before ++ batch ∷ after)
+    → AscendByNumber from before × (end_after from before ≤ batch.first)
+unfolding AscendByNumber end_after
 ascending_cut from [] batch after up = (tt, up.0)
 ascending_cut from (b ∷ before) batch after up = let rest = ascending_cut (end_of b) before batch after up.2 in ((up.0, up.1, rest.0), rest.1)
 
-ascending_accepted : (batches : List Batch) → IsAscending 0 batches → IsAccepted batches
+ascending_accepted : (batches : List Batch) → AscendByNumber 0 batches → IsAccepted batches
 ascending_accepted batches up before batch after e =
-    let cut = ascending_cut 0 before batch after (subst (IsAscending 0) e up) in inr (λ earlier at. omega (arith, ends_within 0 before earlier cut.0 at, cut.1))
+    let cut = ascending_cut 0 before batch after (subst (AscendByNumber 0) e up) in inr (λ earlier at. omega (arith, ends_within 0 before earlier cut.0 at, cut.1))
 
 -- what is kept is what it is itself merged to
 pub keeps_own : (all : List Batch) (kept : Kept) → KeepsLenient all kept → KeepsLenient kept.batches kept
@@ -95,9 +95,9 @@ keeps_own all kept k = record {
 -- ---- the steps of the pass
 
 pub keeps_none : (kept : Kept) → kept.batches ≡ [] → kept.next ≡ 0 → KeepsLenient [] kept
-unfolding IsAscending end_after
+unfolding AscendByNumber end_after
 keeps_none kept none next = record {
-  ascending = subst (λ xs. IsAscending 0 xs) (sym none) tt;
+  ascending = subst (λ xs. AscendByNumber 0 xs) (sym none) tt;
   same = subst (λ xs. (b : Batch) → Contains xs b ↔ Contains [] b) (sym none) (λ b. (λ h. h, λ h. h));
   accepted = accepted_none;
   next_is = next ∙ sym (ap (end_after 0) none);
@@ -110,7 +110,7 @@ module _ (all : List Batch) (kept : Kept) (batch : Batch) (k : KeepsLenient all 
   appended : (new : Kept) → 0 < count_of batch.entries → IsAppendedAfter kept new batch → KeepsLenient (all ++ batch ∷ []) new
   unfolding end_after
   appended new some a = record {
-    ascending = subst (λ xs. IsAscending 0 xs) (sym a.new_is) (ascending_push 0 kept.batches batch k.ascending (omega (arith, a.above, k.next_is)) some);
+    ascending = subst (λ xs. AscendByNumber 0 xs) (sym a.new_is) (ascending_push 0 kept.batches batch k.ascending (omega (arith, a.above, k.next_is)) some);
     same = subst (λ xs. (b : Batch) → Contains xs b ↔ Contains (all ++ batch ∷ []) b) (sym a.new_is) (λ b. (
       λ h. elim (Contains-append_cases kept.batches (batch ∷ []) b h) [
         | inl old ↦ Contains-append_left all (batch ∷ []) b ((k.same b).0 old)
@@ -127,7 +127,7 @@ module _ (all : List Batch) (kept : Kept) (batch : Batch) (k : KeepsLenient all 
 
   skipped : (new : Kept) → IsSkipped kept new batch → KeepsLenient (all ++ batch ∷ []) new
   skipped new s = record {
-    ascending = subst (λ xs. IsAscending 0 xs) (sym s.new_is) k.ascending;
+    ascending = subst (λ xs. AscendByNumber 0 xs) (sym s.new_is) k.ascending;
     same = subst (λ xs. (b : Batch) → Contains xs b ↔ Contains (all ++ batch ∷ []) b) (sym s.new_is) (λ b. (
       λ h. Contains-append_left all (batch ∷ []) b ((k.same b).0 h),
       λ h. elim (Contains-push_cases all batch b h) [

@@ -5,7 +5,7 @@ use Rattle.batch_repr.specs.declared.batch.Batch.{Batch}
 use Rattle.segment_merge.specs.declared.segment.SegmentRead.{SegmentRead}
 use Rattle.segment_merge.specs.declared.fault.MergeFault.{MergeFault}
 use Rattle.segment_merge.specs.Rows.{batches_in}
-use Rattle.segment_merge.specs.Merging.{all_of, IsAscending}
+use Rattle.segment_merge.specs.Merging.{all_of, AscendByNumber}
 use Rattle.segment_merge.specs.Lenient.{AreMergedOf, IsRowLenientlyRefused}
 use Rattle.segment_merge.specs.Returned.{MemoryOrRefusal}
 use Rattle.segment_merge.specs.Keeping.{Kept}
@@ -58,5 +58,5 @@ answers_ok segments new k = record { ascending = k.ascending; same = k.same; acc
 
 -- of no segments, nothing is merged
 pub merged_none : (merged : List Batch) → merged ≡ [] → AreMergedOf [] merged
-unfolding IsAscending
+unfolding AscendByNumber
 merged_none merged none = subst (AreMergedOf []) (sym none) (record { ascending = tt; same = λ batch. (λ h. h, λ h. h); accepted = accepted_none })

@@ -3,19 +3,19 @@ use Rattle.std.proofs.Common.{◌≡◌, inl, inr, ℕ, ◌≤◌, ◌<◌, List
 use Rattle.std.specs.Prelude.{Contains}
 use Rattle.batch_repr.specs.declared.batch.Batch.{Batch}
 use Rattle.batch_repr.specs.Batches.{count_of, end_of}
-use Rattle.segment_merge.specs.Merging.{IsAscending}
+use Rattle.segment_merge.specs.Merging.{AscendByNumber}
 use Rattle.segment_merge.specs.Lenient.{MergedLenient}
 use Rattle.wal_base.proofs.Laws.{none_within, within_head, within_tail, within_cases}
 
-low_of : (from : ℕ) (batches : List Batch) (b : Batch) → IsAscending from batches → Contains batches b → from ≤ b.first
-unfolding IsAscending
+low_of : (from : ℕ) (batches : List Batch) (b : Batch) → AscendByNumber from batches → Contains batches b → from ≤ b.first
+unfolding AscendByNumber
 low_of from [] b up h = absurd (none_within b h)
 low_of from (a ∷ batches) b up h = elim (within_cases a batches b h) [
   | inl e ↦ omega (arith, up.0, ap (λ (x : Batch). x.first) e)
   | inr later ↦ omega (arith, up.0, low_of (end_of a) batches b up.2 later)
 ]
 
-tail_only : (a b : Batch) (ps qs : List Batch) → 0 < count_of a.entries → IsAscending (end_of a) ps → a ≡ b
+tail_only : (a b : Batch) (ps qs : List Batch) → 0 < count_of a.entries → AscendByNumber (end_of a) ps → a ≡ b
     → ((x : Batch) → Contains (a ∷ ps) x → Contains (b ∷ qs) x)
     → (x : Batch) → Contains ps x → Contains qs x
 tail_only a b ps qs some up e sub x h = elim (within_cases b qs x (sub x (within_tail a ps x h))) [
@@ -23,9 +23,9 @@ tail_only a b ps qs some up e sub x h = elim (within_cases b qs x (sub x (within
   | inr later ↦ later
 ]
 
-same_ascending : (m n : ℕ) (ps qs : List Batch) → IsAscending m ps → IsAscending n qs → ((x : Batch) → Contains ps x → Contains qs x)
+same_ascending : (m n : ℕ) (ps qs : List Batch) → AscendByNumber m ps → AscendByNumber n qs → ((x : Batch) → Contains ps x → Contains qs x)
     → ((x : Batch) → Contains qs x → Contains ps x) → ps ≡ qs
-unfolding IsAscending
+unfolding AscendByNumber
 same_ascending m n [] [] up uq pq qp = refl
 same_ascending m n [] (b ∷ qs) up uq pq qp = absurd (none_within b (qp b (within_head b qs)))
 same_ascending m n (a ∷ ps) [] up uq pq qp = absurd (none_within a (pq a (within_head a ps)))

@@ -2,7 +2,7 @@
 use Rattle.std.specs.Prelude.{ℕ, ◌≤◌, List}
 use Rattle.batch_repr.specs.declared.batch.Batch.{Batch}
 use Rattle.batch_repr.specs.Batches.{end_after}
-use Rattle.segment_merge.specs.Merging.{IsAscending}
+use Rattle.segment_merge.specs.Merging.{AscendByNumber}
 
 -- the batches, and the number that comes next
 pub record Kept : Type 0 where
@@ -11,5 +11,5 @@ pub record Kept : Type 0 where
 
 -- They are in the order of their numbers, and end at or below the number that comes next.
 pub record AreKept (batches : List Batch) (next : ℕ) : Type 0 where
-  pub ascending : IsAscending 0 batches
+  pub ascending : AscendByNumber 0 batches
   pub below : end_after 0 batches ≤ next

@@ -6,7 +6,7 @@ use Rattle.segment_merge.specs.declared.segment.SegmentRead.{SegmentRead}
 use Rattle.segment_merge.specs.declared.fault.MergeFault.{MergeFault}
 use Rattle.segment_merge.specs.declared.fault.MergeFault.TheVariants as faults
 use Rattle.segment_merge.specs.Rows.{batches_in}
-use Rattle.segment_merge.specs.Merging.{all_of, IsAscending}
+use Rattle.segment_merge.specs.Merging.{all_of, AscendByNumber}
 
 -- It begins at or above every end before it.
 abbrev pub IsPast : List Batch → Batch → Type 0
@@ -22,7 +22,7 @@ IsAccepted batches = (before : List Batch) (batch : Batch) (after : List Batch) 
 
 -- The row without repeated batches.
 pub record MergedLenient (segments : List (List Batch)) (merged : List Batch) : Type 0 where
-  pub ascending : IsAscending 0 merged
+  pub ascending : AscendByNumber 0 merged
   pub same : (batch : Batch) → Contains merged batch ↔ Contains (all_of segments) batch
   pub accepted : IsAccepted (all_of segments)
 

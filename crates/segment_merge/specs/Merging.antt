@@ -19,17 +19,17 @@ BeginsBy bound [] = Unit {0}
 BeginsBy bound (batch ∷ batches) = (batch.first ≤ bound) × IsContiguous batch.first (batch ∷ batches)
 
 -- Each segment begins at most at the greatest end of those before it.
-unfoldable pub AreJoined : ℕ → List (List Batch) → Type 0
-AreJoined bound [] = Unit {0}
-AreJoined bound (segment ∷ segments) = BeginsBy bound segment × AreJoined (greatest_end bound segment) segments
+unfoldable pub AreSegmentsJoined : ℕ → List (List Batch) → Type 0
+AreSegmentsJoined bound [] = Unit {0}
+AreSegmentsJoined bound (segment ∷ segments) = BeginsBy bound segment × AreSegmentsJoined (greatest_end bound segment) segments
 
 -- The merged list of the segments: contiguous from this number, and as a set the batches of all segments.
 pub record Merged (first : ℕ) (segments : List (List Batch)) (merged : List Batch) : Type 0 where
   pub contiguous : IsContiguous first merged
   pub same : (batch : Batch) → Contains merged batch ↔ Contains (all_of segments) batch
-  pub joined : AreJoined first segments
+  pub joined : AreSegmentsJoined first segments
 
 -- Each batch takes a number, and begins at or above the end of the one before it.
-unfoldable pub IsAscending : ℕ → List Batch → Type 0
-IsAscending from [] = Unit {0}
-IsAscending from (batch ∷ batches) = (from ≤ batch.first) × (0 < count_of batch.entries) × IsAscending (end_of batch) batches
+unfoldable pub AscendByNumber : ℕ → List Batch → Type 0
+AscendByNumber from [] = Unit {0}
+AscendByNumber from (batch ∷ batches) = (from ≤ batch.first) × (0 < count_of batch.entries) × AscendByNumber (end_of batch) batches

@@ -23,9 +23,9 @@ AreRanges len acked (range ∷ ranges) =
     (range.from ≤ acked) × (range.from ≤ range.synced) × (range.synced ≤ range.to) × (range.to ≤ len) × AreRanges len (max acked range.synced) ranges
 
 -- the greatest synced
-unfoldable pub most_synced : ℕ → List Range → ℕ
-most_synced acked [] = acked
-most_synced acked (range ∷ ranges) = most_synced (max acked range.synced) ranges
+unfoldable pub greatest_synced : ℕ → List Range → ℕ
+greatest_synced acked [] = acked
+greatest_synced acked (range ∷ ranges) = greatest_synced (max acked range.synced) ranges
 
 -- how far the ranges reach
 unfoldable pub reach : ℕ → List Range → ℕ

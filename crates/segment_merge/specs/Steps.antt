@@ -7,7 +7,7 @@ use Rattle.segment_merge.specs.declared.fault.MergeFault.{MergeFault}
 use Rattle.segment_merge.specs.declared.fault.MergeFault.TheVariants as faults
 use Rattle.segment_merge.specs.Rows.{batches_in}
 use Rattle.segment_merge.specs.Keeping.{Kept}
-use Rattle.segment_merge.specs.Merging.{Merged, all_of, IsAscending}
+use Rattle.segment_merge.specs.Merging.{Merged, all_of, AscendByNumber}
 use Rattle.segment_merge.specs.Refusals.{IsRowRefused}
 use Rattle.segment_merge.specs.Lenient.{IsAccepted, IsRowLenientlyRefused}
 use Rattle.segment_merge.specs.Returned.{MemoryOrRefusal}
@@ -69,7 +69,7 @@ LenientSteps old new index batch (Err faults.NoMemory) = Unit {0}
 
 -- What is kept is what these batches are without repeated ones, and its end comes next.
 pub record KeepsLenient (all : List Batch) (kept : Kept) : Type 0 where
-  pub ascending : IsAscending 0 kept.batches
+  pub ascending : AscendByNumber 0 kept.batches
   pub same : (batch : Batch) → Contains kept.batches batch ↔ Contains all batch
   pub accepted : IsAccepted all
   pub next_is : kept.next ≡ end_after 0 kept.batches

@@ -12,7 +12,7 @@ use Rattle.std.proofs.lemmas.Map.Text.{is_eq-slice_cmp}
 use Rattle.std.specs.Map.{keys_of, lookup}
 use Rattle.wal_base.proofs.Laws.{within_cases, within_head, within_tail}
 use Rattle.text_lines.specs.Holding.{shown}
-use Rattle.text_lines.specs.Store.{Held, IsKeyBefore, Ascends}
+use Rattle.text_lines.specs.Store.{Held, IsKeyBefore, AscendsByKey}
 
 abbrev Pairs : Type 0
 Pairs = List (Bor (List ℕ) × Bor (List ℕ))
@@ -29,8 +29,8 @@ before_each key (e ∷ es) all other has =
     ⊎_elim (λ (is : shown e ≡ other). subst (λ (h : Held). IsKeyBefore key.now h.key) is all.0)
     (λ (later : Contains (map shown es) other). before_each key es all.1 other later) (within_cases (shown e) (map shown es) other has)
 
-pub ascends : (es : Pairs) → IsStrictlySortedBy cmp (keys_of es) → Ascends (map shown es)
-unfolding IsStrictlySortedBy Ascends
+pub ascends : (es : Pairs) → IsStrictlySortedBy cmp (keys_of es) → AscendsByKey (map shown es)
+unfolding IsStrictlySortedBy AscendsByKey
 ascends [] sorted = tt
 ascends (e ∷ es) sorted = (λ other has. before_each e.0 es sorted.0 other has, ascends es sorted.1)
 
@@ -52,8 +52,8 @@ found_later e es key before =
     let apart : is_eq (slice_cmp nat_cmp key e.0.now) ≡ false = ap is_eq (nat_list_cmp_total.antisymm key e.0.now ∙ ap ordering_reverse before) in
     rw apart refl
 
-tells : (es : Pairs) → Ascends (map shown es) → (key value : List ℕ) → Contains (map shown es) (record { key = key; value = value }) → found key es ≡ Some value
-unfolding Ascends
+tells : (es : Pairs) → AscendsByKey (map shown es) → (key value : List ℕ) → Contains (map shown es) (record { key = key; value = value }) → found key es ≡ Some value
+unfolding AscendsByKey
 tells [] up key value has = absurd (omega (arith, has.1))
 tells (e ∷ es) up key value has =
     let held : Held = record { key = key; value = value } in

@@ -18,13 +18,13 @@ abbrev pub IsKeyBefore : List ℕ → List ℕ → Type 0
 IsKeyBefore key other = slice_cmp nat_cmp key other ≡ Less
 
 -- Each key stands before all later ones.
-unfoldable pub Ascends : List Held → Type 0
-Ascends [] = Unit {0}
-Ascends (held ∷ later) = ((other : Held) → Contains later other → IsKeyBefore held.key other.key) × Ascends later
+unfoldable pub AscendsByKey : List Held → Type 0
+AscendsByKey [] = Unit {0}
+AscendsByKey (held ∷ later) = ((other : Held) → Contains later other → IsKeyBefore held.key other.key) × AscendsByKey later
 
 -- These are the keys that have a value after all batches, each with it, in order of bytes.
 pub record IsStoreOf (batches : List Batch) (store : List Held) : Type 0 where
-  pub ascends : Ascends store
+  pub ascends : AscendsByKey store
   pub same : (key value : List ℕ) → Contains store (record { key = key; value = value }) ↔ (answer batches (length batches) key ≡ Some value)
 
 -- `K = V`

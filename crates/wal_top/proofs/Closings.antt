@@ -15,7 +15,7 @@ use Rattle.failover_writer.specs.Answered.{IsMarked}
 use Rattle.failover_writer.specs.Sound.{IsSoundJournal}
 use Rattle.failover_writer.specs.State.{State, len, acked}
 use Rattle.failover_writer.specs.declared.fault.JournalEnd.{JournalEnd}
-use Rattle.wal_top.specs.Printing.{commit_line, end_line}
+use Rattle.wal_top.specs.Printing.{commit_line, plain_end_line}
 use Rattle.failover_writer.specs.Running.{Runs, RunsStill, HasEnded}
 use Rattle.wal_top.specs.Doing.{numbered_next, Stage, Logs, Commits, Closes, EndsRun}
 use Rattle.failover_writer.proofs.Laws.{len_is, has_ended}
@@ -49,7 +49,7 @@ closes_stage tells died batches text limited old new before after runs lives dea
 pub ends_run : (tells died : Bool) (old mid : Stage) (acked_now begun visible count : ℕ) (text : List ℕ) → Closes tells died old mid
     → IsSoundJournal mid.journal → acked_now ≡ acked mid.journal → begun ≡ length mid.journal.segments
     → visible ≡ end_after NUMBER_FIRST mid.batches → IsContiguous NUMBER_FIRST mid.batches → visible ≤ NUMBER_MAX → count ≡ len mid.journal
-    → text ≡ mid.text ++ end_line visible count (record { acked = acked_now; segments = begun; died = died })
+    → text ≡ mid.text ++ plain_end_line visible count (record { acked = acked_now; segments = begun; died = died })
     → EndsRun tells (record { acked = acked_now; segments = begun; died = died }) old
     (record { batches = mid.batches; journal = mid.journal; view = mid.view; text = text; limited = mid.limited })
 ends_run tells died old mid acked_now begun visible count text c sound acked_is begun_is visible_is numbered within count_is text_is =
@@ -62,9 +62,9 @@ ends_run tells died old mid acked_now begun visible count text c sound acked_is 
       lives = c.lives;
       numbered = subst (IsContiguous NUMBER_FIRST) c.batches numbered;
       within = omega (arith, within, visible_is, ap (end_after NUMBER_FIRST) c.batches);
-      reply = text_is ∙ ap (λ (t : List ℕ). t ++ end_line visible count end) c.text
-          ∙ ap (λ (n : ℕ). old.text ++ end_line n count end) (visible_is ∙ ap (end_after NUMBER_FIRST) c.batches)
-          ∙ ap (λ (n : ℕ). old.text ++ end_line (end_after NUMBER_FIRST old.batches) n end) count_is;
+      reply = text_is ∙ ap (λ (t : List ℕ). t ++ plain_end_line visible count end) c.text
+          ∙ ap (λ (n : ℕ). old.text ++ plain_end_line n count end) (visible_is ∙ ap (end_after NUMBER_FIRST) c.batches)
+          ∙ ap (λ (n : ℕ). old.text ++ plain_end_line (end_after NUMBER_FIRST old.batches) n end) count_is;
       ended = λ start wal first own r. let e = c.ended sound start wal first own r
           in (e.0, subst (λ (x : JournalEnd). HasEnded THRESHOLD tells start wal first own x mid.view) same e.1);
     }

@@ -12,7 +12,7 @@ use Rattle.batch_repr.specs.Batches.{count_of, end_of, IsContiguous, end_after}
 use Rattle.wal_top.specs.declared.script.Act.{Act}
 use Rattle.wal_top.specs.declared.script.Act.TheVariants.{Commit, Get}
 use Rattle.failover_writer.specs.declared.fault.JournalEnd.{JournalEnd}
-use Rattle.wal_top.specs.Replay.{committed, numbers_taken, visible_after, Answers, numbered, limited, dead, read, StaysDead, AnswersAll, IsReplayText, AllCommitted, LacksBatch}
+use Rattle.wal_top.specs.Replay.{committed, plain_numbers_taken, plainly_visible_after, AnswersPlainly, numbered, limited, dead, read, StaysDead, AnswersAll, IsReplayText, AllCommitted, LacksBatch}
 
 -- ---- all numbers
 
@@ -25,17 +25,17 @@ unfolding IsContiguous end_after sum_of
 end_sum from [] c = omega arith
 end_sum from (b ∷ batches) c = omega (arith, c.0, end_sum (end_of b) batches c.2)
 
-taken_sum : (acts : List Act) → sum_by numbers_taken acts ≡ sum_of (filter_map committed acts)
+taken_sum : (acts : List Act) → sum_by plain_numbers_taken acts ≡ sum_of (filter_map committed acts)
 unfolding sum_of
 taken_sum [] = refl
-taken_sum (Commit entries ∷ acts) = omega (arith, sum_by-cons numbers_taken (Commit entries) acts, taken_sum acts)
-taken_sum (Get key ∷ acts) = omega (arith, sum_by-cons numbers_taken (Get key) acts, taken_sum acts)
+taken_sum (Commit entries ∷ acts) = omega (arith, sum_by-cons plain_numbers_taken (Commit entries) acts, taken_sum acts)
+taken_sum (Get key ∷ acts) = omega (arith, sum_by-cons plain_numbers_taken (Get key) acts, taken_sum acts)
 
 pub all_numbers : (base : List Batch) (acts : List Act) (batches : List Batch) (end : JournalEnd) (text : List ℕ)
     → IsReplayText base acts batches end text → AllCommitted acts batches
-    → end_after NUMBER_FIRST base + sum_by numbers_taken acts ≤ NUMBER_MAX
+    → end_after NUMBER_FIRST base + sum_by plain_numbers_taken acts ≤ NUMBER_MAX
 all_numbers base acts batches end text is all =
-    let sums : sum_of (map (λ (b : Batch). b.entries) batches) ≡ sum_by numbers_taken acts = ap sum_of all ∙ sym (taken_sum acts) in
+    let sums : sum_of (map (λ (b : Batch). b.entries) batches) ≡ sum_by plain_numbers_taken acts = ap sum_of all ∙ sym (taken_sum acts) in
     omega (
       arith,
       is.within,
@@ -73,9 +73,9 @@ lived_all store was_dead died n (act ∷ acts) end lines h lives = lived was_dea
 
 -- an act that reaches no limit, where those after it reach none
 act_unlimited : (store : List Batch) (died : Bool) (n : ℕ) (act : Act) (acts : List Act) (end next : ℕ) (line : List ℕ) → died ≡ false
-    → IsContiguous NUMBER_FIRST store → Answers store died n act next line
-    → visible_after store n + (numbers_taken act + sum_by numbers_taken acts) ≤ NUMBER_MAX
-    → ((k : ℕ) → k ≡ next → visible_after store k + sum_by numbers_taken acts ≤ NUMBER_MAX → end ≡ k + length (filter_map committed acts))
+    → IsContiguous NUMBER_FIRST store → AnswersPlainly store died n act next line
+    → plainly_visible_after store n + (plain_numbers_taken act + sum_by plain_numbers_taken acts) ≤ NUMBER_MAX
+    → ((k : ℕ) → k ≡ next → plainly_visible_after store k + sum_by plain_numbers_taken acts ≤ NUMBER_MAX → end ≡ k + length (filter_map committed acts))
     → end ≡ n + length (filter_map committed (act ∷ acts))
 act_unlimited store died n _ acts end _ _ lives c (numbered batch lives_then at) room rest =
     let up = visible_next NUMBER_FIRST store n batch c at in
@@ -87,20 +87,20 @@ act_unlimited store died n _ acts end _ _ lives c (read key) room rest = rest n 
 
 none_limited : (store : List Batch) (was_dead died : Bool) (n : ℕ) (acts : List Act) (end : ℕ) (lines : List ℕ) → died ≡ false
     → IsContiguous NUMBER_FIRST store → AnswersAll store was_dead died n acts end lines
-    → visible_after store n + sum_by numbers_taken acts ≤ NUMBER_MAX
+    → plainly_visible_after store n + sum_by plain_numbers_taken acts ≤ NUMBER_MAX
     → end ≡ n + length (filter_map committed acts)
 unfolding AnswersAll
 none_limited store was_dead died n [] end lines lives c h room = omega (arith, h.1)
 none_limited store was_dead died n (act ∷ acts) end lines lives c h room =
     act_unlimited store h.0 n act acts end h.1 h.2 (lived_all store h.0 died h.1 acts end h.3 h.6 lives) c h.5
-    (omega (arith, room, sum_by-cons numbers_taken act acts))
+    (omega (arith, room, sum_by-cons plain_numbers_taken act acts))
     (λ k is fits. none_limited store h.0 died k acts end h.3 lives c (subst (λ (m : ℕ). AnswersAll store h.0 died m acts end h.3) (sym is) h.6) fits)
 
 pub none_lacks : (base : List Batch) (acts : List Act) (batches : List Batch) (end : JournalEnd) (text : List ℕ) → end.died ≡ false
-    → IsReplayText base acts batches end text → end_after NUMBER_FIRST base + sum_by numbers_taken acts ≤ NUMBER_MAX
+    → IsReplayText base acts batches end text → end_after NUMBER_FIRST base + sum_by plain_numbers_taken acts ≤ NUMBER_MAX
     → LacksBatch acts batches → ⊥
 none_lacks base acts batches end text lives is room lacks =
-    let front : visible_after (base ++ batches) (length base) ≡ end_after NUMBER_FIRST base = ap (end_after NUMBER_FIRST)
+    let front : plainly_visible_after (base ++ batches) (length base) ≡ end_after NUMBER_FIRST base = ap (end_after NUMBER_FIRST)
     (take_at base batches (length base) refl) in
     let all = none_limited (base ++ batches) false end.died (length base) acts (length (base ++ batches)) is.lines lives is.numbered
     is.answers (omega (arith, front, room)) in

@@ -7,8 +7,8 @@ use Rattle.batch_repr.specs.declared.batch.Batch.{Batch}
 use Rattle.batch_repr.specs.Batches.{answer, end_after, IsContiguous}
 use Rattle.wal_top.specs.declared.script.Act.{Act}
 use Rattle.wal_top.specs.declared.script.Act.TheVariants.{Commit, Get}
-use Rattle.wal_top.specs.Cutting.{pieces, lines_of, words_of}
-use Rattle.wal_top.specs.Printing.{commit_line, limit_line, dead_line, get_line, end_line}
+use Rattle.wal_top.specs.Cutting.{plain_pieces, plain_lines_of, plain_words_of}
+use Rattle.wal_top.specs.Printing.{commit_line, limit_line, dead_line, get_line, plain_end_line}
 use Rattle.wal_top.specs.Replay.{numbered, limited, dead, read, AnswersAll, IsReplayText}
 
 -- key `a` to `1`, and a read of it
@@ -20,7 +20,7 @@ its_batches = record { first = 10; entries = Set (codes "a") (codes "1") ∷ [] 
 
 its_text : IsReplayText [] set_and_read its_batches (record { acked = 1; segments = 1; died = false })
     (codes "s0 commit 10 1\ns0 get a = 1 @11\nend visible 11 batches 1 acked 1 segments 1 closed\n")
-unfolding AnswersAll commit_line get_line end_line answer end_after IsContiguous digits
+unfolding AnswersAll commit_line get_line plain_end_line answer end_after IsContiguous digits
 its_text = record {
   numbered = (refl, omega arith, tt);
   within = omega arith;
@@ -39,7 +39,7 @@ its_text = record {
 }
 
 nothing_to_do : IsReplayText [] [] [] (record { acked = 0; segments = 0; died = false }) (codes "end visible 10 batches 0 acked 0 segments 0 closed\n")
-unfolding AnswersAll end_line end_after IsContiguous digits
+unfolding AnswersAll plain_end_line end_after IsContiguous digits
 nothing_to_do = record { numbered = tt; within = omega arith; lines = []; answers = (λ d. d, refl, refl); text_is = refl }
 
 -- the last number is taken: a batch that ends at the greatest number was recovered
@@ -53,7 +53,7 @@ no_room = (false, 1, codes "s0 commit limit\n", [], λ d. d, limited (Set (codes
 -- a journal that died while the one batch was written
 its_death : IsReplayText [] (Commit (Set (codes "a") (codes "1") ∷ []) ∷ set_and_read) its_batches (record { acked = 0; segments = 10; died = true })
     (codes "s0 commit 10 1\ns0 commit dead\ns0 get a = 1 @11\nend visible 11 batches 1 acked 0 segments 10 dead\n")
-unfolding AnswersAll commit_line dead_line get_line end_line answer end_after IsContiguous digits
+unfolding AnswersAll commit_line dead_line get_line plain_end_line answer end_after IsContiguous digits
 its_death = record {
   numbered = (refl, omega arith, tt);
   within = omega arith;
@@ -80,11 +80,11 @@ its_death = record {
   text_is = refl;
 }
 
-two_lines : lines_of (codes "commit 0 nosync set a 1\nget 0 a") ≡ codes "commit 0 nosync set a 1" ∷ codes "get 0 a" ∷ []
-unfolding pieces
+two_lines : plain_lines_of (codes "commit 0 nosync set a 1\nget 0 a") ≡ codes "commit 0 nosync set a 1" ∷ codes "get 0 a" ∷ []
+unfolding plain_pieces
 two_lines = refl
 
 -- two blanks in a row stand round an empty word
-an_empty_word : words_of (codes "get 0  a") ≡ codes "get" ∷ codes "0" ∷ [] ∷ codes "a" ∷ []
-unfolding pieces
+an_empty_word : plain_words_of (codes "get 0  a") ≡ codes "get" ∷ codes "0" ∷ [] ∷ codes "a" ∷ []
+unfolding plain_pieces
 an_empty_word = refl

@@ -15,8 +15,8 @@ use Rattle.wal_top.specs.declared.script.Act.{Act}
 use Rattle.wal_top.specs.declared.script.Act.TheVariants.{Commit, Get}
 use Rattle.failover_writer.specs.declared.fault.JournalEnd.{JournalEnd}
 use Rattle.wal_top.specs.declared.status.Status.{Status}
-use Rattle.wal_top.specs.Printing.{commit_line, limit_line, dead_line, get_line, end_line}
-use Rattle.wal_top.specs.Replay.{committed, visible_after, Answers, numbered, limited, dead, read, StaysDead, AnswersAll, LacksBatch}
+use Rattle.wal_top.specs.Printing.{commit_line, limit_line, dead_line, get_line, plain_end_line}
+use Rattle.wal_top.specs.Replay.{committed, plainly_visible_after, AnswersPlainly, numbered, limited, dead, read, StaysDead, AnswersAll, LacksBatch}
 use Rattle.failover_writer.specs.Running.{Runs}
 use Rattle.wal_top.specs.Doing.{numbered_next, Stage, Commits, OnlyReplies, DoesCommit, commits, past, died, DoesGet, DoesAct, DoesAll, DoesRun, IsShort, EndsRun, IsBegun, ReplaysOver, status_after}
 use Rattle.wal_top.specs.Doing as doing
@@ -24,7 +24,7 @@ use Rattle.wal_top.specs.Doing as doing
 -- one act more after answered ones
 pub answers_push : (store : List Batch) (was_dead mid_dead is_dead at_end : Bool) (n : ℕ) (acts : List Act) (act : Act) (mid end : ℕ)
     (lines line : List ℕ) → AnswersAll store was_dead mid_dead n acts mid lines → StaysDead mid_dead is_dead
-    → Answers store is_dead mid act end line → StaysDead is_dead at_end → AnswersAll store was_dead at_end n (acts ++ act ∷ []) end (lines ++ line)
+    → AnswersPlainly store is_dead mid act end line → StaysDead is_dead at_end → AnswersAll store was_dead at_end n (acts ++ act ∷ []) end (lines ++ line)
 unfolding AnswersAll
 answers_push store was_dead mid_dead is_dead at_end n [] act mid end lines line h before a after = (
   is_dead,
@@ -32,7 +32,7 @@ answers_push store was_dead mid_dead is_dead at_end n [] act mid end lines line 
   line,
   [],
   λ was. before (h.0 was),
-  subst (λ (k : ℕ). Answers store is_dead k act end line) h.1 a,
+  subst (λ (k : ℕ). AnswersPlainly store is_dead k act end line) h.1 a,
   (after, refl, refl),
   ap (λ (l : List ℕ). l ++ line) h.2 ∙ sym (append-nil line),
 )
@@ -71,7 +71,7 @@ died_now state has_died = go state.dead has_died
 
 -- ---- what stands after some batches does not change what they show
 
-visible_front : (batches more : List Batch) → visible_after (batches ++ more) (length batches) ≡ end_after NUMBER_FIRST batches
+visible_front : (batches more : List Batch) → plainly_visible_after (batches ++ more) (length batches) ≡ end_after NUMBER_FIRST batches
 visible_front batches more = ap (end_after NUMBER_FIRST) (take_at batches more (length batches) refl)
 
 answer_front : (batches more : List Batch) (key : List ℕ) → answer (batches ++ more) (length batches) key ≡ answer batches (length batches) key
@@ -188,7 +188,7 @@ module _ (tells : Bool) (base : List Batch) (start : DiskView) (wal : ℕ) (acts
             (length old.batches) (length old.batches + 1) old.text
             (commit_line 0 (end_after NUMBER_FIRST old.batches) (count_of entries)) (g.answered (batch ∷ more))
             (λ was. sym (lives_now old.journal c.lives) ∙ was)
-            (subst (λ (a : Act). Answers (old.batches ++ batch ∷ more) false (length old.batches) a (length old.batches + 1)
+            (subst (λ (a : Act). AnswersPlainly (old.batches ++ batch ∷ more) false (length old.batches) a (length old.batches + 1)
             (commit_line 0 (end_after NUMBER_FIRST old.batches) (count_of entries))) (sym is)
             (numbered batch refl (get_behind old.batches more batch)))
             (λ d. absurd cc))));
@@ -202,7 +202,7 @@ module _ (tells : Bool) (base : List Batch) (start : DiskView) (wal : ℕ) (acts
 
   -- a reply that adds no batch
   reply_goes : (line : List ℕ) (now : Bool) → ((more : List Batch)
-      → Answers (old.batches ++ more) (is_dead old.journal) (length old.batches) act (length old.batches) line)
+      → AnswersPlainly (old.batches ++ more) (is_dead old.journal) (length old.batches) act (length old.batches) line)
       → OnlyReplies line now old new
       → (old.journal.dead ≡ None → IsShort now (g.front ++ act ∷ []) g.own) → GoesOn tells base start wal acts new rest
   reply_goes line now one o short = record {
@@ -229,7 +229,7 @@ module _ (tells : Bool) (base : List Batch) (start : DiskView) (wal : ℕ) (acts
       → GoesOn tells base start wal acts new rest
   limit_goes entries is lives beyond o =
       reply_goes (limit_line 0) true
-      (λ more. subst (λ (a : Act). Answers (old.batches ++ more) (is_dead old.journal) (length old.batches) a (length old.batches)
+      (λ more. subst (λ (a : Act). AnswersPlainly (old.batches ++ more) (is_dead old.journal) (length old.batches) a (length old.batches)
       (limit_line 0)) (sym is) (limited entries (lives_now old.journal lives) (omega (arith, beyond, visible_front old.batches more))))
       o
       (λ still. subst (λ (a : Act). IsShort true (g.front ++ a ∷ []) g.own) (sym is) (one_short g.front entries g.own old.limited (g.short lives)))
@@ -238,19 +238,19 @@ module _ (tells : Bool) (base : List Batch) (start : DiskView) (wal : ℕ) (acts
       → GoesOn tells base start wal acts new rest
   dead_goes entries is has_died o =
       reply_goes (dead_line 0) old.limited
-      (λ more. subst (λ (a : Act). Answers (old.batches ++ more) (is_dead old.journal) (length old.batches) a (length old.batches)
+      (λ more. subst (λ (a : Act). AnswersPlainly (old.batches ++ more) (is_dead old.journal) (length old.batches) a (length old.batches)
       (dead_line 0)) (sym is) (dead entries (died_now old.journal has_died))) o
       (λ still. absurd (has_died still))
 
   read_goes : (key : List ℕ) → act ≡ Get key → DoesGet key old new → GoesOn tells base start wal acts new rest
   read_goes key is o =
       reply_goes (get_line 0 key (answer old.batches (length old.batches) key) (end_after NUMBER_FIRST old.batches)) old.limited
-      (λ more. subst (λ (a : Act). Answers (old.batches ++ more) (is_dead old.journal) (length old.batches) a (length old.batches)
+      (λ more. subst (λ (a : Act). AnswersPlainly (old.batches ++ more) (is_dead old.journal) (length old.batches) a (length old.batches)
       (get_line 0 key (answer old.batches (length old.batches) key) (end_after NUMBER_FIRST old.batches))) (sym is)
-      (subst (λ (n : ℕ). Answers (old.batches ++ more) (is_dead old.journal) (length old.batches) (Get key) (length old.batches)
+      (subst (λ (n : ℕ). AnswersPlainly (old.batches ++ more) (is_dead old.journal) (length old.batches) (Get key) (length old.batches)
       (get_line 0 key (answer old.batches (length old.batches) key) n)) (visible_front old.batches more)
-      (subst (λ (v : Option (List ℕ)). Answers (old.batches ++ more) (is_dead old.journal) (length old.batches) (Get key)
-      (length old.batches) (get_line 0 key v (visible_after (old.batches ++ more) (length old.batches))))
+      (subst (λ (v : Option (List ℕ)). AnswersPlainly (old.batches ++ more) (is_dead old.journal) (length old.batches) (Get key)
+      (length old.batches) (get_line 0 key v (plainly_visible_after (old.batches ++ more) (length old.batches))))
       (answer_front old.batches more key) (read key)))) o
       (λ still. subst (λ (a : Act). IsShort old.limited (g.front ++ a ∷ []) g.own) (sym is)
       (none_more g.front (Get key) g.own refl old.limited (g.short still)))
@@ -323,8 +323,8 @@ has_gone tells base start wal acts stage new rest end status g none e status_is 
             (answers_later stage.batches false (is_dead stage.journal) end.died (length base) g.front (length stage.batches) stage.text
             (subst (λ (bs : List Batch). AnswersAll bs false (is_dead stage.journal) (length base) g.front
             (length stage.batches) stage.text) (append-nil stage.batches) (g.answered [])) (by_end end.died refl)));
-        text_is = e.reply ∙ ap (λ (bs : List Batch). stage.text ++ end_line (end_after NUMBER_FIRST bs) (len new.journal) end) is
-            ∙ ap (λ (n : ℕ). stage.text ++ end_line (end_after NUMBER_FIRST (base ++ g.own)) n end) ended.0;
+        text_is = e.reply ∙ ap (λ (bs : List Batch). stage.text ++ plain_end_line (end_after NUMBER_FIRST bs) (len new.journal) end) is
+            ∙ ap (λ (n : ℕ). stage.text ++ plain_end_line (end_after NUMBER_FIRST (base ++ g.own)) n end) ended.0;
       };
       short = λ lives. subst (λ (l : List Act). IsShort stage.limited l g.own) (sym all) (g.short (e.lives lives));
       ended = ended.1;

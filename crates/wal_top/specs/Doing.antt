@@ -18,7 +18,7 @@ use Rattle.wal_top.specs.declared.script.Act.TheVariants.{Commit, Get}
 use Rattle.failover_writer.specs.declared.fault.JournalEnd.{JournalEnd}
 use Rattle.wal_top.specs.declared.status.Status.{Status}
 use Rattle.wal_top.specs.declared.status.Status.TheVariants.{Done, Disk, Limit}
-use Rattle.wal_top.specs.Printing.{commit_line, limit_line, dead_line, get_line, end_line}
+use Rattle.wal_top.specs.Printing.{commit_line, limit_line, dead_line, get_line, plain_end_line}
 use Rattle.wal_top.specs.Replay.{IsReplayText, AllCommitted, LacksBatch}
 use Rattle.failover_writer.specs.Running.{Runs, HasEnded, RunsOn, RunsStill}
 
@@ -114,7 +114,7 @@ pub record EndsRun (tells : Bool) (end : JournalEnd) (old new : Stage) : Type 0 
   pub lives : end.died ≡ false → old.journal.dead ≡ None
   pub numbered : IsContiguous NUMBER_FIRST old.batches
   pub within : end_after NUMBER_FIRST old.batches ≤ NUMBER_MAX
-  pub reply : new.text ≡ old.text ++ end_line (end_after NUMBER_FIRST old.batches) (len new.journal) end
+  pub reply : new.text ≡ old.text ++ plain_end_line (end_after NUMBER_FIRST old.batches) (len new.journal) end
   pub ended : (start : DiskView) (wal first : ℕ) (own : List Batch) → Runs THRESHOLD tells start wal first own old.journal old.view
       → (len new.journal ≡ length own) × HasEnded THRESHOLD tells start wal first own end new.view
 

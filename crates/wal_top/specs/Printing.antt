@@ -26,13 +26,13 @@ unfoldable pub dead_line : ℕ → List ℕ
 dead_line session = codes "s" ++ decimal session ++ codes " commit dead" ++ 10 ∷ []
 
 -- ` = V`, or ` none`
-abbrev pub printed_answer : Option (List ℕ) → List ℕ
-printed_answer None = codes " none"
-printed_answer (Some value) = codes " = " ++ printed value
+abbrev pub plain_answer : Option (List ℕ) → List ℕ
+plain_answer None = codes " none"
+plain_answer (Some value) = codes " = " ++ printed value
 
 -- `sS get K = V @N`, or `sS get K none @N`
 unfoldable pub get_line : ℕ → List ℕ → Option (List ℕ) → ℕ → List ℕ
-get_line session key value visible = codes "s" ++ decimal session ++ codes " get " ++ printed key ++ printed_answer value ++ codes " @" ++
+get_line session key value visible = codes "s" ++ decimal session ++ codes " get " ++ printed key ++ plain_answer value ++ codes " @" ++
     decimal visible ++ 10 ∷ []
 
 -- how a journal ended: ` dead`, or ` closed`
@@ -41,8 +41,8 @@ how_ended true = codes " dead\n"
 how_ended false = codes " closed\n"
 
 -- `end visible V batches B acked A segments G W`
-unfoldable pub end_line : ℕ → ℕ → JournalEnd → List ℕ
-end_line visible batches end =
+unfoldable pub plain_end_line : ℕ → ℕ → JournalEnd → List ℕ
+plain_end_line visible batches end =
     codes "end visible " ++ decimal visible ++ codes " batches " ++ decimal batches ++ codes " acked " ++ decimal end.acked ++ codes
     " segments " ++ decimal end.segments ++ how_ended end.died
 

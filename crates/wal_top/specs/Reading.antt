@@ -3,8 +3,8 @@ use Rattle.std.specs.Prelude.{◌≡◌, ℕ, ◌<◌, ◌≤◌, List, [], ◌+
 use Rattle.wal_base.specs.Told.{told_front}
 use Rattle.wal_top.specs.declared.reading.TheConstants.{SCRIPT_MAX}
 use Rattle.wal_top.specs.declared.script.Act.{Act}
-use Rattle.wal_top.specs.Cutting.{lines_of}
-use Rattle.wal_top.specs.Script.{IsScript, IsFirstBad}
+use Rattle.wal_top.specs.Cutting.{plain_lines_of}
+use Rattle.wal_top.specs.Script.{IsPlainScript, IsFirstBadPlain}
 
 -- So many bytes were taken of the source, and stand after the old ones.
 pub record AddsPiece (count : ℕ) (before after : Option (List ℕ)) (old new : List ℕ) : Type 0 where
@@ -29,7 +29,7 @@ pub record ReadsScript (before : Option (List ℕ)) (acts : List Act) (after : O
   pub script : List ℕ
   pub whole : ReadsWhole before script after
   pub within : length script ≤ SCRIPT_MAX
-  pub asks : IsScript script acts
+  pub asks : IsPlainScript script acts
 
 -- More bytes stood there than a script may have.
 pub record ReadsTooMuch (before after : Option (List ℕ)) : Type 0 where
@@ -42,18 +42,18 @@ pub record ReadsBadLine (before : Option (List ℕ)) (number : ℕ) (after : Opt
   pub script : List ℕ
   pub whole : ReadsWhole before script after
   pub within : length script ≤ SCRIPT_MAX
-  pub bad : IsFirstBad (lines_of script) number
+  pub bad : IsFirstBadPlain (plain_lines_of script) number
 
 -- The script is accepted.
 pub record IsGoodScript (script : List ℕ) : Type 0 where
   pub within : length script ≤ SCRIPT_MAX
   pub acts : List Act
-  pub asks : IsScript script acts
+  pub asks : IsPlainScript script acts
 
 -- The script is too long, or has a bad line.
 pub data IsNoScript (script : List ℕ) : Type 0 where
   longer : SCRIPT_MAX < length script → IsNoScript script
-  bad : (number : ℕ) → length script ≤ SCRIPT_MAX → IsFirstBad (lines_of script) number → IsNoScript script
+  bad : (number : ℕ) → length script ≤ SCRIPT_MAX → IsFirstBadPlain (plain_lines_of script) number → IsNoScript script
 
 -- The source tells a script that is accepted.
 pub record TellsScript (told : Option (List ℕ)) : Type 0 where

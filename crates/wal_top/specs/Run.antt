@@ -20,7 +20,7 @@ use Rattle.wal_top.specs.declared.status.Status.TheVariants.{Done, Usage, Script
 use Rattle.wal_top.specs.Call.{Change, change_in, Invocation, Rises, Stays, HasCalmSource, HasCalmDisk}
 use Rattle.wal_top.specs.Words.{IsCommand, IsReplay, IsRecover, IsDump, RecoversIn, ReadsSource, HasJournal, StartsOperations}
 use Rattle.wal_top.specs.Reading.{TookAtMost, TellsScript, TellsNoScript}
-use Rattle.wal_top.specs.Replay.{numbers_taken}
+use Rattle.wal_top.specs.Replay.{plain_numbers_taken}
 use Rattle.failover_writer.specs.Running.{OthersOnlySynced}
 use Rattle.wal_top.specs.Outcomes.{HasToSay}
 
@@ -92,7 +92,7 @@ pub record MayBegin (c : Invocation) : Type 0 where
 
 -- the number after all commits of the script
 abbrev pub end_of_script : {c : Invocation} → MayBegin c → ℕ
-end_of_script begin = end_after NUMBER_FIRST begin.base + sum_by numbers_taken begin.script.good.acts
+end_of_script begin = end_after NUMBER_FIRST begin.base + sum_by plain_numbers_taken begin.script.good.acts
 
 -- The exact causes: where one of these holds, its status comes.
 pub record ComesExactly (r : Run) (status : Status) : Type 0 where

@@ -8,59 +8,59 @@ use Rattle.batch_repr.specs.declared.limits.TheConstants.{KEY_MAX}
 use Rattle.batch_repr.specs.Building.{FitsBatch}
 use Rattle.wal_top.specs.declared.script.Act.{Act}
 use Rattle.wal_top.specs.declared.script.Act.TheVariants.{Commit, Get}
-use Rattle.wal_top.specs.Cutting.{lines_of, words_of}
+use Rattle.wal_top.specs.Cutting.{plain_lines_of, plain_words_of}
 
 -- a byte of a word: from 0x21 to 0x7E, and no semicolon
-abbrev pub IsWordByte : ℕ → Type 0
-IsWordByte b = (33 ≤ b) × (b ≤ 126) × (b ≢ 59)
+abbrev pub IsPlainWordByte : ℕ → Type 0
+IsPlainWordByte b = (33 ≤ b) × (b ≤ 126) × (b ≢ 59)
 
-abbrev pub IsWord : List ℕ → Type 0
-IsWord word = (word ≢ []) × All IsWordByte word
+abbrev pub IsPlainWord : List ℕ → Type 0
+IsPlainWord word = (word ≢ []) × All IsPlainWordByte word
 
 -- `commit 0 nosync set K V`: a batch that sets one key, not synced
-pub record AsksToCommit (words : List (List ℕ)) (entries : List Entry) : Type 0 where
+pub record AsksPlainlyToCommit (words : List (List ℕ)) (entries : List Entry) : Type 0 where
   pub key : List ℕ
   pub value : List ℕ
   pub words_are : words ≡ codes "commit" ∷ codes "0" ∷ codes "nosync" ∷ codes "set" ∷ key ∷ value ∷ []
-  pub key_word : IsWord key
-  pub value_word : IsWord value
+  pub key_word : IsPlainWord key
+  pub value_word : IsPlainWord value
   pub entries_are : entries ≡ Set key value ∷ []
   pub fits : FitsBatch entries
 
 -- `get 0 K`: the value of a key
-pub record AsksToGet (words : List (List ℕ)) (key : List ℕ) : Type 0 where
+pub record AsksPlainlyToGet (words : List (List ℕ)) (key : List ℕ) : Type 0 where
   pub words_are : words ≡ codes "get" ∷ codes "0" ∷ key ∷ []
-  pub key_word : IsWord key
+  pub key_word : IsPlainWord key
   pub short : length key ≤ KEY_MAX
 
 -- The words ask for this.
 abbrev pub Asks : List (List ℕ) → Act → Type 0
-Asks words (Commit entries) = AsksToCommit words entries
-Asks words (Get key) = AsksToGet words key
+Asks words (Commit entries) = AsksPlainlyToCommit words entries
+Asks words (Get key) = AsksPlainlyToGet words key
 
 -- An empty line, and one that begins with #, say nothing.
-abbrev pub SaysNothing : List ℕ → Type 0
-SaysNothing line = (line ≡ []) ⊎ (slice_get line 0 ≡ Some 35)
+abbrev pub SaysPlainlyNothing : List ℕ → Type 0
+SaysPlainlyNothing line = (line ≡ []) ⊎ (slice_get line 0 ≡ Some 35)
 
 -- what a line says: nothing, or what its words ask for
-abbrev pub LineSays : List ℕ → Option Act → Type 0
-LineSays line None = SaysNothing line
-LineSays line (Some act) = Asks (words_of line) act
+abbrev pub PlainLineSays : List ℕ → Option Act → Type 0
+PlainLineSays line None = SaysPlainlyNothing line
+PlainLineSays line (Some act) = Asks (plain_words_of line) act
 
 abbrev pub IsAcceptedLine : List ℕ → Type 0
-IsAcceptedLine line = (said : Option Act) × LineSays line said
+IsAcceptedLine line = (said : Option Act) × PlainLineSays line said
 
 -- Each line is accepted, and these acts are what they say, in order.
-abbrev pub LinesSay : List (List ℕ) → List Act → Type 0
-LinesSay [] acts = acts ≡ []
-LinesSay (line ∷ lines) acts = (said : Option Act) × (rest : List Act) × LineSays line said × LinesSay lines rest × (acts ≡ option_to_list said ++ rest)
+abbrev pub PlainLinesSay : List (List ℕ) → List Act → Type 0
+PlainLinesSay [] acts = acts ≡ []
+PlainLinesSay (line ∷ lines) acts = (said : Option Act) × (rest : List Act) × PlainLineSays line said × PlainLinesSay lines rest × (acts ≡ option_to_list said ++ rest)
 
 -- The bytes are a script that asks for these acts.
-abbrev pub IsScript : List ℕ → List Act → Type 0
-IsScript bytes acts = LinesSay (lines_of bytes) acts
+abbrev pub IsPlainScript : List ℕ → List Act → Type 0
+IsPlainScript bytes acts = PlainLinesSay (plain_lines_of bytes) acts
 
 -- The line of this number, counted from 1, is the first that is not accepted.
-pub record IsFirstBad (lines : List (List ℕ)) (number : ℕ) : Type 0 where
+pub record IsFirstBadPlain (lines : List (List ℕ)) (number : ℕ) : Type 0 where
   pub before : List (List ℕ)
   pub line : List ℕ
   pub after : List (List ℕ)

@@ -2,7 +2,7 @@
 
 ghost use Rattle.std.specs.Prelude.{◌≡◌, ◌≢◌, ℕ, List, [], ◌∷◌, true, false, IfSome, IfNone};
 ghost use Rattle.memchr.specs.Find.{IsFirstByte};
-ghost use Rattle.wal_top.specs.Cutting.{is_cut, lines_of, words_of};
+ghost use Rattle.wal_top.specs.Cutting.{is_plain_cut, plain_lines_of, plain_words_of};
 
 use memchr::{memchr, memchr2};
 use std::marker::Model;
@@ -19,7 +19,7 @@ pub(crate) enum Cut {
 impl Cut {
     /// The place of the first cut.
     fn first_in(self, text: &[u8]) -> Option<usize>
-        ensures { IsFirstByte (is_cut self) text.now result }
+        ensures { IsFirstByte (is_plain_cut self) text.now result }
     {
         match self {
             Cut::AtLineFeeds => memchr(b'\n', text),
@@ -38,17 +38,17 @@ pub(crate) struct Pieces<'a> {
 
 impl<'a> Model for Pieces<'a> {
     ghost use Rattle.std.specs.Prelude.{List, ℕ};
-    ghost use Rattle.wal_top.specs.Cutting.{pieces_left};
+    ghost use Rattle.wal_top.specs.Cutting.{plain_pieces_left};
 
     ghost Value = { List (List ℕ) };
 
-    ghost view = { λ a. pieces_left a.cut a.rest.now a.is_done };
+    ghost view = { λ a. plain_pieces_left a.cut a.rest.now a.is_done };
 }
 
 impl<'a> Pieces<'a> {
     /// The lines of a script.
     pub(crate) fn lines(script: &'a [u8]) -> Pieces<'a>
-        ensures { result ≡ lines_of script.now }
+        ensures { result ≡ plain_lines_of script.now }
     {
         Pieces {
             cut: Cut::AtLineFeeds,
@@ -59,7 +59,7 @@ impl<'a> Pieces<'a> {
 
     /// The words of a line.
     pub(crate) fn words(line: &'a [u8]) -> Pieces<'a>
-        ensures { result ≡ words_of line.now }
+        ensures { result ≡ plain_words_of line.now }
     {
         Pieces {
             cut: Cut::AtBlanks,

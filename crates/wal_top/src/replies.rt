@@ -1,7 +1,7 @@
 //! The lines of the text of a replay.
 
 ghost use Rattle.std.specs.Prelude.{◌≡◌, ◌++◌, OnOk, option_map};
-ghost use Rattle.wal_top.specs.Printing.{printed_answer, commit_line, limit_line, dead_line, get_line, end_line};
+ghost use Rattle.wal_top.specs.Printing.{plain_answer, commit_line, limit_line, dead_line, get_line, plain_end_line};
 
 use failover_writer::JournalEnd;
 use std::alloc::Global;
@@ -10,7 +10,7 @@ use wal_base::{Buf, NoMemory};
 
 /// Adds the answer to a read.
 fn put_answer(out: &mut Buf, value: Option<&[u8]>) -> Result<(), NoMemory>
-    ensures { OnOk result (out.new ≡ out.old ++ printed_answer (option_map (λ v. v.now) value.entry)) }
+    ensures { OnOk result (out.new ≡ out.old ++ plain_answer (option_map (λ v. v.now) value.entry)) }
 {
     match value {
         Some(value) => {
@@ -78,7 +78,7 @@ pub(crate) fn put_end(
     batches: u64,
     end: &JournalEnd,
 ) -> Result<(), NoMemory>
-    ensures { OnOk result (out.new ≡ out.old ++ end_line visible batches end.now) }
+    ensures { OnOk result (out.new ≡ out.old ++ plain_end_line visible batches end.now) }
 {
     let (acked, segments) = (end.acked, end.segments);
     let line = format!(in alloc;

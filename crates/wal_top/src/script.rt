@@ -8,9 +8,9 @@ ghost use Rattle.batch_repr.specs.Building.{FitsBatch};
 ghost use Rattle.wal_top.specs.declared.script.Act.{Act};
 ghost use Rattle.wal_top.specs.declared.script.Act.TheVariants.{Commit, Get};
 ghost use Rattle.wal_top.specs.declared.script.ScriptError.TheVariants as script_errors;
-ghost use Rattle.wal_top.specs.Cutting.{lines_of, words_of};
-ghost use Rattle.wal_top.specs.Script.{IsWord, Asks, LineSays, IsAcceptedLine, IsScript, IsFirstBad};
-ghost use Rattle.wal_top.specs.Replay.{numbers_taken};
+ghost use Rattle.wal_top.specs.Cutting.{plain_lines_of, plain_words_of};
+ghost use Rattle.wal_top.specs.Script.{IsPlainWord, Asks, PlainLineSays, IsAcceptedLine, IsPlainScript, IsFirstBadPlain};
+ghost use Rattle.wal_top.specs.Replay.{plain_numbers_taken};
 
 use crate::pieces::Pieces;
 use batch_repr::{BatchBuilder, BuildFault, KEY_MAX, Unnumbered};
@@ -63,7 +63,7 @@ pub(crate) enum ScriptError {
 
 /// Whether the bytes may stand as a word of a line.
 fn is_word(bytes: &[u8]) -> bool
-    ensures { IsTrue result ↔ IsWord bytes.now }
+    ensures { IsTrue result ↔ IsPlainWord bytes.now }
 {
     !bytes.is_empty() && bytes.iter().all(|b| *b >= 0x21 && *b <= 0x7E && *b != b';')
 }
@@ -88,8 +88,8 @@ fn batch_of(alloc: Global, key: &[u8], value: &[u8]) -> Result<Unnumbered, LineE
 
 /// The last two words, if they are a key and a value.
 fn last_pair<'a>(words: &mut Pieces<'a>) -> Option<(&'a [u8], &'a [u8])>
-    ensures some { IfSome result (λ p. (words.old ≡ p.0.now ∷ p.1.now ∷ []) × IsWord p.0.now × IsWord p.1.now) }
-    ensures none { IfNone result ((key value : List ℕ) → words.old ≡ key ∷ value ∷ [] → IsWord key → IsWord value → ⊥) }
+    ensures some { IfSome result (λ p. (words.old ≡ p.0.now ∷ p.1.now ∷ []) × IsPlainWord p.0.now × IsPlainWord p.1.now) }
+    ensures none { IfNone result ((key value : List ℕ) → words.old ≡ key ∷ value ∷ [] → IsPlainWord key → IsPlainWord value → ⊥) }
 {
     let key = words.next()?;
     let value = words.next()?;
@@ -128,8 +128,8 @@ fn commit_of(alloc: Global, words: &mut Pieces<'_>) -> Result<Act, LineError>
 
 /// The last word, if it is a key within its limit.
 fn last_key<'a>(words: &mut Pieces<'a>) -> Option<&'a [u8]>
-    ensures some { IfSome result (λ key. (words.old ≡ key.now ∷ []) × IsWord key.now × (length key.now ≤ KEY_MAX)) }
-    ensures none { IfNone result ((key : List ℕ) → words.old ≡ key ∷ [] → IsWord key → length key ≤ KEY_MAX → ⊥) }
+    ensures some { IfSome result (λ key. (words.old ≡ key.now ∷ []) × IsPlainWord key.now × (length key.now ≤ KEY_MAX)) }
+    ensures none { IfNone result ((key : List ℕ) → words.old ≡ key ∷ [] → IsPlainWord key → length key ≤ KEY_MAX → ⊥) }
 {
     let key = words.next()?;
     if words.next().is_some() {
@@ -161,8 +161,8 @@ fn get_of(alloc: Global, words: &mut Pieces<'_>) -> Result<Act, LineError>
 
 /// What the words of a line ask for.
 fn act_of(alloc: Global, line: &[u8]) -> Result<Act, LineError>
-    ensures asks { IfOk result (Asks (words_of line.now)) }
-    ensures bad { IsErrOf result LineError.Bad → (act : Act) → Asks (words_of line.now) act → ⊥ }
+    ensures asks { IfOk result (Asks (plain_words_of line.now)) }
+    ensures bad { IsErrOf result LineError.Bad → (act : Act) → Asks (plain_words_of line.now) act → ⊥ }
 {
     let mut words = Pieces::words(line);
     let Some(verb) = words.next() else {
@@ -179,7 +179,7 @@ fn act_of(alloc: Global, line: &[u8]) -> Result<Act, LineError>
 
 /// What a line says: nothing, or what it asks for.
 fn said_by(alloc: Global, line: &[u8]) -> Result<Option<Act>, LineError>
-    ensures said { IfOk result (LineSays line.now) }
+    ensures said { IfOk result (PlainLineSays line.now) }
     ensures bad { IsErrOf result LineError.Bad → IsAcceptedLine line.now → ⊥ }
 {
     if line.is_empty() || line[0] == b'#' {
@@ -190,7 +190,7 @@ fn said_by(alloc: Global, line: &[u8]) -> Result<Option<Act>, LineError>
 
 /// Adds what a line says to what the lines before it said.
 fn add_said(alloc: Global, acts: &mut VecDeque<Act>, line: &[u8]) -> Result<(), LineError>
-    ensures said { OnOk result ((said : Option Act) × LineSays line.now said × (acts.new.items ≡ acts.old.items ++ option_to_list said)) }
+    ensures said { OnOk result ((said : Option Act) × PlainLineSays line.now said × (acts.new.items ≡ acts.old.items ++ option_to_list said)) }
     ensures bad { IsErrOf result LineError.Bad → IsAcceptedLine line.now → ⊥ }
 {
     let Some(act) = said_by(alloc, line)? else {
@@ -204,9 +204,9 @@ fn add_said(alloc: Global, acts: &mut VecDeque<Act>, line: &[u8]) -> Result<(), 
 
 /// What a script asks for, or its first bad line. Each line takes one number at the most.
 pub(crate) fn read_script(alloc: Global, script: &[u8]) -> Result<VecDeque<Act>, ScriptError>
-    ensures asks { IfOk result (λ acts. IsScript script.now acts.items) }
-    ensures few { IfOk result (λ acts. sum_by numbers_taken acts.items ≤ length script.now + 1) }
-    ensures bad { (n : ℕ) → result ≡ Err (script_errors.BadLine n) → IsFirstBad (lines_of script.now) n }
+    ensures asks { IfOk result (λ acts. IsPlainScript script.now acts.items) }
+    ensures few { IfOk result (λ acts. sum_by plain_numbers_taken acts.items ≤ length script.now + 1) }
+    ensures bad { (n : ℕ) → result ≡ Err (script_errors.BadLine n) → IsFirstBadPlain (plain_lines_of script.now) n }
 {
     let mut acts = VecDeque::new(alloc);
     let mut lines = Pieces::lines(script);

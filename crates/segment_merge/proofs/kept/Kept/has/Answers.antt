@@ -3,7 +3,7 @@ use Rattle.std.proofs.lemmas.Bool.Decides.{nat_tests}
 use Rattle.std.specs.Prelude.{Contains, MatchBool}
 use Rattle.std.proofs.lemmas.List.Sorted.{IsPartitionPoint-from_clause}
 use Rattle.batch_repr.specs.declared.batch.Batch.{Batch}
-use Rattle.segment_merge.specs.Merging.{IsAscending}
+use Rattle.segment_merge.specs.Merging.{AscendByNumber}
 use Rattle.segment_merge.proofs.Search.{EndsAt, partitioned, found_there, found_nowhere}
 use Rattle.segment_merge.proofs.kept.Kept.has.Goals as goal
 
@@ -11,7 +11,7 @@ pub returns-in-Some : goal.returns-in-Some
 returns-in-Some c =
     let batches = c.as_slice-batches.result.now in
     let place = c.partition_point-place.result in
-    let up : IsAscending 0 batches = subst (IsAscending 0) (sym c.as_slice-batches.ensures) c.self.invariant.ascending in
+    let up : AscendByNumber 0 batches = subst (AscendByNumber 0) (sym c.as_slice-batches.ensures) c.self.invariant.ascending in
     let point : EndsAt batches c.args.batch.now place =
     IsPartitionPoint-from_clause (λ (b : Batch). ltb b.first c.args.batch.now.first) _ _ c.partition_point-place.ensures.partitioned (partitioned batches c.args.batch.now.first up)
     (λ a r q k. search rules) in
@@ -25,7 +25,7 @@ pub returns-in-None : goal.returns-in-None
 returns-in-None c =
     let batches = c.as_slice-batches.result.now in
     let place = c.partition_point-place.result in
-    let up : IsAscending 0 batches = subst (IsAscending 0) (sym c.as_slice-batches.ensures) c.self.invariant.ascending in
+    let up : AscendByNumber 0 batches = subst (AscendByNumber 0) (sym c.as_slice-batches.ensures) c.self.invariant.ascending in
     let point : EndsAt batches c.args.batch.now place =
     IsPartitionPoint-from_clause (λ (b : Batch). ltb b.first c.args.batch.now.first) _ _ c.partition_point-place.ensures.partitioned (partitioned batches c.args.batch.now.first up)
     (λ a r q k. search rules) in
