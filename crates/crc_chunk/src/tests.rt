@@ -1,6 +1,8 @@
 use crate::{
-    BLOCK, ChunkKind, ChunkSpan, HEADER, chunk_at, chunk_in, crc32c, header_of, masked, put_chunk,
+    ChunkKind, ChunkSpan, HEADER, chunk_at, chunk_in, crc32c, header_of, masked, put_chunk,
 };
+use std::alloc::Global;
+use std::process::Abort;
 
 /// The bytes that another program, which goes bit by bit, took the checksums of.
 const BYTES: [u8; 40] = [
@@ -67,16 +69,24 @@ fn chunks_of_the_examples(rt: HostRuntime) {
     assert_eq!(rt; chunk_at(&block, 0, 2), None);
 }
 
+/// A block of zeros, and a chunk after it.
+fn in_second_block(rt: &impl Abort, alloc: Global, chunk: &[u8]) -> Vec<u8> {
+    let mut segment = vec![in alloc; 0u8; 32_768].expect(rt, "memory");
+    segment.extend_from_slice(chunk).expect(rt, "memory");
+    segment
+}
+
 #[test]
 fn a_chunk_of_a_second_block(rt: HostRuntime) {
-    let mut segment = [0; BLOCK + 28];
-    put_chunk(&mut segment[BLOCK..], ChunkKind::Full, 1, &PAYLOAD);
+    let mut chunk = [0; 28];
+    put_chunk(&mut chunk, ChunkKind::Full, 1, &PAYLOAD);
+    let segment = in_second_block(&rt, rt.alloc(), &chunk);
     let span = ChunkSpan {
         kind: ChunkKind::Full,
         from: 32_779,
         to: 32_796,
     };
-    assert_eq!(rt; chunk_in(&segment, BLOCK, 1), Some(span));
-    assert_eq!(rt; chunk_in(&segment, 0, 1), None);
-    assert_eq!(rt; chunk_in(&segment[..BLOCK + 27], BLOCK, 1), None);
+    assert_eq!(rt; chunk_in(segment.as_slice(), 32_768, 1), Some(span));
+    assert_eq!(rt; chunk_in(segment.as_slice(), 0, 1), None);
+    assert_eq!(rt; chunk_in(segment.as_slice(), 32_768, 2), None);
 }
