@@ -1,0 +1,25 @@
+pub mod Laws
+mod Comparing
+mod Counting
+mod Cuts
+mod Drafting
+mod EntriesSoFar
+mod Examples
+mod Exhausted
+mod Fits
+mod InOrder
+mod Lasting
+mod Limits
+mod LinesSoFar
+mod Naming
+mod Numerals
+mod OneAnswer
+mod OneReplies
+mod OneScript
+mod Parts
+mod Prefixes
+mod Refused
+mod ScriptExamples
+mod SessionSums
+mod Taking
+mod WordTests

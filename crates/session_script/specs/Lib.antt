@@ -1,0 +1,11 @@
+pub mod Words
+pub mod Cutting
+pub mod Spelled
+pub mod Lines
+pub mod Next
+pub mod Script
+pub mod Drafts
+pub mod Replies
+pub mod Legal
+pub mod Lasting
+pub mod Theorems

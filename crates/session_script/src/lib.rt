@@ -1,0 +1,34 @@
+//! The script that a replay runs: rounds of what sessions do, and the polls that are stalled; and the replies to its lines.
+//!
+//! Stands on `batch_repr` for the batches, on `disk_face` for the two sides, on `text_lines` for how bytes are printed, and
+//! on `wal_base` for bytes and lists. The layer above uses three contracts: `read_script` answers which script the bytes
+//! are, or the number of the first line that is bad; `put_reply` adds exactly the line of a reply; and the definition of
+//! which replies are legal, `AreLegal`, says what a run may answer to a script, whichever session goes first.
+//!
+//! A script is read in one pass, line by line, and each word once: `pieces` cuts the lines and their words, `words` reads
+//! names and numbers, `entries` the entries of a batch, `sayings` what one line says, and `reading` joins what the
+//! lines say into rounds. The bytes of a key, a value or a note are copied once, as their line is read. `replies` has the
+//! replies and the last line of a run.
+#![tactic(auto)]
+
+mod entries;
+mod fault;
+mod pieces;
+mod reading;
+mod replies;
+mod sayings;
+mod script;
+mod theorems;
+mod words;
+
+pub use fault::ScriptFault;
+pub use reading::read_script;
+pub use replies::{RunEnd, Said, put_reply, put_run_end};
+pub use script::{Act, Line, Lines, POLLS_MAX, Round, Rounds, Script, StallLine, Stalls};
+pub use theorems::{
+    a_script_counts_its_sessions_and_few_numbers, answers_in_order_are_legal, bytes_are_one_script,
+    bytes_have_one_first_bad_line, one_session_fixes_the_replies,
+};
+
+#[cfg(test)]
+mod tests;
