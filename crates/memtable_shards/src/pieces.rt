@@ -1,0 +1,201 @@
+//! A batch's versions, cut by shard before the batch has its numbers.
+
+ghost use Rattle.std.specs.Prelude.{◌≡◌, ◌+◌, ◌≤◌, [], ◌∷◌, None, Some, List, length, map};
+ghost use Rattle.std.specs.Prelude.{IsSome, IfOk, OnOk, IfSome, IfNone};
+ghost use Rattle.std.specs.Option.{option_to_list};
+ghost use Rattle.std.specs.VecDeque.{deque_items};
+ghost use Rattle.batch_repr.specs.declared.limits.TheConstants.{NUMBER_MAX};
+ghost use Rattle.batch_repr.specs.Batches.{count_of};
+ghost use Rattle.memtable_shards.specs.declared.version.Version.{Version};
+ghost use Rattle.memtable_shards.specs.Versions.{versions_from};
+ghost use Rattle.memtable_shards.specs.Parts.{AreByShard, AddsByShard, ArePiecesOfLists, IsNodeOf};
+ghost use Rattle.memtable_shards.specs.Pieces.{whole_pieces, IsNextPiece, NoPieceIsLeft};
+
+use crate::part::{Part, Piece};
+use crate::sharding::{SHARDS, shard_index};
+use crate::version::Version;
+use batch_repr::Unnumbered;
+use std::alloc::Global;
+use std::collections::{LinkedList, VecDeque};
+use std::marker::Model;
+use std::snapshot::Snapshot;
+use wal_base::{Entries, Entry, NoMemory};
+
+/// The versions that a batch has for one shard, in one node that is linked without memory.
+/// Contracts see the list of them.
+#[derive(Drop)]
+pub struct PieceNode {
+    pub(crate) node: LinkedList<Part>,
+}
+
+impl Model for PieceNode {
+    ghost use Rattle.std.specs.Prelude.{List};
+    ghost use Rattle.memtable_shards.specs.declared.version.Version.{Version};
+    ghost use Rattle.memtable_shards.specs.Parts.{waiting_in, MayWait};
+
+    ghost Value = { List Version };
+
+    ghost view = { λ a. waiting_in a.node };
+
+    ghost invariant = { λ a. MayWait a.node };
+}
+
+/// A batch's versions in pieces, one for each shard that has any. Contracts see the entries, the first
+/// number, if they are numbered, and the shard from which on pieces are left.
+#[derive(Drop)]
+pub struct Pieces {
+    entries: Snapshot<Entries>,
+    first: Option<u64>,
+    from: usize,
+    left: VecDeque<Piece>,
+}
+
+impl Model for Pieces {
+    ghost use Rattle.memtable_shards.specs.Pieces.{PiecesLeft};
+    ghost use Rattle.memtable_shards.specs.Parts.{AreCut};
+
+    ghost Value = { PiecesLeft };
+
+    ghost view = { λ a. record { entries = a.entries.value; first = a.first; from = a.from } };
+
+    ghost invariant = { λ a. AreCut a.entries.value a.first a.from a.left.items };
+}
+
+impl Pieces {
+    /// Gives each entry but the notes its number, from this one on. It takes no memory.
+    pub fn number(&mut self, first: u64)
+        requires fresh { self.old.first ≡ None }
+        requires within { first + count_of self.old.entries ≤ NUMBER_MAX }
+        ensures { self.new ≡ record self.old { first = Some first } }
+    {
+        self.first = Some(first);
+    }
+
+    /// Hands out the piece of the next shard that has one, with the shard. `None` exactly where all were
+    /// handed out. It takes no memory.
+    pub fn take(&mut self) -> Option<(usize, PieceNode)>
+        requires numbered { IsSome self.old.first }
+        ensures next { IfSome result (λ piece. IsNextPiece self.old piece.0 piece.1) }
+        ensures handed { IfSome result (λ piece. self.new ≡ record self.old { from = piece.0 + 1 }) }
+        ensures none { IfNone result (NoPieceIsLeft self.old) }
+        ensures same { IfNone result (self.new ≡ self.old) }
+    {
+        let Some(first) = self.first else {
+            unreachable!();
+        };
+        let Piece { shard, mut node } = self.left.pop_front()?;
+        number_node(&mut node, first);
+        self.from = shard + 1;
+        Some((shard, PieceNode { node }))
+    }
+}
+
+/// Gives the part of a node its first number.
+fn number_node(node: &mut LinkedList<Part>, first: u64)
+    ensures { (versions : List Version) → IsNodeOf 0 versions node.old → IsNodeOf first versions node.new }
+{
+    if let Some(part) = node.front_mut() {
+        part.first = first;
+    }
+}
+
+/// Cuts a batch's versions into pieces. Their bytes are shared with the batch, and not copied.
+pub fn split(alloc: Global, batch: &Unnumbered) -> Result<Pieces, NoMemory>
+    ensures { IfOk result (λ pieces. pieces ≡ whole_pieces batch.now) }
+{
+    split_entries(alloc, batch.entries())
+}
+
+/// Cuts the versions of entries into pieces. Their bytes are shared with the entries, and not copied.
+pub fn split_entries(alloc: Global, entries: &Entries) -> Result<Pieces, NoMemory>
+    ensures { IfOk result (λ pieces. pieces ≡ whole_pieces entries.now) }
+{
+    let parts = sort_versions(alloc, entries.as_slice())?;
+    let left = make_pieces(alloc, parts)?;
+    Ok(Pieces {
+        entries: Snapshot::of(entries),
+        first: None,
+        from: 0,
+        left,
+    })
+}
+
+/// A list of no version for each shard.
+fn empty_parts(alloc: Global) -> Result<Vec<VecDeque<Version>>, NoMemory>
+    ensures eight { IfOk result (λ parts. length parts.items ≡ SHARDS) }
+    ensures own { IfOk result (λ parts. AreByShard [] (map deque_items parts.items)) }
+{
+    let mut parts = Vec::with_capacity(alloc, SHARDS)?;
+    for _ in 0..SHARDS {
+        parts.push(VecDeque::new(alloc))?;
+    }
+    Ok(parts)
+}
+
+/// The version that an entry leaves under a number: none where it is a note.
+fn version_of(entry: &Entry, number: u64) -> Result<Option<Version>, NoMemory>
+    ensures { IfOk result (λ version. option_to_list version ≡ versions_from number (entry.now ∷ [])) }
+{
+    match entry {
+        Entry::Set { key, value } => Ok(Some(Version {
+            key: key.share()?,
+            number,
+            value: Some(value.share()?),
+        })),
+        Entry::Delete { key } => Ok(Some(Version {
+            key: key.share()?,
+            number,
+            value: None,
+        })),
+        Entry::Note { .. } => Ok(None),
+    }
+}
+
+/// Adds a version at the end of its shard's list.
+fn add_version(parts: &mut Vec<VecDeque<Version>>, version: Version) -> Result<(), NoMemory>
+    requires eight { length parts.old.items ≡ SHARDS }
+    ensures eight { length parts.new.items ≡ SHARDS }
+    ensures added { OnOk result (AddsByShard version (map deque_items parts.old.items) (map deque_items parts.new.items)) }
+{
+    let shard = shard_index(version.key.as_slice());
+    parts[shard].push_back(version)?;
+    Ok(())
+}
+
+/// The versions of the entries, numbered from 0 on, by their shards.
+fn sort_versions(alloc: Global, entries: &[Entry]) -> Result<Vec<VecDeque<Version>>, NoMemory>
+    ensures eight { IfOk result (λ parts. length parts.items ≡ SHARDS) }
+    ensures own { IfOk result (λ parts. AreByShard (versions_from 0 entries.now) (map deque_items parts.items)) }
+{
+    let mut parts = empty_parts(alloc)?;
+    let mut number = 0;
+    for entry in entries {
+        if let Some(version) = version_of(entry, number)? {
+            add_version(&mut parts, version)?;
+            number += 1;
+        }
+    }
+    Ok(parts)
+}
+
+/// A piece of each list that has a version, in order.
+fn make_pieces(
+    alloc: Global,
+    mut parts: Vec<VecDeque<Version>>,
+) -> Result<VecDeque<Piece>, NoMemory>
+    requires eight { length parts.items ≡ SHARDS }
+    ensures { IfOk result (λ pieces. ArePiecesOfLists (map deque_items parts.items) pieces.items) }
+{
+    let mut pieces = VecDeque::new(alloc);
+    while let Some(versions) = parts.pop() {
+        if !versions.is_empty() {
+            let mut node = LinkedList::new(alloc);
+            node.push_back(Part { first: 0, versions })?;
+            pieces.push_front(Piece {
+                shard: parts.len(),
+                node,
+            })?;
+        }
+    }
+    Ok(pieces)
+}
