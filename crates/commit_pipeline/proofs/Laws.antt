@@ -1,0 +1,4 @@
+-- What the crates above cite of these proofs, and all that they may.
+pub use Rattle.commit_pipeline.proofs.Numbering.{ends_before, no_base}
+pub use Rattle.commit_pipeline.proofs.Staging.{IsNumberedStore, numbered_store, pipeline_recovers}
+pub use Rattle.commit_pipeline.proofs.Committing.{commits_on}
