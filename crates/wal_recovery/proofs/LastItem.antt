@@ -27,19 +27,19 @@ no_hole [] n lt e = omega (arith, lt)
 no_hole (x ∷ xs) zero lt e = let no : Some x ≡ None = e in cc
 no_hole (x ∷ xs) (suc n) lt e = no_hole xs n (omega (arith, lt)) e
 
-behind_push : (front : List Found) (f : Found) → IsNextAfter (front ++ f ∷ []) (f.name.wal + 1)
+after_push : (front : List Found) (f : Found) → IsNextAfter (front ++ f ∷ []) (f.name.wal + 1)
 unfolding IsNextAfter
-behind_push [] f = refl
-behind_push (g ∷ []) f = refl
-behind_push (g ∷ h ∷ front) f = behind_push (h ∷ front) f
+after_push [] f = refl
+after_push (g ∷ []) f = refl
+after_push (g ∷ h ∷ front) f = after_push (h ∷ front) f
 
-pub behind_last : (row : List Found) (f : Found) → slice_get row (length row - 1) ≡ Some f → IsNextAfter row (f.name.wal + 1)
-behind_last row f g = let cut = last_cut row f g in subst (λ (r : List Found). IsNextAfter r (f.name.wal + 1)) (sym cut.1) (behind_push cut.0 f)
+pub after_last : (segments : List Found) (f : Found) → slice_get segments (length segments - 1) ≡ Some f → IsNextAfter segments (f.name.wal + 1)
+after_last segments f g = let cut = last_cut segments f g in subst (λ (r : List Found). IsNextAfter r (f.name.wal + 1)) (sym cut.1) (after_push cut.0 f)
 
-pub behind_none : (row : List Found) → slice_get row (length row - 1) ≡ None → IsNextAfter row 1
+pub after_none : (segments : List Found) → slice_get segments (length segments - 1) ≡ None → IsNextAfter segments 1
 unfolding IsNextAfter
-behind_none [] g = refl
-behind_none (f ∷ row) g = absurd (no_hole (f ∷ row) (length (f ∷ row) - 1) (omega arith) g)
+after_none [] g = refl
+after_none (f ∷ segments) g = absurd (no_hole (f ∷ segments) (length (f ∷ segments) - 1) (omega arith) g)
 
 -- the number after the last batch
 pub end_last : (from : ℕ) (batches : List Batch) (b : Batch) → slice_get batches (length batches - 1) ≡ Some b → end_of b ≡ end_after from batches
