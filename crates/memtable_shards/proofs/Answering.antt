@@ -1,11 +1,11 @@
 -- What one of the eight shards answers below the end of some batches is the answer after those batches.
-use Rattle.std.proofs.Common.{◌≡◌, inl, inr, ℕ, zero, suc, ◌≤◌, ◌<◌, List, [], ◌∷◌, ◌++◌, length, take, drop, Option, Some, None, refl, sym, ap, ◌∙◌, subst, arith, append_assoc}
+use Rattle.std.proofs.Common.{◌≡◌, inl, inr, ℕ, ◌≤◌, ◌<◌, List, [], ◌∷◌, ◌++◌, length, take, drop, Option, Some, None, refl, sym, ap, ◌∙◌, subst, arith, append_assoc}
 use Rattle.std.specs.Prelude.{Contains, slice_get, filter, option_and_then}
 use Rattle.std.specs.List.{last_or}
 use Rattle.std.proofs.lemmas.List.{take-append-drop, take_all}
 use Rattle.std.proofs.lemmas.List.Elements.{Contains-append_left, Contains-append_cases}
 use Rattle.batch_repr.specs.declared.batch.Batch.{Batch}
-use Rattle.batch_repr.specs.Batches.{end_of, IsContiguous, end_after, entries_in, answer, value_left, is_about}
+use Rattle.batch_repr.specs.Batches.{IsContiguous, end_after, entries_in, answer, value_left, is_about}
 use Rattle.batch_repr.proofs.Laws.{contiguous_back, contiguous_front}
 use Rattle.memtable_shards.specs.declared.version.Version.{Version}
 use Rattle.memtable_shards.specs.Versions.{versions_of, versions_in, shard_of, AreShardsOf}

@@ -1,11 +1,11 @@
 -- Versions by shard: filtered, renumbered, and cut into pieces.
 use Rattle.std.proofs.Common.{◌≡◌, ◌≢◌, ◌⊎◌, inl, inr, ℕ, zero, suc, ◌+◌, ◌≤◌, ◌<◌, Bool, true, false, cond, List, [], ◌∷◌, ◌++◌, length, take, Option, Some, None, refl, sym, ap, ◌∙◌, subst, arith, get_or, eqb, length-set, length-append}
-use Rattle.std.specs.Prelude.{Contains, map, slice_get}
+use Rattle.std.specs.Prelude.{Contains, slice_get}
 use Rattle.std.specs.List.{AllByRecursion}
 use Rattle.std.proofs.lemmas.Bool.Decides.{nat_tests}
 use Rattle.std.specs.Option.{option_to_list}
 use Rattle.batch_repr.specs.Batches.{count_of}
-use Rattle.std.proofs.lemmas.List.{append-nil, take_more, length-map, map-append, get_or-set_same, get_or-set_other}
+use Rattle.std.proofs.lemmas.List.{append-nil, take_more, get_or-set_same, get_or-set_other}
 use Rattle.std.proofs.Math.ListN.{set}
 use Rattle.std.proofs.lemmas.Option.{slice_get_within, get_or_from_slice_get, slice_get-get_or}
 use Rattle.std.proofs.lemmas.List.Elements.{filter-append}
@@ -14,10 +14,9 @@ use Rattle.wal_base.specs.declared.entry.Entry.{Entry}
 use Rattle.wal_base.specs.declared.entry.Entry.TheVariants.{Set, Delete, Note}
 use Rattle.memtable_shards.specs.declared.sharding.TheConstants.{SHARDS}
 use Rattle.memtable_shards.specs.declared.version.Version.{Version}
-use Rattle.memtable_shards.specs.declared.part.Part.{Part}
 use Rattle.memtable_shards.specs.declared.part.Piece.{Piece}
 use Rattle.memtable_shards.specs.Versions.{versions_from, shard_of, of_shard}
-use Rattle.memtable_shards.specs.Parts.{counted_from, HaveOwnNumbers, IsNodeOf, ArePiecesFrom, AreByShard}
+use Rattle.memtable_shards.specs.Parts.{counted_from, HaveOwnNumbers, ArePiecesFrom, AreByShard}
 use Rattle.memtable_shards.proofs.Numbers.{number_within, versions-append, count-append, count_is_length}
 use Rattle.memtable_shards.proofs.Counting.{moved}
 
@@ -230,75 +229,51 @@ pieces_skip versions from (piece ∷ pieces) none are = (
 )
 
 -- one shard more that has versions
-pub pieces_more : (versions : List Version) (from : ℕ) (piece : Piece) (pieces : List Piece) → piece.shard ≡ from → from < SHARDS
-    → IsNodeOf 0 (of_shard from versions) piece.node → of_shard from versions ≢ [] → ArePiecesFrom versions (from + 1) pieces
-    → ArePiecesFrom versions from (piece ∷ pieces)
+pub pieces_more : (versions : List Version) (from : ℕ) (piece : Piece) (pieces more : List Piece) → more ≡ piece ∷ pieces → piece.shard ≡ from → from < SHARDS
+    → piece.nodes ≡ of_shard from versions → of_shard from versions ≢ [] → ArePiecesFrom versions (from + 1) pieces
+    → ArePiecesFrom versions from more
 unfolding ArePiecesFrom
-pieces_more versions from piece pieces is within node some are =
-    subst (λ (s : ℕ). (from ≤ s) × (s < SHARDS) × ((version : Version) → Contains versions version → from ≤ shard_of version.key → s ≤ shard_of version.key)
-    × IsNodeOf 0 (of_shard s versions) piece.node × (of_shard s versions ≢ []) × ArePiecesFrom versions (s + 1) pieces) (sym is)
-    (omega arith, within, λ v h on. on, node, some, are)
+pieces_more versions from piece pieces more put is within own some are =
+    subst (ArePiecesFrom versions from) (sym put)
+    (subst (λ (s : ℕ). (from ≤ s) × (s < SHARDS) × ((version : Version) → Contains versions version → from ≤ shard_of version.key → s ≤ shard_of version.key)
+    × (piece.nodes ≡ of_shard s versions) × (of_shard s versions ≢ []) × ArePiecesFrom versions (s + 1) pieces) (sym is)
+    (omega arith, within, λ v h on. on, own, some, are))
 
 -- lists that are all empty, of which one more is
-pub empty_more : {X : Type 0} (f : X → List Version) (xs ys : List X) (x : X) → ys ≡ xs ++ x ∷ [] → f x ≡ []
-    → AllByRecursion (λ (l : List Version). l ≡ []) (map f xs) → AllByRecursion (λ (l : List Version). l ≡ []) (map f ys)
-empty_more {X = X} f xs ys x is none all = subst (λ (zs : List X). AllByRecursion (λ (l : List Version). l ≡ []) (map f zs)) (sym is) (go xs all)
+pub empty_more : (xs ys : List (List Version)) (x : List Version) → ys ≡ xs ++ x ∷ [] → x ≡ [] → AllByRecursion (λ (l : List Version). l ≡ []) xs
+    → AllByRecursion (λ (l : List Version). l ≡ []) ys
+empty_more xs ys x is none all = subst (AllByRecursion (λ (l : List Version). l ≡ [])) (sym is) (go xs all)
   where
-    go : (xs : List X) → AllByRecursion (λ (l : List Version). l ≡ []) (map f xs) → AllByRecursion (λ (l : List Version). l ≡ []) (map f (xs ++ x ∷ []))
+    go : (xs : List (List Version)) → AllByRecursion (λ (l : List Version). l ≡ []) xs → AllByRecursion (λ (l : List Version). l ≡ []) (xs ++ x ∷ [])
     go [] all = (none, tt)
     go (y ∷ xs) all = (all.0, go xs all.1)
 
-map-set : {X : Type 0} (f : X → List Version) (xs : List X) (i : ℕ) (y : X) → map f (set xs i y) ≡ set (map f xs) i (f y)
-map-set f [] i y = refl
-map-set f (x ∷ xs) zero y = refl
-map-set f (x ∷ xs) (suc i) y = ap (λ (t : List (List Version)). f x ∷ t) (map-set f xs i y)
+-- the same where the shard is known by its number
+pub by_shard_added : (versions : List Version) (v : Version) (lists : List (List Version)) (shard : ℕ) (was now : List Version) → AreByShard versions lists
+    → shard ≡ shard_of v.key → shard < length lists → was ≡ get_or lists shard was → now ≡ was ++ v ∷ []
+    → AreByShard (versions ++ v ∷ []) (set lists shard now)
+by_shard_added versions v lists shard was now by own within is more =
+    by_shard_more versions v lists (set lists shard now) was by (omega (arith, within, own))
+    (subst (λ (n : ℕ). was ≡ get_or lists n was) own is)
+    (ap (λ (n : ℕ). set lists n now) own ∙ ap (λ (l : List Version). set lists (shard_of v.key) l) more)
 
-map-at : {X : Type 0} (f : X → List Version) (xs : List X) (i : ℕ) (x : X) → x ≡ get_or xs i x → f x ≡ get_or (map f xs) i (f x)
-map-at f [] i x is = refl
-map-at f (y ∷ xs) zero x is = ap f is
-map-at f (y ∷ xs) (suc i) x is = map-at f xs i x is
-
--- the same of what is seen as lists
-pub by_shard_added : {X : Type 0} (f : X → List Version) (versions : List Version) (v : Version) (xs : List X) (shard : ℕ) (was now : X)
-    → AreByShard versions (map f xs) → shard ≡ shard_of v.key → shard < length xs → was ≡ get_or xs shard was → f now ≡ f was ++ v ∷ []
-    → AreByShard (versions ++ v ∷ []) (map f (set xs shard now))
-by_shard_added f versions v xs shard was now by own within is more =
-    by_shard_more versions v (map f xs) (map f (set xs shard now)) (f was) by (omega (arith, within, own, length-map xs f))
-    (subst (λ (n : ℕ). f was ≡ get_or (map f xs) n (f was)) own (map-at f xs shard was is))
-    (map-set f xs shard now ∙ ap (λ (n : ℕ). set (map f xs) n (f now)) own ∙ ap (λ (l : List Version). set (map f xs) (shard_of v.key) l) more)
-
-pub taken_last : {X : Type 0} (f : X → List Version) (old new : List X) (x : X) → old ≡ new ++ x ∷ [] → (versions : List Version)
-    → AreByShard versions (map f old) → AreByShard versions (map f new) × (f x ≡ of_shard (length new) versions)
-taken_last f old new x is versions by =
-    let both : AreByShard versions (map f new ++ f x ∷ []) = subst (AreByShard versions) (ap (map f) is ∙ map-append f new (x ∷ [])) by in
-    (by_shard_first versions (map f new) (f x) both, by_shard_last versions (map f new) (f x) both ∙ ap (λ (n : ℕ). of_shard n versions) (length-map new f))
-
--- the part of a node gets its first number
-pub renumbered_node : (first : ℕ) (versions : List Version) (node : List Part) (part : Part) → part ≡ get_or node 0 part → IsNodeOf 0 versions node
-    → IsNodeOf first versions (set node 0 (record { first = first; versions = part.versions }))
-renumbered_node first versions [] part is one = let clash : [] ≡ one.part ∷ [] = one.alone in absurd cc
-renumbered_node first versions (p ∷ []) part is one =
-    let own : p ≡ one.part = let e : p ∷ [] ≡ one.part ∷ [] = one.alone in cc in
-    record {
-      part = record { first = first; versions = part.versions };
-      alone = refl;
-      first = refl;
-      items = ap (λ (q : Part). q.versions.items) (is ∙ own)
-          ∙ one.items;
-    }
-renumbered_node first versions (p ∷ q ∷ node) part is one = let clash : p ∷ q ∷ node ≡ one.part ∷ [] = one.alone in absurd cc
+pub taken_last : (old new : List (List Version)) (last : List Version) → old ≡ new ++ last ∷ [] → (versions : List Version) → AreByShard versions old
+    → AreByShard versions new × (last ≡ of_shard (length new) versions)
+taken_last old new last is versions by =
+    let both : AreByShard versions (new ++ last ∷ []) = subst (AreByShard versions) is by in
+    (by_shard_first versions new last both, by_shard_last versions new last both)
 
 pub one_less : {X : Type 0} (old new : List X) (x : X) → old ≡ new ++ x ∷ [] → length old ≡ length new + 1
 one_less {X = X} old new x is = omega (arith, ap (λ (l : List X). length l) is, length-append new (x ∷ []))
 
 -- lists that were asked whether they are empty
-pub tested_empty : {X : Type 0} (xs : List X) (n : ℕ) → n ≡ length xs → true ≡ eqb n 0 → xs ≡ []
-tested_empty [] n is test = refl
-tested_empty (x ∷ xs) n is test = absurd (grind (arith, nat_tests, is, test))
+pub tested_empty : {X : Type 0} (xs : List X) → true ≡ eqb (length xs) 0 → xs ≡ []
+tested_empty [] test = refl
+tested_empty (x ∷ xs) test = absurd (grind (arith, nat_tests, test))
 
-pub tested_some : {X : Type 0} (xs : List X) (n : ℕ) → n ≡ length xs → false ≡ eqb n 0 → xs ≢ []
-tested_some [] n is test none = grind (arith, nat_tests, is, test)
-tested_some (x ∷ xs) n is test none = absurd cc
+pub tested_some : {X : Type 0} (xs : List X) → false ≡ eqb (length xs) 0 → xs ≢ []
+tested_some [] test none = grind (arith, nat_tests, test)
+tested_some (x ∷ xs) test none = absurd cc
 
 pub no_items : {X : Type 0} (xs : List X) → length xs ≡ 0 → xs ≡ []
 no_items [] none = refl

@@ -7,7 +7,6 @@ use Rattle.std.specs.Ordering.{nat_cmp}
 use Rattle.std.specs.Cmp.Lexicographic.{slice_cmp}
 use Rattle.std.specs.BTreeMap.{BTreeMap}
 use Rattle.memtable_shards.specs.declared.index.Stamp.{Stamp}
-use Rattle.memtable_shards.specs.declared.part.Part.{Part}
 use Rattle.memtable_shards.specs.declared.version.Version.{Version}
 use Rattle.memtable_shards.specs.Parts.{MayWait}
 
@@ -43,7 +42,7 @@ pub record IsPutIn (old : List Stamp) (stamp : Stamp) (new : List Stamp) : Type 
 abbrev pub Adds : List Version → Version → List Version → Type 0
 Adds old version new = (other : Version) → Contains new other ↔ (Contains old other ⊎ (other ≡ version))
 
--- What a shard keeps: stamps that ascend, and parts that may wait.
-pub record IsShard (index : BTreeMap (Vec ℕ) (Vec Stamp)) (waiting : List Part) : Type 0 where
+-- What a shard keeps: stamps that ascend, and versions that may wait.
+pub record IsShard (index : BTreeMap (Vec ℕ) (Vec Stamp)) (waiting : List Version) : Type 0 where
   pub ascending : AllAscend index.entries
   pub ready : MayWait waiting

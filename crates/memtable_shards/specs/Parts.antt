@@ -1,25 +1,16 @@
 -- Versions that are linked, and not in the index yet. Nothing of it is seen from outside.
 use Rattle.std.specs.Prelude.{◌≡◌, ◌≢◌, ℕ, ◌+◌, ◌<◌, ◌≤◌, List, [], ◌∷◌, ◌++◌, Option, Some, Contains, map, slice_get, MatchOption, ⊤}
-use Rattle.std.specs.List.{flat_map, AllByRecursion}
 use Rattle.wal_base.specs.declared.entry.Entry.{Entry}
 use Rattle.batch_repr.specs.declared.limits.TheConstants.{NUMBER_MAX}
 use Rattle.batch_repr.specs.Batches.{count_of}
 use Rattle.memtable_shards.specs.declared.sharding.TheConstants.{SHARDS}
 use Rattle.memtable_shards.specs.declared.version.Version.{Version}
-use Rattle.memtable_shards.specs.declared.part.Part.{Part}
 use Rattle.memtable_shards.specs.declared.part.Piece.{Piece}
 use Rattle.memtable_shards.specs.Versions.{versions_from, shard_of, of_shard}
 
 -- versions whose numbers were counted from this one on
 abbrev pub counted_from : ℕ → List Version → List Version
 counted_from first versions = map (λ (version : Version). record { key = version.key; number = first + version.number; value = version.value }) versions
-
-abbrev pub part_versions : Part → List Version
-part_versions part = counted_from part.first part.versions.items
-
--- the versions of all that waits
-abbrev pub waiting_in : List Part → List Version
-waiting_in waiting = flat_map part_versions waiting
 
 -- Each number is one that a batch may have.
 abbrev pub HaveNumbers : List Version → Type 0
@@ -30,18 +21,10 @@ unfoldable pub HaveOwnNumbers : List Version → Type 0
 HaveOwnNumbers [] = ⊤
 HaveOwnNumbers (version ∷ versions) = ((other : Version) → Contains versions other → other.number ≢ version.number) × HaveOwnNumbers versions
 
--- Parts may wait: each has a version, and all have numbers of their own, so that there are not too many parts.
-pub record MayWait (waiting : List Part) : Type 0 where
-  pub some : AllByRecursion (λ (part : Part). part.versions.items ≢ []) waiting
-  pub numbers : HaveNumbers (waiting_in waiting)
-  pub apart : HaveOwnNumbers (waiting_in waiting)
-
--- The list is one part of these versions, which are counted from this number on.
-pub record IsNodeOf (number : ℕ) (versions : List Version) (node : List Part) : Type 0 where
-  pub part : Part
-  pub alone : node ≡ part ∷ []
-  pub first : part.first ≡ number
-  pub items : part.versions.items ≡ versions
+-- Versions may wait: all have numbers of their own, so that there are not too many of them.
+pub record MayWait (waiting : List Version) : Type 0 where
+  pub numbers : HaveNumbers waiting
+  pub apart : HaveOwnNumbers waiting
 
 -- There is a piece for each shard from there on that has a version, in order.
 unfoldable pub ArePiecesFrom : List Version → ℕ → List Piece → Type 0
@@ -49,7 +32,7 @@ ArePiecesFrom versions from [] = (version : Version) → Contains versions versi
 ArePiecesFrom versions from (piece ∷ pieces) =
     (from ≤ piece.shard) × (piece.shard < SHARDS) × ((version : Version) → Contains versions version → from ≤ shard_of version.key
     → piece.shard ≤ shard_of version.key)
-    × IsNodeOf 0 (of_shard piece.shard versions) piece.node × (of_shard piece.shard versions ≢ []) × ArePiecesFrom versions (piece.shard + 1) pieces
+    × (piece.nodes ≡ of_shard piece.shard versions) × (of_shard piece.shard versions ≢ []) × ArePiecesFrom versions (piece.shard + 1) pieces
 
 -- The pieces are those of the entries, and the numbers that they have, if any, are within the limit.
 pub record AreCut (entries : List Entry) (first : Option ℕ) (from : ℕ) (pieces : List Piece) : Type 0 where
@@ -59,11 +42,6 @@ pub record AreCut (entries : List Entry) (first : Option ℕ) (from : ℕ) (piec
 -- Each of the lists has the versions of the shard at its place.
 abbrev pub AreByShard : List Version → List (List Version) → Type 0
 AreByShard versions lists = (shard : ℕ) (list : List Version) → slice_get lists shard ≡ Some list → list ≡ of_shard shard versions
-
--- The last ones of the versions are kept.
-pub record AreLeftOf (old new : List Version) : Type 0 where
-  pub gone : List Version
-  pub was : old ≡ gone ++ new
 
 -- One version more stands at the end of its shard's list.
 abbrev pub AddsByShard : Version → List (List Version) → List (List Version) → Type 0

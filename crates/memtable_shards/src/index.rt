@@ -64,20 +64,18 @@ fn share_value(value: &Option<Blob>) -> Result<Option<Blob>, NoMemory>
     }
 }
 
-/// Adds a version under a number. Its key is copied where it is new, and its value is shared.
-pub(crate) fn put(
-    alloc: Global,
-    index: &mut Index,
-    version: &Version,
-    number: u64,
-) -> Result<(), NoMemory>
+/// Adds a version. Its key is copied where it is new, and its value is shared.
+pub(crate) fn put(alloc: Global, index: &mut Index, version: &Version) -> Result<(), NoMemory>
     requires ascending { AllAscend index.old.entries }
     ensures ascending { AllAscend index.new.entries }
-    ensures added { OnOk result (Adds (indexed index.old) (version_under version.now.key number version.now.value) (indexed index.new)) }
+    ensures added { OnOk result (Adds (indexed index.old) version.now (indexed index.new)) }
     ensures same { OnErr result (indexed index.new ≡ indexed index.old) }
 {
     let value = share_value(&version.value)?;
-    let stamp = Stamp { number, value };
+    let stamp = Stamp {
+        number: version.number,
+        value,
+    };
     let key = version.key.as_slice();
     match index.get_mut(key) {
         Some(stamps) => push_stamp(stamps, stamp),

@@ -4,7 +4,7 @@
 //! contract: eight shards that were given the pieces of batches in a row answer, below the end of the
 //! first n of them, what the store answers after these.
 //!
-//! What holds of each value here: pieces have the versions of their entries, each shard's in one node; a
+//! What holds of each value here: pieces have the versions of their entries, each in a node of its own; a
 //! shard's stamps ascend by number, and what waits to be settled has numbers of its own.
 #![tactic(auto)]
 

@@ -1,17 +1,16 @@
 //! A batch's versions, cut by shard before the batch has its numbers.
 
-ghost use Rattle.std.specs.Prelude.{◌≡◌, ◌+◌, ◌≤◌, [], ◌∷◌, None, Some, List, length, map};
+ghost use Rattle.std.specs.Prelude.{◌≡◌, ◌+◌, ◌≤◌, [], ◌∷◌, None, Some, length};
 ghost use Rattle.std.specs.Prelude.{IsSome, IfOk, OnOk, IfSome, IfNone};
 ghost use Rattle.std.specs.Option.{option_to_list};
-ghost use Rattle.std.specs.VecDeque.{deque_items};
 ghost use Rattle.batch_repr.specs.declared.limits.TheConstants.{NUMBER_MAX};
 ghost use Rattle.batch_repr.specs.Batches.{count_of};
-ghost use Rattle.memtable_shards.specs.declared.version.Version.{Version};
 ghost use Rattle.memtable_shards.specs.Versions.{versions_from};
-ghost use Rattle.memtable_shards.specs.Parts.{AreByShard, AddsByShard, ArePiecesOfLists, IsNodeOf};
+ghost use Rattle.memtable_shards.specs.Parts.{counted_from, MayWait};
+ghost use Rattle.memtable_shards.specs.Parts.{AreByShard, AddsByShard, ArePiecesOfLists};
 ghost use Rattle.memtable_shards.specs.Pieces.{whole_pieces, IsNextPiece, NoPieceIsLeft};
 
-use crate::part::{Part, Piece};
+use crate::part::Piece;
 use crate::sharding::{SHARDS, shard_index};
 use crate::version::Version;
 use batch_repr::Unnumbered;
@@ -21,23 +20,23 @@ use std::marker::Model;
 use std::snapshot::Snapshot;
 use wal_base::{Entries, Entry, NoMemory};
 
-/// The versions that a batch has for one shard, in one node that is linked without memory.
+/// The versions that a batch has for one shard, in nodes that are linked without memory.
 /// Contracts see the list of them.
 #[derive(Drop)]
 pub struct PieceNode {
-    pub(crate) node: LinkedList<Part>,
+    pub(crate) nodes: LinkedList<Version>,
 }
 
 impl Model for PieceNode {
     ghost use Rattle.std.specs.Prelude.{List};
     ghost use Rattle.memtable_shards.specs.declared.version.Version.{Version};
-    ghost use Rattle.memtable_shards.specs.Parts.{waiting_in, MayWait};
+    ghost use Rattle.memtable_shards.specs.Parts.{MayWait};
 
     ghost Value = { List Version };
 
-    ghost view = { λ a. waiting_in a.node };
+    ghost view = { λ a. a.nodes };
 
-    ghost invariant = { λ a. MayWait a.node };
+    ghost invariant = { λ a. MayWait a.nodes };
 }
 
 /// A batch's versions in pieces, one for each shard that has any. Contracts see the entries, the first
@@ -83,20 +82,30 @@ impl Pieces {
         let Some(first) = self.first else {
             unreachable!();
         };
-        let Piece { shard, mut node } = self.left.pop_front()?;
-        number_node(&mut node, first);
+        let Piece { shard, nodes } = self.left.pop_front()?;
+        let nodes = number_nodes(nodes, first);
         self.from = shard + 1;
-        Some((shard, PieceNode { node }))
+        Some((shard, PieceNode { nodes }))
     }
 }
 
-/// Gives the part of a node its first number.
-fn number_node(node: &mut LinkedList<Part>, first: u64)
-    ensures { (versions : List Version) → IsNodeOf 0 versions node.old → IsNodeOf first versions node.new }
+/// Adds a first number to that of each version, and links the nodes anew. It takes no memory.
+fn number_nodes(mut nodes: LinkedList<Version>, first: u64) -> LinkedList<Version>
+    requires { MayWait (counted_from first nodes) }
+    ensures { result ≡ counted_from first nodes }
 {
-    if let Some(part) = node.front_mut() {
-        part.first = first;
+    let mut numbered = LinkedList::new(*nodes.allocator());
+    while let Some(version) = nodes.front_mut() {
+        version.number += first;
+        let Ok(rest) = nodes.split_off(1) else {
+            unreachable!();
+        };
+        let Ok(()) = numbered.append(&mut nodes) else {
+            unreachable!();
+        };
+        nodes = rest;
     }
+    numbered
 }
 
 /// Cuts a batch's versions into pieces. Their bytes are shared with the batch, and not copied.
@@ -121,13 +130,13 @@ pub fn split_entries(alloc: Global, entries: &Entries) -> Result<Pieces, NoMemor
 }
 
 /// A list of no version for each shard.
-fn empty_parts(alloc: Global) -> Result<Vec<VecDeque<Version>>, NoMemory>
+fn empty_parts(alloc: Global) -> Result<Vec<LinkedList<Version>>, NoMemory>
     ensures eight { IfOk result (λ parts. length parts.items ≡ SHARDS) }
-    ensures own { IfOk result (λ parts. AreByShard [] (map deque_items parts.items)) }
+    ensures own { IfOk result (λ parts. AreByShard [] parts.items) }
 {
     let mut parts = Vec::with_capacity(alloc, SHARDS)?;
     for _ in 0..SHARDS {
-        parts.push(VecDeque::new(alloc))?;
+        parts.push(LinkedList::new(alloc))?;
     }
     Ok(parts)
 }
@@ -152,10 +161,10 @@ fn version_of(entry: &Entry, number: u64) -> Result<Option<Version>, NoMemory>
 }
 
 /// Adds a version at the end of its shard's list.
-fn add_version(parts: &mut Vec<VecDeque<Version>>, version: Version) -> Result<(), NoMemory>
+fn add_version(parts: &mut Vec<LinkedList<Version>>, version: Version) -> Result<(), NoMemory>
     requires eight { length parts.old.items ≡ SHARDS }
     ensures eight { length parts.new.items ≡ SHARDS }
-    ensures added { OnOk result (AddsByShard version (map deque_items parts.old.items) (map deque_items parts.new.items)) }
+    ensures added { OnOk result (AddsByShard version parts.old.items parts.new.items) }
 {
     let shard = shard_index(version.key.as_slice());
     parts[shard].push_back(version)?;
@@ -163,9 +172,9 @@ fn add_version(parts: &mut Vec<VecDeque<Version>>, version: Version) -> Result<(
 }
 
 /// The versions of the entries, numbered from 0 on, by their shards.
-fn sort_versions(alloc: Global, entries: &[Entry]) -> Result<Vec<VecDeque<Version>>, NoMemory>
+fn sort_versions(alloc: Global, entries: &[Entry]) -> Result<Vec<LinkedList<Version>>, NoMemory>
     ensures eight { IfOk result (λ parts. length parts.items ≡ SHARDS) }
-    ensures own { IfOk result (λ parts. AreByShard (versions_from 0 entries.now) (map deque_items parts.items)) }
+    ensures own { IfOk result (λ parts. AreByShard (versions_from 0 entries.now) parts.items) }
 {
     let mut parts = empty_parts(alloc)?;
     let mut number = 0;
@@ -181,19 +190,17 @@ fn sort_versions(alloc: Global, entries: &[Entry]) -> Result<Vec<VecDeque<Versio
 /// A piece of each list that has a version, in order.
 fn make_pieces(
     alloc: Global,
-    mut parts: Vec<VecDeque<Version>>,
+    mut parts: Vec<LinkedList<Version>>,
 ) -> Result<VecDeque<Piece>, NoMemory>
     requires eight { length parts.items ≡ SHARDS }
-    ensures { IfOk result (λ pieces. ArePiecesOfLists (map deque_items parts.items) pieces.items) }
+    ensures { IfOk result (λ pieces. ArePiecesOfLists parts.items pieces.items) }
 {
     let mut pieces = VecDeque::new(alloc);
-    while let Some(versions) = parts.pop() {
-        if !versions.is_empty() {
-            let mut node = LinkedList::new(alloc);
-            node.push_back(Part { first: 0, versions })?;
+    while let Some(nodes) = parts.pop() {
+        if !nodes.is_empty() {
             pieces.push_front(Piece {
                 shard: parts.len(),
-                node,
+                nodes,
             })?;
         }
     }

@@ -1,15 +1,14 @@
 //! One shard.
 
-ghost use Rattle.std.specs.Prelude.{◌≡◌, ◌++◌, ◌≢◌, [], OnOk, OnErr};
+ghost use Rattle.std.specs.Prelude.{◌≡◌, []};
 ghost use Rattle.memtable_shards.specs.Versions.{Gains, HasSameVersions, HaveOtherNumbers};
 ghost use Rattle.memtable_shards.specs.Newest.{FindsNewest};
-ghost use Rattle.memtable_shards.specs.Indexed.{indexed, AllAscend};
-ghost use Rattle.memtable_shards.specs.Parts.{part_versions, HaveNumbers, AreLeftOf};
 
 use crate::found::Found;
 use crate::index::{Index, find_indexed, put};
-use crate::part::{Part, find_waiting};
+use crate::part::find_waiting;
 use crate::pieces::PieceNode;
+use crate::version::Version;
 use std::alloc::Global;
 use std::collections::{BTreeMap, LinkedList};
 use std::marker::Model;
@@ -21,18 +20,17 @@ pub struct Shard {
     alloc: Global,
     index: Index,
     /// What was applied, and is not in the index yet.
-    waiting: LinkedList<Part>,
+    waiting: LinkedList<Version>,
 }
 
 impl Model for Shard {
     ghost use Rattle.std.specs.Prelude.{◌++◌, List};
     ghost use Rattle.memtable_shards.specs.declared.version.Version.{Version};
     ghost use Rattle.memtable_shards.specs.Indexed.{indexed, IsShard};
-    ghost use Rattle.memtable_shards.specs.Parts.{waiting_in};
 
     ghost Value = { List Version };
 
-    ghost view = { λ a. indexed a.index ++ waiting_in a.waiting };
+    ghost view = { λ a. indexed a.index ++ a.waiting };
 
     ghost invariant = { λ a. IsShard a.index a.waiting };
 }
@@ -49,12 +47,12 @@ impl Shard {
         }
     }
 
-    /// Adds the versions of a piece, by linking its node. It takes no memory.
+    /// Adds the versions of a piece, by linking its nodes. It takes no memory.
     pub fn apply(&mut self, mut piece: PieceNode)
         requires apart { HaveOtherNumbers self.old piece }
         ensures { Gains self.old piece self.new }
     {
-        match self.waiting.append(&mut piece.node) {
+        match self.waiting.append(&mut piece.nodes) {
             Ok(()) => {}
             Err(_) => unreachable!(),
         }
@@ -64,8 +62,8 @@ impl Shard {
     pub fn settle(&mut self) -> Result<(), NoMemory>
         ensures { HasSameVersions self.old self.new }
     {
-        while let Some(part) = self.waiting.front_mut() {
-            settle_part(self.alloc, &mut self.index, part)?;
+        while let Some(version) = self.waiting.front() {
+            put(self.alloc, &mut self.index, version)?;
             self.waiting.pop_front();
         }
         Ok(())
@@ -78,23 +76,4 @@ impl Shard {
         let settled = find_indexed(&self.index, key, below);
         settled.or_newer(find_waiting(&self.waiting, key, below))
     }
-}
-
-/// Moves the versions of a part into the index, one by one. On `Err` the part keeps those that were not
-/// moved.
-fn settle_part(alloc: Global, index: &mut Index, part: &mut Part) -> Result<(), NoMemory>
-    requires numbers { HaveNumbers (part_versions part.old) }
-    requires ascending { AllAscend index.old.entries }
-    ensures ascending { AllAscend index.new.entries }
-    ensures first { part.new.first ≡ part.old.first }
-    ensures kept { AreLeftOf (part_versions part.old) (part_versions part.new) }
-    ensures same { HasSameVersions (indexed index.old ++ part_versions part.old) (indexed index.new ++ part_versions part.new) }
-    ensures all { OnOk result (part.new.versions.items ≡ []) }
-    ensures some { OnErr result (part.new.versions.items ≢ []) }
-{
-    while let Some(version) = part.versions.front() {
-        put(alloc, index, version, part.first + version.number)?;
-        part.versions.pop_front();
-    }
-    Ok(())
 }

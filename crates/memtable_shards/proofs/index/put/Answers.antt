@@ -22,8 +22,8 @@ returns-in-Some-clause-ascending c =
 pub returns-in-Some-clause-added : goal.returns-in-Some-clause-added
 returns-in-Some-clause-added c =
     on_ok_map c.push_stamp.result c.push_stamp.ensures.ok
-    (λ put. as_version _ _ c.as_slice-key.result.now c.args.version.now.key c.args.number c.args.version.now.value c.in_ok-value.value c.as_slice-key.ensures
-    c.in_ok-value.ensures
+    (λ put. as_version _ _ c.as_slice-key.result.now c.args.version.now.key c.args.version.now.number c.args.version.now.value c.in_ok-value.value
+    c.as_slice-key.ensures c.in_ok-value.ensures
     (pushed_more c.as_slice-key.result.now c.args.index.now.entries
     (c.get_mut.follows.lender c.push_stamp.new.stamps).entries c.in-Some.stamps.now c.push_stamp.new.stamps _ c.in-Some.ensures.value
     (c.get_mut.follows.holds c.push_stamp.new.stamps).0 put))
@@ -39,7 +39,7 @@ pub returns-in-None-clause-added : goal.returns-in-None-clause-added
 returns-in-None-clause-added c =
     on_ok_map c.insert_key.result c.insert_key.ensures.added
     (λ adds. subst (λ (map : BTreeMap (Vec ℕ) (Vec Stamp)). Adds (indexed map)
-    (record { key = c.args.version.now.key; number = c.args.number; value = c.args.version.now.value }) (indexed c.insert_key.new.index))
+    c.args.version.now (indexed c.insert_key.new.index))
     c.get_mut.follows.holds-at-none
-    (as_version _ _ c.as_slice-key.result.now c.args.version.now.key c.args.number c.args.version.now.value c.in_ok-value.value c.as_slice-key.ensures
-    c.in_ok-value.ensures adds))
+    (as_version _ _ c.as_slice-key.result.now c.args.version.now.key c.args.version.now.number c.args.version.now.value c.in_ok-value.value
+    c.as_slice-key.ensures c.in_ok-value.ensures adds))

@@ -1,6 +1,5 @@
 -- One empty list after another.
 use Rattle.std.proofs.Common.{arith}
-use Rattle.std.specs.VecDeque.{deque_items}
 use Rattle.memtable_shards.proofs.Cutting.{empty_by_shard, empty_more}
 use Rattle.memtable_shards.proofs.pieces.empty_parts.Goals as goal
 
@@ -8,7 +7,7 @@ pub loop-preserved : goal.loop-preserved
 loop-preserved c = (
   omega (arith, c.in_ok-push.ensures.len, c.loop.invariant.0),
   omega (arith, c.loop-test.true),
-  empty_more deque_items c.loop.parts.items c.push.new.self.items c.new.result c.in_ok-push.ensures.items c.new.ensures.items c.loop.invariant.2,
+  empty_more c.loop.parts.items c.push.new.self.items c.new.result c.in_ok-push.ensures.items c.new.ensures c.loop.invariant.2,
 )
 
 pub returns-clause-own : goal.returns-clause-own

@@ -1,6 +1,5 @@
 -- The versions of the entries so far.
-use Rattle.std.specs.Prelude.{◌≡◌, length, map, take}
-use Rattle.std.specs.VecDeque.{deque_items}
+use Rattle.std.specs.Prelude.{◌≡◌, length, take}
 use Rattle.batch_repr.specs.Batches.{count_of}
 use Rattle.memtable_shards.specs.declared.sharding.TheConstants.{SHARDS}
 use Rattle.memtable_shards.specs.Versions.{versions_from}
@@ -9,4 +8,4 @@ use Rattle.memtable_shards.proofs.pieces.sort_versions.Given as goal
 
 abbrev pub invariant-loop-entry : goal.invariant-loop-entry
 invariant-loop-entry l = (length l.parts.items ≡ SHARDS) × (l.number ≡ count_of (take l.entry-index l.entries)) × AreByShard
-    (versions_from 0 (take l.entry-index l.entries)) (map deque_items l.parts.items)
+    (versions_from 0 (take l.entry-index l.entries)) l.parts.items

@@ -4,11 +4,11 @@ use Rattle.std.specs.Prelude.{MatchOption, ⊤}
 use Rattle.batch_repr.specs.declared.limits.TheConstants.{NUMBER_MAX}
 use Rattle.batch_repr.specs.Batches.{count_of}
 use Rattle.memtable_shards.specs.declared.part.Piece.{Piece}
-use Rattle.memtable_shards.specs.Versions.{versions_from, of_shard}
-use Rattle.memtable_shards.specs.Parts.{ArePiecesFrom, waiting_in}
+use Rattle.memtable_shards.specs.Versions.{versions_from}
+use Rattle.memtable_shards.specs.Parts.{MayWait, ArePiecesFrom}
 use Rattle.memtable_shards.specs.Pieces.{PiecesLeft, NoPieceIsLeft, IsNextPiece}
 use Rattle.memtable_shards.proofs.Cutting.{no_items}
-use Rattle.memtable_shards.proofs.Handing.{node_waits, next_piece, piece_node, piece_some, pieces_rest, shard_within, none_left}
+use Rattle.memtable_shards.proofs.Handing.{piece_waits, next_piece, pieces_rest, shard_within, none_left}
 use Rattle.memtable_shards.proofs.pieces.Pieces.take.Goals as goal
 
 pub returns-in_err-shard-clause-none : goal.returns-in_err-shard-clause-none
@@ -32,17 +32,19 @@ overflow_add-self c =
       );
     }
 
+pub number_nodes-nodes-requires : goal.number_nodes-nodes-requires
+number_nodes-nodes-requires c =
+    let entries = c.self.inside.entries.value in
+    piece_waits c.in-Some.first c.self.inside.from entries c.in_ok-shard.field-0 c.pop_front.new.self.items
+    (subst (ArePiecesFrom (versions_from 0 entries) c.self.inside.from) c.in_ok-shard.ensures.items c.self.invariant.left)
+    (subst (λ (f : Option ℕ). MatchOption f ⊤ (λ number. number + count_of entries ≤ NUMBER_MAX)) c.in-Some.is c.self.invariant.within)
+
 pub invariant_of-result : goal.invariant_of-result
 invariant_of-result c =
     let entries = c.self.inside.entries.value in
-    let piece : Piece = c.in_ok-shard.field-0 in
-    let are : ArePiecesFrom (versions_from 0 entries) c.self.inside.from (piece ∷ c.pop_front.new.self.items) =
-    subst (ArePiecesFrom (versions_from 0 entries) c.self.inside.from) c.in_ok-shard.ensures.items c.self.invariant.left in
-    node_waits c.in-Some.first piece.shard entries c.number_node.new.node
-    (c.number_node.ensures (of_shard piece.shard (versions_from 0 entries))
-    (piece_node (versions_from 0 entries) c.self.inside.from piece c.pop_front.new.self.items are))
-    (piece_some (versions_from 0 entries) c.self.inside.from piece c.pop_front.new.self.items are)
-    (subst (λ (f : Option ℕ). MatchOption f ⊤ (λ number. number + count_of entries ≤ NUMBER_MAX)) c.in-Some.is c.self.invariant.within)
+    subst MayWait (sym c.number_nodes-nodes.ensures) (piece_waits c.in-Some.first c.self.inside.from entries c.in_ok-shard.field-0 c.pop_front.new.self.items
+    (subst (ArePiecesFrom (versions_from 0 entries) c.self.inside.from) c.in_ok-shard.ensures.items c.self.invariant.left)
+    (subst (λ (f : Option ℕ). MatchOption f ⊤ (λ number. number + count_of entries ≤ NUMBER_MAX)) c.in-Some.is c.self.invariant.within))
 
 pub invariant_of-self-2 : goal.invariant_of-self-2
 invariant_of-self-2 c =
@@ -60,9 +62,8 @@ returns-clause-next c =
     let piece : Piece = c.in_ok-shard.field-0 in
     let are : ArePiecesFrom (versions_from 0 entries) c.self.inside.from (piece ∷ c.pop_front.new.self.items) =
     subst (ArePiecesFrom (versions_from 0 entries) c.self.inside.from) c.in_ok-shard.ensures.items c.self.invariant.left in
-    let next = next_piece entries c.in-Some.first c.self.inside.from piece c.pop_front.new.self.items c.number_node.new.node are
-    (c.number_node.ensures (of_shard piece.shard (versions_from 0 entries))
-    (piece_node (versions_from 0 entries) c.self.inside.from piece c.pop_front.new.self.items are)) in
+    let next = next_piece entries c.in-Some.first c.self.inside.from piece c.pop_front.new.self.items c.number_nodes-nodes.result are
+    c.number_nodes-nodes.ensures in
     let is : record { entries = entries; first = Some c.in-Some.first; from = c.self.inside.from } ≡ c.args.self.now =
     ap (λ (f : Option ℕ). record { entries = entries; first = f; from = c.self.inside.from }) (sym c.in-Some.is) ∙ c.self.view_is in
-    subst (λ (left : PiecesLeft). IsNextPiece left piece.shard (waiting_in c.number_node.new.node)) is next
+    subst (λ (left : PiecesLeft). IsNextPiece left piece.shard c.number_nodes-nodes.result) is next

@@ -1,4 +1,4 @@
--- No key, and no part that waits.
+-- No key, and no version that waits.
 use Rattle.std.proofs.Common.{sym, subst}
 use Rattle.memtable_shards.specs.Indexed.{AllAscend}
 use Rattle.memtable_shards.specs.Parts.{MayWait}

@@ -1,5 +1,5 @@
 -- The loop by which a layer above applies a batch's pieces.
-use Rattle.std.proofs.Common.{◌≡◌, ◌+◌, List, [], ◌∷◌, ◌++◌, Some, sym, ap, ◌∙◌, subst, arith}
+use Rattle.std.proofs.Common.{◌≡◌, List, [], ◌∷◌, ◌++◌, Some, sym, ap, ◌∙◌, subst, arith}
 use Rattle.std.proofs.Math.ListN.{set}
 use Rattle.batch_repr.specs.declared.batch.Batch.{Batch}
 use Rattle.memtable_shards.specs.declared.version.Version.{Version}

@@ -1,7 +1,7 @@
 -- The shards are amid the pieces of the batch.
-use Rattle.std.specs.Prelude.{◌≡◌, ◌-◌, ◌++◌, ◌∷◌, [], List}
+use Rattle.std.specs.Prelude.{◌-◌, ◌++◌, ◌∷◌, [], List}
 use Rattle.batch_repr.specs.declared.batch.Batch.{Batch}
-use Rattle.batch_repr.specs.Batches.{IsContiguous, end_after}
+use Rattle.batch_repr.specs.Batches.{IsContiguous}
 use Rattle.memtable_shards.specs.declared.sharding.TheConstants.{SHARDS}
 use Rattle.memtable_shards.specs.Pieces.{AreShardsAmid}
 use Rattle.memtable_shards.proofs.tests.Rig.add.Given as goal
