@@ -1,16 +1,13 @@
 -- What a commit comes to, by how its wait ends.
-use Rattle.std.proofs.Common.{◌≡◌, inl, inr, ℕ, ◌+◌, ◌≤◌, ◌<◌, Bool, List, [], ◌∷◌, ◌++◌, IsTrue, Result, Ok, Err, ap, sym, subst, ◌∙◌, refl, arith}
+use Rattle.std.proofs.Common.{◌≡◌, inl, inr, ℕ, ◌≤◌, ◌<◌, Bool, List, IsTrue, Result, Ok, Err, sym, subst, ◌∙◌, arith}
 use Rattle.wal_base.specs.declared.entry.Entry.{Entry}
-use Rattle.batch_repr.specs.declared.batch.Batch.{Batch}
 use Rattle.batch_repr.specs.Batches.{count_of}
 use Rattle.failover_writer.specs.State.{len, acked}
-use Rattle.failover_writer.specs.declared.fault.JournalFault.{JournalFault}
-use Rattle.failover_writer.specs.declared.fault.JournalFault.TheVariants as ends
 use Rattle.commit_pipeline.specs.declared.fault.Committed.{Committed}
 use Rattle.commit_pipeline.specs.declared.fault.CommitFault.{CommitFault}
 use Rattle.commit_pipeline.specs.declared.fault.CommitFault.TheVariants as faults
-use Rattle.commit_pipeline.specs.Holding.{Opening, PipeStage, PipelineHolds, StillHolds}
-use Rattle.commit_pipeline.specs.Committing.{next_batch, AddsBatch, AddsUnsynced, CommitsTo, HoldsOn, WaitsTo}
+use Rattle.commit_pipeline.specs.Holding.{PipeStage, PipelineHolds, StillHolds}
+use Rattle.commit_pipeline.specs.Committing.{AddsBatch, AddsUnsynced, CommitsTo, HoldsOn, WaitsTo}
 use Rattle.commit_pipeline.proofs.Staging.{adds_then}
 
 -- What was added, and that the wait changed nothing of it.

@@ -1,5 +1,5 @@
 -- What the calls of a journal keep of an opening.
-use Rattle.std.proofs.Common.{◌≡◌, ◌⊎◌, inl, inr, ℕ, ◌≤◌, ◌<◌, Bool, true, false, List, [], ◌∷◌, ◌++◌, length, map, IsTrue, ap, sym, subst, ◌∙◌, refl, arith}
+use Rattle.std.proofs.Common.{◌≡◌, ◌⊎◌, inl, inr, ℕ, ◌≤◌, Bool, true, false, List, [], ◌∷◌, ◌++◌, length, map, IsTrue, ap, sym, subst, ◌∙◌, refl, arith}
 use Rattle.std.specs.Prelude.{Contains, count_by}
 use Rattle.std.specs.List.{AllByRecursion}
 use Rattle.batch_repr.specs.declared.batch.Batch.{Batch}
@@ -15,11 +15,11 @@ use Rattle.failover_writer.specs.Answered.{IsHarmed, IsSmooth, FaultsRose, Polls
 use Rattle.failover_writer.specs.Moves.{Pushes}
 use Rattle.failover_writer.specs.Keeping.{OthersStay, KeepsBase, KeepsBases}
 use Rattle.failover_writer.specs.Lasting.{Lasts}
-use Rattle.commit_pipeline.specs.Holding.{Opening, WentOn, KeepsJournal}
+use Rattle.commit_pipeline.specs.Holding.{Opening, MayStall, WentOn, KeepsJournal}
 
 -- ---- the disk went on
 
-went_further : (start mid new : DiskView) → WentOn start mid → WentOn mid new → WentOn start new
+pub went_further : (start mid new : DiskView) → WentOn start mid → WentOn mid new → WentOn start new
 went_further start mid new one two = record {
   faults = λ side. omega (arith, one.faults side, two.faults side);
   clock = omega (arith, one.clock, two.clock);
@@ -54,7 +54,7 @@ module _ (tells : Bool) (opening : Opening) where
     threshold_is = threshold ∙ r.threshold_is;
     least = omega (arith, threshold, r.least);
     went_on = r.went_on;
-    quiet = r.quiet;
+    polls = r.polls;
     harmed = λ harmed. r.harmed (was_harmed harmed);
     smooth = was_smooth r.smooth;
     kept = λ b was. keeps b (r.kept b was);
@@ -66,8 +66,8 @@ module _ (tells : Bool) (opening : Opening) where
       was_harmed (inl died) = inl (λ lives. died (dead ∙ lives))
       was_harmed (inr broken) = inr (subst (λ (ws : List Writer). 1 ≤ count_by is_broken ws) segments broken)
 
-      was_smooth : IsSmooth old ⊎ (FaultsRose opening.disk v ⊎ IsTrue opening.may_stall)
-          → IsSmooth new ⊎ (FaultsRose opening.disk v ⊎ IsTrue opening.may_stall)
+      was_smooth : IsSmooth old ⊎ (FaultsRose opening.disk v ⊎ MayStall opening)
+          → IsSmooth new ⊎ (FaultsRose opening.disk v ⊎ MayStall opening)
       was_smooth (inl s) = inl (record {
         lives = dead ∙ s.lives;
         few = subst (λ (ws : List Writer). length ws ≤ 1) (sym segments) s.few;
@@ -86,9 +86,9 @@ module _ (tells : Bool) (opening : Opening) where
     threshold_is = r.threshold_is;
     least = r.least;
     went_on = went_further opening.disk v w r.went_on went;
-    quiet = λ never. let clash : true ≡ false = sym may ∙ never in absurd cc;
+    polls = λ never. let clash : true ≡ false = sym may ∙ never in absurd cc;
     harmed = λ h. rose_then opening.disk v w went r.went_on (r.harmed h);
-    smooth = inr (inr may);
+    smooth = inr (inr (inr may));
     kept = λ b was. keeps_base b (r.kept b was);
     others = λ told start was. subst (λ (fs : Files). OthersStay start state fs) (sym same) (r.others told start was);
   }
@@ -114,7 +114,7 @@ module _ (tells : Bool) (opening : Opening) where
       threshold_is = lasts.setting.threshold ∙ r.threshold_is;
       least = omega (arith, lasts.setting.threshold, r.least);
       went_on = went_further opening.disk (view old.disk) (view new.disk) r.went_on went;
-      quiet = λ never side. omega (arith, r.quiet never side, lasts.goes_on.polls side);
+      polls = λ never side. omega (arith, r.polls never side, lasts.goes_on.polls side);
       harmed = λ h. by_harm (lasts.harmed h);
       smooth = by_smooth r.smooth;
       kept = λ b was. keeps_base b (r.kept b was);
@@ -129,18 +129,18 @@ module _ (tells : Bool) (opening : Opening) where
         by_harm (inr rose) = rose_now opening.disk (view old.disk) (view new.disk) r.went_on rose
 
         fell_only : (may : Bool) → opening.may_stall ≡ may → PollsFell (view old.disk) (view new.disk)
-            → IsSmooth new.state ⊎ (FaultsRose opening.disk (view new.disk) ⊎ IsTrue opening.may_stall)
-        fell_only true is fell = inr (inr is)
-        fell_only false is (side, fell) = absurd (omega (arith, fell, r.quiet is side))
+            → IsSmooth new.state ⊎ (FaultsRose opening.disk (view new.disk) ⊎ MayStall opening)
+        fell_only true is fell = inr (inr (inr is))
+        fell_only false is (side, fell) = inr (inr (inl (side, omega (arith, fell, r.polls is side))))
 
         by_new : IsSmooth new.state ⊎ (FaultsRose (view old.disk) (view new.disk) ⊎ PollsFell (view old.disk) (view new.disk))
-            → IsSmooth new.state ⊎ (FaultsRose opening.disk (view new.disk) ⊎ IsTrue opening.may_stall)
+            → IsSmooth new.state ⊎ (FaultsRose opening.disk (view new.disk) ⊎ MayStall opening)
         by_new (inl s) = inl s
         by_new (inr (inl rose)) = inr (inl (rose_now opening.disk (view old.disk) (view new.disk) r.went_on rose))
         by_new (inr (inr fell)) = fell_only opening.may_stall refl fell
 
-        by_smooth : IsSmooth old.state ⊎ (FaultsRose opening.disk (view old.disk) ⊎ IsTrue opening.may_stall)
-            → IsSmooth new.state ⊎ (FaultsRose opening.disk (view new.disk) ⊎ IsTrue opening.may_stall)
+        by_smooth : IsSmooth old.state ⊎ (FaultsRose opening.disk (view old.disk) ⊎ MayStall opening)
+            → IsSmooth new.state ⊎ (FaultsRose opening.disk (view new.disk) ⊎ MayStall opening)
         by_smooth (inl s) = by_new (lasts.smooth r.least s)
         by_smooth (inr (inl rose)) = inr (inl (rose_then opening.disk (view old.disk) (view new.disk) went r.went_on rose))
         by_smooth (inr (inr left)) = inr (inr left)

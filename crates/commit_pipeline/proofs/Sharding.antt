@@ -1,12 +1,11 @@
 -- What the calls of the shards keep of a pipeline's limits.
-use Rattle.std.proofs.Common.{◌≡◌, ℕ, ◌+◌, ◌≤◌, ◌<◌, List, [], ◌∷◌, ◌++◌, length, ap, sym, subst, ◌∙◌, refl, arith}
+use Rattle.std.proofs.Common.{◌≡◌, ℕ, ◌+◌, ◌≤◌, ◌<◌, List, [], ◌∷◌, ◌++◌, sym, subst, arith}
 use Rattle.batch_repr.specs.declared.batch.Batch.{Batch}
 use Rattle.batch_repr.specs.declared.limits.TheConstants.{NUMBER_MAX, BATCHES_MAX}
-use Rattle.batch_repr.specs.Batches.{count_of, end_of, IsContiguous, end_after}
+use Rattle.batch_repr.specs.Batches.{count_of, end_of}
 use Rattle.batch_repr.proofs.Laws.{contiguous_push, end_push}
 use Rattle.failover_writer.specs.State.{State, len}
 use Rattle.memtable_shards.specs.declared.version.Version.{Version}
-use Rattle.memtable_shards.specs.Versions.{AreShardsOf}
 use Rattle.commit_pipeline.specs.Sharding.{HaveReached, GainBatch, KeepBatches, IsPipeWithinLimits}
 
 -- ---- where the shards have reached

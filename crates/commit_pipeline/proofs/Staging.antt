@@ -1,12 +1,12 @@
 -- What a pipeline holds over its calls.
-use Rattle.std.proofs.Common.{◌≡◌, ◌⊎◌, inl, inr, ℕ, ◌+◌, ◌≤◌, ◌<◌, Bool, List, [], ◌∷◌, ◌++◌, length, Some, None, IsTrue, ap, sym, subst, ◌∙◌, refl, arith, append_assoc}
-use Rattle.std.specs.Prelude.{Contains, count_by, ◌↔◌}
+use Rattle.std.proofs.Common.{◌≡◌, inl, inr, ℕ, ◌+◌, ◌≤◌, ◌<◌, Bool, List, [], ◌∷◌, ◌++◌, length, None, IsTrue, ap, sym, subst, ◌∙◌, refl, arith, append_assoc}
+use Rattle.std.specs.Prelude.{count_by}
 use Rattle.std.specs.List.{AllByRecursion}
-use Rattle.std.proofs.lemmas.List.{append-nil, length-append, take_all}
+use Rattle.std.proofs.lemmas.List.{append-nil, length-append}
 use Rattle.wal_base.specs.declared.entry.Entry.{Entry}
 use Rattle.batch_repr.specs.declared.batch.Batch.{Batch}
 use Rattle.batch_repr.specs.declared.limits.TheConstants.{NUMBER_MAX, BATCHES_MAX}
-use Rattle.batch_repr.specs.Batches.{count_of, end_of, IsContiguous, end_after}
+use Rattle.batch_repr.specs.Batches.{count_of, IsContiguous, end_after}
 use Rattle.batch_repr.proofs.Laws.{contiguous_append, end_append}
 use Rattle.disk_face.specs.View.{DiskView, files}
 use Rattle.log_writer.specs.Writer.{Writer}
@@ -22,7 +22,7 @@ use Rattle.memtable_shards.specs.Versions.{AreShardsOf}
 use Rattle.memtable_shards.specs.Newest.{FindsNewest}
 use Rattle.memtable_shards.proofs.Laws.{shard_answers_all}
 use Rattle.commit_pipeline.specs.declared.fault.Reply.{Reply}
-use Rattle.commit_pipeline.specs.Holding.{Opening, first_of, EndsBefore, IsOpened, KeepsJournal, Pipe, PipeStage, pipe_stage, PipelineHolds, StillHolds, HoldsBase, opening_on}
+use Rattle.commit_pipeline.specs.Holding.{Opening, first_of, EndsBefore, IsOpened, KeepsJournal, PipeStage, pipe_stage, PipelineHolds, StillHolds, HoldsBase, opening_on}
 use Rattle.commit_pipeline.specs.Committing.{next_batch, AddsBatch, AddsNothing, RepliesAfterAll}
 use Rattle.commit_pipeline.specs.Steps.{StepsFurther}
 use Rattle.commit_pipeline.specs.Sharding.{GainBatch, KeepBatches, ReadsOwnShard}
@@ -62,7 +62,7 @@ opens tells opening shards opened least are = record {
     threshold_is = refl;
     least = least;
     went_on = record { faults = λ side. omega arith; clock = omega arith; history = λ k low. refl };
-    quiet = opened.quiet;
+    polls = λ never side. omega arith;
     harmed = λ harm. absurd (unharmed harm);
     smooth = inl (record {
       lives = opened.lives;
@@ -87,14 +87,13 @@ none_stand tells (batch ∷ records) state v stands empty = absurd (omega (arith
 pub opens_on : {Disk : Type 0} (tells : Bool) (view : Disk → DiskView) (base : List Batch) (journal : JournalView Disk) (shards : List (List Version))
     → len journal.state ≡ 0 → EndsBefore base journal.state.next → Stands tells journal.state (view journal.disk) → IsSoundJournal journal.state
     → AreShardsOf shards base → HoldsBase tells view base journal (record { journal = journal; shards = shards })
-opens_on tells view base journal shards empty ends stands sound are may_stall quiet =
+opens_on tells view base journal shards empty ends stands sound are may_stall =
     let none = sound.none empty in
     opens tells (opening_on view base journal may_stall) shards (record {
       base = ends;
       empty = none_stand tells stands.0 journal.state (view journal.disk) stands.1 empty;
       none_begun = none.0;
       lives = none.1;
-      quiet = quiet;
     }) sound.least are
 
 -- ---- calls that add nothing

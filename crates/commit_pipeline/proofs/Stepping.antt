@@ -1,7 +1,6 @@
 -- The steps of a commit, one after another, and why a wait ends.
-use Rattle.std.proofs.Common.{◌≡◌, ◌⊎◌, inl, inr, ℕ, ◌≤◌, ◌<◌, Bool, List, [], ◌∷◌, Some, Result, Ok, Err, ap, sym, ◌∙◌, refl, arith}
-use Rattle.std.specs.Prelude.{IfOk, IfErr, ◌≢◌, ◌↔◌}
-use Rattle.batch_repr.specs.declared.batch.Batch.{Batch}
+use Rattle.std.proofs.Common.{◌≡◌, inr, ℕ, ◌≤◌, ◌<◌, Bool, List, [], ◌∷◌, Result, Ok, Err, ap, ◌∙◌, refl, arith}
+use Rattle.std.specs.Prelude.{IfOk, IfErr, ◌↔◌}
 use Rattle.disk_face.specs.View.{DiskView}
 use Rattle.log_writer.specs.Writer.{Writer}
 use Rattle.failover_writer.specs.declared.fault.JournalFault.{JournalFault}
@@ -15,7 +14,6 @@ use Rattle.failover_writer.specs.Remaining.{measure, Falls}
 use Rattle.failover_writer.specs.Keeping.{KeepsBases}
 use Rattle.failover_writer.specs.Lasting.{Lasts}
 use Rattle.failover_writer.specs.Sound.{IsSoundJournal}
-use Rattle.commit_pipeline.specs.Holding.{Opening, KeepsJournal}
 use Rattle.commit_pipeline.specs.Steps.{StepsFurther, HasEndedBy}
 use Rattle.commit_pipeline.proofs.Keeping.{kept_further}
 

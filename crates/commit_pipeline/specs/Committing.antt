@@ -1,5 +1,5 @@
 -- What a commit and a read come to (docs/FORMATS.md, "The commit").
-use Rattle.std.specs.Prelude.{◌≡◌, ◌⊎◌, ℕ, ◌+◌, ◌<◌, ◌≤◌, Bool, List, [], ◌∷◌, ◌++◌, length, Some, None, Result, Ok, Err, IsTrue}
+use Rattle.std.specs.Prelude.{◌≡◌, ◌⊎◌, ℕ, ◌+◌, ◌<◌, ◌≤◌, Bool, List, [], ◌∷◌, ◌++◌, length, None, Result, Ok, Err, IsTrue, OnOk, false}
 use Rattle.wal_base.specs.declared.entry.Entry.{Entry}
 use Rattle.batch_repr.specs.declared.batch.Batch.{Batch}
 use Rattle.batch_repr.specs.declared.limits.TheConstants.{NUMBER_MAX, BATCHES_MAX}
@@ -7,7 +7,11 @@ use Rattle.batch_repr.specs.Batches.{count_of, end_after, answer}
 use Rattle.disk_face.specs.declared.Side.{Side}
 use Rattle.disk_face.specs.View.{DiskView}
 use Rattle.disk_face.specs.Calls.{Stalls}
+use Rattle.failover_writer.specs.declared.fault.Step.{Step}
+use Rattle.failover_writer.specs.declared.fault.JournalFault.{JournalFault}
 use Rattle.failover_writer.specs.State.{State, len, acked}
+use Rattle.failover_writer.specs.Answered.{Settles}
+use Rattle.failover_writer.specs.Moves.{Pushes}
 use Rattle.commit_pipeline.specs.declared.fault.Committed.{Committed}
 use Rattle.commit_pipeline.specs.declared.fault.Reply.{Reply}
 use Rattle.commit_pipeline.specs.declared.fault.CommitFault.{CommitFault}
@@ -27,6 +31,17 @@ pub record AddsBatch (tells : Bool) (entries : List Entry) (old new : PipeStage)
   pub acked : acked old.journal ≤ acked new.journal
   pub holds : (opening : Opening) (batches : List Batch) → PipelineHolds tells opening batches old
       → PipelineHolds tells opening (batches ++ next_batch entries old.journal ∷ []) new
+
+-- The journal was stepped as long as a step moved.
+pub record StepsWhileMoving (old new : State) (before after : DiskView) : Type 0 where
+  pub answer : Result Step JournalFault
+  pub settles : Settles old new before after answer
+
+-- The batch of these entries was pushed, and then the journal was stepped so: what can be written without waiting is written.
+pub record LogsBatch (entries : List Entry) (sync : Bool) (old new : State) (before after : DiskView) : Type 0 where
+  pub pushed : State
+  pub pushes : Pushes (next_batch entries old) sync old pushed
+  pub steps : StepsWhileMoving pushed new before after
 
 -- Nothing was numbered.
 pub record AddsNothing (tells : Bool) (old new : PipeStage) : Type 0 where
@@ -67,9 +82,18 @@ HoldsOn tells entries old new = StillHolds tells old new
 
 -- ---- the calls of a pipeline
 
+-- The batch is logged, of a pipeline with its disk.
+abbrev pub LogsTo : {Disk : Type 0} → (Disk → DiskView) → List Entry → Bool → Pipe Disk → Pipe Disk → Type 0
+LogsTo view entries sync old new =
+    LogsBatch entries sync old.journal.state new.journal.state (view old.journal.disk) (view new.journal.disk)
+
 -- What a commit comes to, of a pipeline with its disk.
 abbrev pub AnswersCommit : {Disk : Type 0} → Bool → (Disk → DiskView) → List Entry → Bool → Pipe Disk → Pipe Disk → Result Committed CommitFault → Type 0
 AnswersCommit tells view entries sync old new answer = CommitsTo tells entries sync (pipe_stage view old) (pipe_stage view new) answer
+
+-- A commit that is answered with its numbers, and asked for no sync, logs its batch.
+abbrev pub LogsWhereUnsynced : {Disk : Type 0} → (Disk → DiskView) → List Entry → Bool → Pipe Disk → Pipe Disk → Result Committed CommitFault → Type 0
+LogsWhereUnsynced view entries sync old new answer = OnOk answer (sync ≡ false → LogsTo view entries sync old new)
 
 -- Whatever it held, it holds, or holds with these entries' batch more.
 abbrev pub HoldsAfterCommit : {Disk : Type 0} → Bool → (Disk → DiskView) → List Entry → Pipe Disk → Pipe Disk → Type 0

@@ -8,13 +8,14 @@ use Rattle.failover_writer.specs.State.{State, JournalView}
 use Rattle.failover_writer.specs.Ranges.{StandsFor}
 use Rattle.failover_writer.specs.Answered.{FaultsRose, IsHarmed, IsSmooth}
 use Rattle.failover_writer.specs.Keeping.{OthersStay, KeepsBase}
+use Rattle.failover_writer.specs.Running.{PollsLeft}
 use Rattle.failover_writer.specs.Sound.{HasGivenUp}
 use Rattle.failover_writer.specs.declared.fault.DeadMark.{DeadMark}
 use Rattle.memtable_shards.specs.declared.version.Version.{Version}
 use Rattle.memtable_shards.specs.Versions.{AreShardsOf}
 
 -- What a pipeline was made of: the batches of the store, a journal that has no record, its disk as it was then, and whether
--- polls may be left to stall.
+-- more polls may be left to stall since.
 pub record Opening : Type 0 where
   pub base : List Batch
   pub journal : State
@@ -34,9 +35,9 @@ pub record EndsBefore (base : List Batch) (next : ℕ) : Type 0 where
   pub contiguous : IsContiguous (first_number next base) base
   pub ends : end_after (first_number next base) base ≡ next
 
--- No poll is left to stall.
-abbrev pub NoPollsLeft : DiskView → Type 0
-NoPollsLeft v = (side : Side) → v.polls_left side ≡ 0
+-- A poll may be answered pending: some were left to stall at the opening, or some may be since.
+abbrev pub MayStall : Opening → Type 0
+MayStall opening = PollsLeft opening.disk ⊎ IsTrue opening.may_stall
 
 -- The journal goes on after the base. It has no record yet.
 pub record IsOpened (tells : Bool) (opening : Opening) : Type 0 where
@@ -44,7 +45,6 @@ pub record IsOpened (tells : Bool) (opening : Opening) : Type 0 where
   pub empty : StandsFor tells [] opening.journal opening.disk
   pub none_begun : opening.journal.segments ≡ []
   pub lives : opening.journal.dead ≡ None
-  pub quiet : opening.may_stall ≡ false → NoPollsLeft opening.disk
 
 -- The disk went on. Polls may have been left to stall.
 pub record WentOn (old new : DiskView) : Type 0 where
@@ -53,7 +53,7 @@ pub record WentOn (old new : DiskView) : Type 0 where
   pub history : (k : ℕ) → k ≤ old.clock → new.history k ≡ old.history k
 
 -- The journal of an opening, over its disk as it is now: its records are these batches. An operation failed, and it died, only
--- where faults rose since the opening; it began a second segment only there, or where polls may be left to stall. It keeps each
+-- where faults rose since the opening; it began a second segment only there, or where a poll may be answered pending. It keeps each
 -- base that it kept at the opening, and no file changed since but those of its segments.
 pub record KeepsJournal (tells : Bool) (opening : Opening) (batches : List Batch) (state : State) (v : DiskView) : Type 0 where
   pub stands : StandsFor tells batches state v
@@ -62,9 +62,9 @@ pub record KeepsJournal (tells : Bool) (opening : Opening) (batches : List Batch
   pub threshold_is : state.threshold ≡ opening.journal.threshold
   pub least : 1 ≤ state.threshold
   pub went_on : WentOn opening.disk v
-  pub quiet : opening.may_stall ≡ false → NoPollsLeft v
+  pub polls : opening.may_stall ≡ false → (side : Side) → v.polls_left side ≤ opening.disk.polls_left side
   pub harmed : IsHarmed state → FaultsRose opening.disk v
-  pub smooth : IsSmooth state ⊎ (FaultsRose opening.disk v ⊎ IsTrue opening.may_stall)
+  pub smooth : IsSmooth state ⊎ (FaultsRose opening.disk v ⊎ MayStall opening)
   pub kept : (base : List Batch) → KeepsBase tells base opening.journal opening.disk → KeepsBase tells base state v
   pub others : IsTrue tells → (at_start : Files) → OthersStay at_start opening.journal (files opening.disk) → OthersStay at_start state (files v)
 
@@ -96,9 +96,9 @@ StillHolds tells old new = (opening : Opening) (batches : List Batch) → Pipeli
 abbrev pub opening_on : {Disk : Type 0} → (Disk → DiskView) → List Batch → JournalView Disk → Bool → Opening
 opening_on view base journal may_stall = record { base = base; journal = journal.state; disk = view journal.disk; may_stall = may_stall }
 
--- At first it holds the base and no batch. Polls may be left to stall, or none is left and none will be.
+-- At first it holds the base and no batch, whether more polls may be left to stall or not.
 abbrev pub HoldsBase : {Disk : Type 0} → Bool → (Disk → DiskView) → List Batch → JournalView Disk → Pipe Disk → Type 0
-HoldsBase tells view base journal pipe = (may_stall : Bool) → (may_stall ≡ false → NoPollsLeft (view journal.disk))
+HoldsBase tells view base journal pipe = (may_stall : Bool)
     → PipelineHolds tells (opening_on view base journal may_stall) [] (pipe_stage view pipe)
 
 -- So many sessions, each seen as its number: 0, 1, and so on.

@@ -9,6 +9,7 @@ use Rattle.failover_writer.specs.declared.fault.Step.{Step}
 use Rattle.failover_writer.specs.declared.fault.JournalFault.{JournalFault}
 use Rattle.failover_writer.specs.declared.fault.JournalFault.TheVariants as faults
 use Rattle.commit_pipeline.specs.Holding.{Opening, KeepsJournal, IsDeadBy}
+use Rattle.commit_pipeline.specs.Committing.{StepsWhileMoving}
 
 -- The journal was stepped, so many times.
 pub record StepsFurther (tells : Bool) (old new : State) (before after : DiskView) : Type 0 where
@@ -21,6 +22,10 @@ pub record StepsFurther (tells : Bool) (old new : State) (before after : DiskVie
 -- The same, of a journal with its disk.
 abbrev pub StepsJournal : {Disk : Type 0} → Bool → (Disk → DiskView) → JournalView Disk → JournalView Disk → Type 0
 StepsJournal tells view old new = StepsFurther tells old.state new.state (view old.disk) (view new.disk)
+
+-- A journal with its disk was stepped as long as a step moved.
+abbrev pub SettlesJournal : {Disk : Type 0} → (Disk → DiskView) → JournalView Disk → JournalView Disk → Type 0
+SettlesJournal view old new = StepsWhileMoving old.state new.state (view old.disk) (view new.disk)
 
 -- A step that does not end with a fault leaves fewer steps to come, where there was work.
 abbrev pub FallsAtWork : {Disk : Type 0} → (Disk → DiskView) → JournalView Disk → JournalView Disk → Result Step JournalFault → Type 0

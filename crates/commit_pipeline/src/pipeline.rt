@@ -8,6 +8,7 @@ ghost use Rattle.memtable_shards.specs.Pieces.{whole_pieces};
 ghost use Rattle.failover_writer.specs.Sound.{IsSoundJournal};
 ghost use Rattle.commit_pipeline.specs.Holding.{EndsBefore, HoldsBase, AreSessions};
 ghost use Rattle.commit_pipeline.specs.Committing.{AnswersCommit, HoldsAfterCommit, HoldsAsBefore};
+ghost use Rattle.commit_pipeline.specs.Committing.{LogsTo, LogsWhereUnsynced};
 ghost use Rattle.commit_pipeline.specs.Committing.{HoldsWhereStalled, RepliesToRead, PipeStalls};
 ghost use Rattle.commit_pipeline.specs.Committing.{AddsTo, WaitsTo};
 ghost use Rattle.commit_pipeline.specs.Ending.{HandsOnJournal, TellsEnd};
@@ -105,6 +106,7 @@ impl<'a, D: Disk, G: Gate> Pipeline<'a, D, G> {
     ) -> Result<Committed, CommitFault>
         ensures did { AnswersCommit D.tells D.view batch sync self.old self.new result }
         ensures on { HoldsAfterCommit D.tells D.view batch self.old self.new }
+        ensures logs { LogsWhereUnsynced D.view batch sync self.old self.new result }
         ensures session { session.new ≡ session.old }
     {
         self.commit_for(session.number(), batch, sync)
@@ -117,7 +119,8 @@ impl<'a, D: Disk, G: Gate> Pipeline<'a, D, G> {
         batch: Unnumbered,
         sync: bool,
     ) -> Result<Committed, CommitFault>
-        ensures { AnswersCommit D.tells D.view batch sync self.old self.new result }
+        ensures did { AnswersCommit D.tells D.view batch sync self.old self.new result }
+        ensures logs { LogsWhereUnsynced D.view batch sync self.old self.new result }
     {
         let pieces = split(self.alloc, &batch)?;
         if let Some(mark) = self.journal.dead() {
@@ -149,6 +152,7 @@ impl<'a, D: Disk, G: Gate> Pipeline<'a, D, G> {
         requires within { self.old.journal.state.next + count_of batch ≤ NUMBER_MAX }
         requires pieces { pieces ≡ whole_pieces batch }
         ensures adds { AddsTo D.tells D.view batch self.old self.new }
+        ensures logs { LogsTo D.view batch sync self.old self.new }
         ensures first { result.first ≡ self.old.journal.state.next }
         ensures count { result.count ≡ count_of batch }
         ensures synced { result.synced ≡ sync }

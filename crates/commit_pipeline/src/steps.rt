@@ -2,7 +2,7 @@
 
 ghost use Rattle.std.specs.Prelude.{◌≡◌, ◌<◌, ◌≤◌, IfErr, OnOk, OnErr};
 ghost use Rattle.failover_writer.specs.State.{len, acked};
-ghost use Rattle.commit_pipeline.specs.Steps.{StepsJournal, FallsAtWork, HasEndedBy};
+ghost use Rattle.commit_pipeline.specs.Steps.{StepsJournal, SettlesJournal, FallsAtWork, HasEndedBy};
 
 use disk_face::Disk;
 use failover_writer::{Journal, JournalFault, Step, a_journal_at_hand};
@@ -10,6 +10,7 @@ use failover_writer::{Journal, JournalFault, Step, a_journal_at_hand};
 /// Does what can be done without waiting. A fault is not told here.
 pub(crate) fn settle<D: Disk>(journal: &mut Journal<D>)
     ensures further { StepsJournal D.tells D.view journal.old journal.new }
+    ensures settles { SettlesJournal D.view journal.old journal.new }
 {
     let _answer = journal.settle();
 }

@@ -10,8 +10,8 @@ use Rattle.commit_pipeline.proofs.Staging.{adds_nothing, adds_before}
 use Rattle.commit_pipeline.proofs.Committing.{AddsAndWaits, commits_faulty, commits_synced}
 use Rattle.commit_pipeline.proofs.pipeline.Pipeline.commit_for.Goals as goal
 
-pub returns-in_err-reserve : goal.returns-in_err-reserve
-returns-in_err-reserve g c =
+pub returns-in_err-reserve-clause-did : goal.returns-in_err-reserve-clause-did
+returns-in_err-reserve-clause-did g c =
     let tells = g.D.Disk.tells in
     let view = pipe_stage g.D.Disk.view in
     let e = c.reserve.ensures in
@@ -23,8 +23,8 @@ returns-in_err-reserve g c =
     subst (λ (r : Result Committed CommitFault). CommitsTo tells c.args.batch c.args.sync (view c.args.self.now) roomy r) (sym answers)
     (subst (λ (p : Pipe _). AddsNothing tells (view p) roomy) c.self.view_is none)
 
-pub returns-in_err-wait_for : goal.returns-in_err-wait_for
-returns-in_err-wait_for g c =
+pub returns-in_err-wait_for-clause-did : goal.returns-in_err-wait_for-clause-did
+returns-in_err-wait_for-clause-did g c =
     let tells = g.D.Disk.tells in
     let view = pipe_stage g.D.Disk.view in
     let e = c.reserve.ensures in
@@ -53,8 +53,8 @@ returns-in_err-wait_for g c =
     (commits_faulty tells c.args.batch c.args.sync old mid new c.add-committed.result waited fault c.if-sync.true
     (subst (λ (r : Result _ CommitFault). WaitsTo c.add-committed.result mid.journal new.journal r) came w.waits)))
 
-pub returns-in_ok-wait_for : goal.returns-in_ok-wait_for
-returns-in_ok-wait_for g c =
+pub returns-in_ok-wait_for-clause-did : goal.returns-in_ok-wait_for-clause-did
+returns-in_ok-wait_for-clause-did g c =
     let tells = g.D.Disk.tells in
     let view = pipe_stage g.D.Disk.view in
     let e = c.reserve.ensures in
@@ -80,8 +80,8 @@ returns-in_ok-wait_for g c =
     (commits_synced tells c.args.batch c.args.sync old mid new c.add-committed.result waited a.synced
     (subst (λ (r : Result _ CommitFault). WaitsTo c.add-committed.result mid.journal new.journal r) came w.waits))
 
-pub returns-else-sync : goal.returns-else-sync
-returns-else-sync g c =
+pub returns-else-sync-clause-did : goal.returns-else-sync-clause-did
+returns-else-sync-clause-did g c =
     let tells = g.D.Disk.tells in
     let view = pipe_stage g.D.Disk.view in
     let e = c.reserve.ensures in

@@ -1,4 +1,4 @@
-use Rattle.std.specs.Prelude.{◌≡◌, ◌-◌, ◌+◌, List, length}
+use Rattle.std.specs.Prelude.{◌≡◌, ◌-◌, List, length}
 use Rattle.batch_repr.specs.declared.batch.Batch.{Batch}
 use Rattle.memtable_shards.specs.declared.sharding.TheConstants.{SHARDS}
 use Rattle.memtable_shards.specs.Versions.{AreShardsOf}

@@ -4,12 +4,11 @@ use Rattle.std.proofs.lemmas.List.{take_more, take_all}
 use Rattle.wal_base.specs.declared.entry.Entry.{Entry}
 use Rattle.batch_repr.specs.declared.batch.Batch.{Batch}
 use Rattle.batch_repr.specs.declared.limits.TheConstants.{NUMBER_MAX}
-use Rattle.batch_repr.specs.Batches.{count_of, end_of, end_after, IsContiguous}
-use Rattle.memtable_shards.specs.declared.version.Version.{Version}
+use Rattle.batch_repr.specs.Batches.{count_of}
 use Rattle.memtable_shards.specs.Versions.{AreShardsOf}
 use Rattle.memtable_shards.specs.Pieces.{PiecesLeft}
 use Rattle.commit_pipeline.specs.Holding.{first_number, EndsBefore}
-use Rattle.commit_pipeline.specs.Sharding.{HaveReached, GainBatch}
+use Rattle.commit_pipeline.specs.Sharding.{GainBatch}
 use Rattle.commit_pipeline.proofs.Numbering.{StandsAt, stands_at}
 use Rattle.commit_pipeline.proofs.shards.Shards.load.Goals as goal
 
