@@ -1,0 +1,161 @@
+-- What the journal of a run came to, by what it keeps of its opening.
+use Rattle.std.proofs.Common.{◌≡◌, ◌≢◌, ◌⊎◌, inl, inr, ℕ, suc, ◌<◌, Bool, true, false, List, [], ◌∷◌, length, map, Option, Some, None, IsTrue, ap, sym, subst, ◌∙◌, refl, arith}
+use Rattle.std.specs.Prelude.{is_some, max, Contains}
+use Rattle.std.specs.List.{AllByRecursion}
+use Rattle.std.proofs.lemmas.List.{nil_from_length}
+use native.Mathlib.Decide.{dec_le}
+use Rattle.batch_repr.specs.declared.batch.Batch.{Batch}
+use Rattle.disk_face.specs.declared.SegName.{SegName}
+use Rattle.disk_face.specs.View.{Place, DiskView, files}
+use Rattle.log_writer.specs.Writer.{Writer}
+use Rattle.log_writer.specs.Fits.{place_of_writer}
+use Rattle.stall_monitor.specs.declared.verdict.TheConstants.{SEGMENTS_MAX}
+use Rattle.failover_writer.specs.declared.fault.DeadMark.{DeadMark}
+use Rattle.failover_writer.specs.State.{State, JournalView, unbegun, acked, most_synced, broken_count}
+use Rattle.failover_writer.specs.Ranges.{AreJoined}
+use Rattle.failover_writer.specs.Answered.{FaultsRose, IsSmooth}
+use Rattle.failover_writer.specs.Keeping.{IsElsewhere, OthersStay, IsOpening, KeepsBase, RecoversTo}
+use Rattle.failover_writer.specs.Running.{PollsLeft, OthersSame}
+use Rattle.failover_writer.proofs.Laws.{len_is, synced_within, not_theirs, base_recovers, run_kept_now, none_of_opening, reads_as_image}
+use Rattle.session_script.specs.declared.replies.RunEnd.{RunEnd}
+use Rattle.session_script.specs.declared.script.Round.{Round}
+use Rattle.commit_pipeline.specs.Holding.{Opening, MayStall, KeepsJournal}
+use Rattle.script_runner.specs.Runs.{WasClosed, StallsSome, EndsRunAs, HasRun, TellsJournal, run_opening}
+use Rattle.script_runner.proofs.AllowsStalls.{some_stall}
+
+-- ---- the opening
+
+-- A run's opening is that of a journal which was started over the disk, of this threshold, WAL and first number.
+pub record IsStarted (threshold : ℕ) (tells : Bool) (opening : Opening) (wal first : ℕ) (rounds : List Round) : Type 0 where
+  pub wal_is : opening.journal.wal ≡ wal
+  pub base_is : opening.journal.base ≡ first
+  pub threshold_is : opening.journal.threshold ≡ threshold
+  pub stay : OthersStay (files opening.disk) opening.journal (files opening.disk)
+  pub keeps : (base : List Batch) → IsOpening wal first base (files opening.disk) → KeepsBase tells base opening.journal opening.disk
+  pub may : IsTrue opening.may_stall → StallsSome rounds
+
+pub is_started : {Disk : Type 0} (threshold : ℕ) (tells : Bool) (view : Disk → DiskView) (base : List Batch) (rounds : List Round)
+    (wal first : ℕ) (disk : Disk) (journal : JournalView Disk) → journal ≡ record { disk = disk; state = unbegun wal first threshold journal.state.queue }
+    → OthersStay (files (view disk)) journal.state (files (view journal.disk))
+    → ((b : List Batch) → IsOpening wal first b (files (view disk)) → KeepsBase tells b journal.state (view journal.disk))
+    → IsStarted threshold tells (run_opening view base rounds journal) wal first rounds
+is_started threshold tells view base rounds wal first disk journal made stay keeps =
+    let same : disk ≡ journal.disk = sym (ap (λ (j : JournalView _). j.disk) made) in
+    record {
+      wal_is = ap (λ (j : JournalView _). j.state.wal) made;
+      base_is = ap (λ (j : JournalView _). j.state.base) made;
+      threshold_is = ap (λ (j : JournalView _). j.state.threshold) made;
+      stay = subst (λ (d : _). OthersStay (files (view d)) journal.state (files (view journal.disk))) same stay;
+      keeps = λ b opens. keeps b (subst (λ (d : _). IsOpening wal first b (files (view d))) (sym same) opens);
+      may = some_stall rounds;
+    }
+
+-- ---- the files
+
+-- A segment of this WAL stands nowhere else.
+stand_apart : (wal index synced : ℕ) (ws : List Writer) (p : Place) → AreJoined wal index synced ws → IsElsewhere wal p
+    → AllByRecursion (λ (w : Writer). place_of_writer w ≢ p) ws
+unfolding AreJoined
+stand_apart wal index synced [] p joined elsewhere = tt
+stand_apart wal index synced (w ∷ ws) p joined elsewhere = (
+  λ e. subst (IsElsewhere wal) (sym e) elsewhere (ap (λ (n : SegName). n.wal) joined.0.name),
+  stand_apart wal (suc index) (max synced w.synced) ws p joined.2 elsewhere,
+)
+
+module _ (threshold : ℕ) (tells : Bool) (opening : Opening) (wal first : ℕ) (rounds : List Round) (own : List Batch) (state : State) (v : DiskView)
+    (started : IsStarted threshold tells opening wal first rounds) (r : KeepsJournal tells opening own state v) where
+  wal_same : state.wal ≡ wal
+  wal_same = r.wal_is ∙ started.wal_is
+
+  pub run_others : IsTrue tells → OthersSame wal (files opening.disk) (files v)
+  run_others told p elsewhere =
+      r.others told (files opening.disk) started.stay p (not_theirs state.segments p (stand_apart state.wal 0 0 state.segments p r.stands.joined
+      (subst (λ (n : ℕ). IsElsewhere n p) (sym wal_same) elsewhere)))
+
+  -- ---- the end
+
+  module _ (end : RunEnd) (told_end : TellsJournal state v end) where
+    none_begun : own ≡ [] → state.segments ≡ []
+    none_begun empty = (told_end.sound.none (len_is tells own state v r.stands ∙ ap length empty)).0
+
+    acked_none : state.segments ≡ [] → acked state ≡ 0
+    unfolding most_synced
+    acked_none empty = ap (λ (ws : List Writer). most_synced 0 ws) empty
+
+    dead : IsTrue end.died → state.dead ≢ None
+    dead d none =
+        let clash : IsTrue (is_some {T = DeadMark} None) = subst (λ (o : Option DeadMark). IsTrue (is_some o)) none (subst IsTrue told_end.died_is d) in
+        cc
+
+    ten : state.dead ≢ None → length state.segments ≡ SEGMENTS_MAX
+    ten died = go state.dead refl
+      where
+        go : (o : Option DeadMark) → state.dead ≡ o → length state.segments ≡ SEGMENTS_MAX
+        go None is = absurd (died is)
+        go (Some mark) is = (told_end.sound.dead mark is).all
+
+    all_own : WasClosed end → end.acked ≡ length own
+    all_own closed = told_end.acked_is ∙ told_end.all closed ∙ len_is tells own state v r.stands
+
+    begun : (d : Bool) → end.died ≡ d → end.halted ≡ false → length state.segments ≡ 0 → length own ≡ 0
+    begun true is going none = omega (arith, ten (dead is), none)
+    begun false is going none = omega (
+      arith,
+      all_own (record { lives = is; goes_on = going }),
+      told_end.acked_is,
+      acked_none (nil_from_length state.segments none),
+    )
+
+    more : IsSmooth state ⊎ (FaultsRose opening.disk v ⊎ MayStall opening) → 1 < length state.segments
+        → FaultsRose opening.disk v ⊎ (PollsLeft opening.disk ⊎ StallsSome rounds)
+    more (inl s) many = absurd (omega (arith, s.few, many))
+    more (inr (inl rose)) many = inl rose
+    more (inr (inr (inl left))) many = inr (inl left)
+    more (inr (inr (inr may))) many = inr (inr (started.may may))
+
+    ends : EndsRunAs rounds (length own) end opening.disk v
+    ends = record {
+      within = omega (arith, told_end.acked_is, synced_within tells own v 0 state.segments (omega arith) r.stands.fit);
+      all = all_own;
+      rests = told_end.rests;
+      begun = λ going none. begun end.died refl going (omega (arith, none, told_end.segments_is));
+      none = λ empty. told_end.segments_is ∙ ap length (none_begun (nil_from_length own empty));
+      more = λ many. more r.smooth (omega (arith, many, told_end.segments_is));
+      failed = λ d. r.harmed (inl (dead d));
+      ten = λ d. told_end.segments_is ∙ ten (dead d);
+    }
+
+    not_broken : (FaultsRose opening.disk v → ⊥) → broken_count state ≡ 0
+    not_broken calm = elim (dec_le 1 (broken_count state)) [
+      | yes some ↦ absurd (calm (r.harmed (inr some)))
+      | no none ↦ omega (arith, none)
+    ]
+
+    recovers : IsTrue tells → (base : List Batch) → IsOpening wal first base (files opening.disk) → RecoversTo base own end.acked (files v)
+    recovers told base opens =
+        let keeps = r.kept base (started.keeps base opens) in
+        subst (λ (n : ℕ). RecoversTo base own n (files v)) (sym told_end.acked_is)
+        (base_recovers state.wal state.base own base (acked state) keeps.opening (files v) keeps.begun
+        (run_kept_now tells own keeps.opening state v told r.stands
+        (record { absent = none_of_opening state.wal state.base base keeps.opening keeps.begun; others = keeps.others told })))
+
+    pub has_run : HasRun threshold tells opening.disk wal first rounds own end v
+    has_run = record {
+      ends = ends;
+      of = record {
+        journal = state;
+        stands = r.stands;
+        wal_is = wal_same;
+        base_is = r.base_is ∙ started.base_is;
+        threshold_is = r.threshold_is ∙ started.threshold_is;
+        acked_is = told_end.acked_is;
+        segments_is = told_end.segments_is;
+        died_is = told_end.died_is;
+      };
+      others = run_others;
+      nothing = λ told empty p. r.others told (files opening.disk) started.stay p
+          (λ has. let none : Contains [] p = subst (λ (ws : List Writer). Contains (map place_of_writer ws) p) (none_begun empty) has in omega (arith, none.1));
+      recovers = recovers;
+      read = λ told rested calm. reads_as_image tells own (files opening.disk) state v told r.stands (not_broken calm) rested
+          (r.others told (files opening.disk) started.stay);
+    }

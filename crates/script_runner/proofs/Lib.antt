@@ -1,0 +1,15 @@
+mod Transcribes
+mod PerformsLines
+mod AreTurnsOf
+mod TurnsSoFar
+mod StallsPolls
+mod RoundsSoFar
+mod DeathLasts
+mod RunsRounds
+mod AllowsStalls
+mod GoesOnKept
+mod SaysRun
+mod HasRun
+mod HandsOnOver
+mod TellsOf
+mod RunsOver

@@ -1,0 +1,86 @@
+-- What a run tells of the disk that a script stalls, told of the disk within.
+use Rattle.std.proofs.Common.{◌≡◌, ◌⊎◌, inl, inr, ℕ, Bool, List, length, Option, sym, ap, ◌∙◌, arith, subst}
+use Rattle.batch_repr.specs.declared.batch.Batch.{Batch}
+use Rattle.disk_face.specs.declared.Side.{Side}
+use Rattle.disk_face.specs.declared.OpId.{OpId}
+use Rattle.disk_face.specs.View.{DiskView, Files, Flight, files, NothingInFlight}
+use Rattle.disk_face.specs.Image.{IsRested}
+use Rattle.disk_face.specs.Script.{TellsOf}
+use Rattle.failover_writer.specs.Answered.{FaultsRose}
+use Rattle.failover_writer.specs.Keeping.{IsOpening, RecoversTo}
+use Rattle.failover_writer.specs.Running.{PollsLeft, OthersSame, ReadsAsImage}
+use Rattle.failover_writer.proofs.Laws.{same_stands}
+use Rattle.session_script.specs.declared.replies.RunEnd.{RunEnd}
+use Rattle.session_script.specs.declared.script.Round.{Round}
+use Rattle.script_runner.specs.Runs.{PollsNeverRise, StallsSome, EndsRunAs, HasRun}
+
+told_files : (inner outer : DiskView) → TellsOf inner outer → files outer ≡ files inner
+told_files inner outer t = ap (λ (h : ℕ → Files). h outer.clock) t.history ∙ ap inner.history t.clock
+
+module _ (old start v new : DiskView) (before : TellsOf old start) (polls : (side : Side) → start.polls_left side ≡ old.polls_left side)
+    (after : TellsOf new v) where
+  faults_of : (side : Side) → start.faults side ≡ old.faults side
+  faults_of side = ap (λ (f : Side → ℕ). f side) before.faults
+
+  faults_then : (side : Side) → v.faults side ≡ new.faults side
+  faults_then side = ap (λ (f : Side → ℕ). f side) after.faults
+
+  pub polls_told : PollsNeverRise start v → PollsNeverRise old new
+  polls_told never side = omega (arith, never side, polls side, after.polls side)
+
+  rose_told : FaultsRose start v → FaultsRose old new
+  rose_told (side, rose) = (side, omega (arith, rose, faults_of side, faults_then side))
+
+  more_told : (rounds : List Round) → FaultsRose start v ⊎ (PollsLeft start ⊎ StallsSome rounds) → FaultsRose old new ⊎ (PollsLeft old ⊎ StallsSome rounds)
+  more_told rounds (inl rose) = inl (rose_told rose)
+  more_told rounds (inr (inl (side, left))) = inr (inl (side, omega (arith, left, polls side)))
+  more_told rounds (inr (inr some)) = inr (inr some)
+
+  idle_told : NothingInFlight v → NothingInFlight new
+  idle_told idle id = ap (λ (flights : OpId → Option Flight). flights id) (sym after.in_flight) ∙ idle id
+
+  ends_told : (rounds : List Round) (n : ℕ) (end : RunEnd) → EndsRunAs rounds n end start v → EndsRunAs rounds n end old new
+  ends_told rounds n end e = record {
+    within = e.within;
+    all = e.all;
+    rests = λ closed. idle_told (e.rests closed);
+    begun = e.begun;
+    none = e.none;
+    more = λ many. more_told rounds (e.more many);
+    failed = λ died. rose_told (e.failed died);
+    ten = e.ten;
+  }
+
+  was_files : files start ≡ files old
+  was_files = told_files old start before
+
+  now_files : files v ≡ files new
+  now_files = told_files new v after
+
+  pub others_told : (wal : ℕ) → OthersSame wal (files start) (files v) → OthersSame wal (files old) (files new)
+  others_told wal others =
+      subst (λ (fs : Files). OthersSame wal fs (files new)) was_files (subst (OthersSame wal (files start)) now_files others)
+
+  pub run_told : (threshold : ℕ) (tells : Bool) (wal first : ℕ) (rounds : List Round) (own : List Batch) (end : RunEnd)
+      → HasRun threshold tells start wal first rounds own end v → HasRun threshold tells old wal first rounds own end new
+  run_told threshold tells wal first rounds own end e = record {
+    ends = ends_told rounds (length own) end e.ends;
+    of = record {
+      journal = e.of.journal;
+      stands = same_stands tells own e.of.journal v new (record
+          { in_flight = sym after.in_flight; clock = sym after.clock; history = sym after.history }) e.of.stands;
+      wal_is = e.of.wal_is;
+      base_is = e.of.base_is;
+      threshold_is = e.of.threshold_is;
+      acked_is = e.of.acked_is;
+      segments_is = e.of.segments_is;
+      died_is = e.of.died_is;
+    };
+    others = λ told. others_told wal (e.others told);
+    nothing = λ told empty p.
+        let same : files v p ≡ files start p = e.nothing told empty p in
+        ap (λ (fs : Files). fs p) (sym now_files) ∙ same ∙ ap (λ (fs : Files). fs p) was_files;
+    recovers = λ told base opening. subst (RecoversTo base own end.acked) now_files
+        (e.recovers told base (subst (IsOpening wal first base) (sym was_files) opening));
+    read = λ told rested calm. subst ReadsAsImage now_files (e.read told (subst IsRested (sym was_files) rested) (λ rose. calm (rose_told rose)));
+  }

@@ -1,0 +1,6 @@
+pub mod Acts
+pub mod Transcripts
+pub mod Turns
+pub mod Rounds
+pub mod Runs
+pub mod Theorems

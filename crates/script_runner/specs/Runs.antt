@@ -1,0 +1,164 @@
+-- What a whole run of a script over a disk comes to (docs/FORMATS.md, "The run of a script").
+use Rattle.std.specs.Prelude.{◌≡◌, ◌≢◌, ◌⊎◌, ◌++◌, ℕ, ◌<◌, ◌≤◌, Bool, true, false, List, [], ◌∷◌, length, Contains, None, IsTrue, is_some}
+use Rattle.std.specs.List.{AllByRecursion, list_any}
+use Rattle.batch_repr.specs.declared.batch.Batch.{Batch}
+use Rattle.batch_repr.specs.declared.limits.TheConstants.{NUMBER_FIRST}
+use Rattle.batch_repr.specs.Batches.{end_after}
+use Rattle.disk_face.specs.declared.Side.{Side}
+use Rattle.disk_face.specs.View.{Place, DiskView, files, NothingInFlight}
+use Rattle.disk_face.specs.Image.{IsRested}
+use Rattle.stall_monitor.specs.declared.verdict.TheConstants.{SEGMENTS_MAX}
+use Rattle.failover_writer.specs.declared.fault.JournalEnd.{JournalEnd}
+use Rattle.failover_writer.specs.State.{State, JournalView, len, acked}
+use Rattle.failover_writer.specs.Answered.{FaultsRose}
+use Rattle.failover_writer.specs.Keeping.{RecoversTo, IsOpening}
+use Rattle.failover_writer.specs.Sound.{IsSoundJournal}
+use Rattle.failover_writer.specs.Running.{PollsLeft, EndsOf, OthersSame, ReadsAsImage}
+use Rattle.session_script.specs.declared.replies.RunEnd.{RunEnd}
+use Rattle.session_script.specs.declared.script.Round.{Round}
+use Rattle.session_script.specs.declared.script.StallLine.{StallLine}
+use Rattle.session_script.specs.declared.script.Script.{Script}
+use Rattle.session_script.specs.Replies.{end_line}
+use Rattle.session_script.specs.Legal.{Replied, replies_text, AreLegal}
+use Rattle.session_script.specs.Lasting.{DeathLasts}
+use Rattle.session_script.specs.Theorems.{limit_told, IsLimitedExactly}
+use Rattle.commit_pipeline.specs.Holding.{Opening, first_of, opening_on, KeepsJournal}
+use Rattle.script_runner.specs.declared.run.Replayed.{Replayed}
+use Rattle.script_runner.specs.declared.transcript.Transcript.{Transcript}
+use Rattle.script_runner.specs.Rounds.{SyncedAreAcked}
+
+-- ---- the end of a run
+
+-- The journal was closed: it lives, and the script did not halt.
+pub record WasClosed (end : RunEnd) : Type 0 where
+  pub lives : end.died ≡ false
+  pub goes_on : end.halted ≡ false
+
+-- No round stalls polls.
+abbrev pub StallNone : List Round → Type 0
+StallNone rounds = AllByRecursion (λ (round : Round). round.stalls ≡ []) rounds
+
+-- On no side are more polls left to stall than before.
+abbrev pub PollsNeverRise : DiskView → DiskView → Type 0
+PollsNeverRise old new = (side : Side) → new.polls_left side ≤ old.polls_left side
+
+-- Some round stalls polls.
+pub record StallsSome (rounds : List Round) : Type 0 where
+  pub round : Round
+  pub stands : Contains rounds round
+  pub some : round.stalls ≢ []
+
+-- The numbers of the end, for so many batches. A journal that was closed has synced them all and left nothing in flight; it has a
+-- segment where there is a batch, unless the script halted, and more than one only where an operation failed or was stalled; and it
+-- dies only where operations failed.
+pub record EndsRunAs (rounds : List Round) (batches : ℕ) (end : RunEnd) (old new : DiskView) : Type 0 where
+  pub within : end.acked ≤ batches
+  pub all : WasClosed end → end.acked ≡ batches
+  pub rests : WasClosed end → NothingInFlight new
+  pub begun : end.halted ≡ false → end.segments ≡ 0 → batches ≡ 0
+  pub none : batches ≡ 0 → end.segments ≡ 0
+  pub more : 1 < end.segments → FaultsRose old new ⊎ (PollsLeft old ⊎ StallsSome rounds)
+  pub failed : IsTrue end.died → FaultsRose old new
+  pub ten : IsTrue end.died → end.segments ≡ SEGMENTS_MAX
+
+-- what the end of a run says of its journal
+abbrev pub journal_end : RunEnd → JournalEnd
+journal_end end = record { acked = end.acked; segments = end.segments; died = end.died }
+
+-- The journal of a run was closed, or died, or was left as it was, with these numbers, over the disk as it is now.
+pub record HasRun (threshold : ℕ) (tells : Bool) (start : DiskView) (wal first : ℕ) (rounds : List Round) (own : List Batch) (end : RunEnd)
+    (v : DiskView) : Type 0 where
+  pub ends : EndsRunAs rounds (length own) end start v
+  pub of : EndsOf threshold tells wal first own (journal_end end) v
+  pub others : IsTrue tells → OthersSame wal (files start) (files v)
+  pub nothing : IsTrue tells → own ≡ [] → (p : Place) → files v p ≡ files start p
+  pub recovers : IsTrue tells → (base : List Batch) → IsOpening wal first base (files start) → RecoversTo base own end.acked (files v)
+  pub read : IsTrue tells → IsRested (files start) → (FaultsRose start v → ⊥) → ReadsAsImage (files v)
+
+-- ---- what is said
+
+-- What is said of a run: the replies, which are legal for these batches, and the last line. Each batch that is answered synced is
+-- acked, a journal that died stays dead, and a limit is told exactly where too much is asked for.
+pub record SaysRun (from : ℕ) (base : List Batch) (script : Script) (batches : List Batch) (replayed : Replayed) : Type 0 where
+  pub replies : List (List Replied)
+  pub legal : AreLegal from base replayed.end.died script.rounds batches replies
+  pub synced : AllByRecursion (SyncedAreAcked batches replayed.end.acked) replies
+  pub lasting : DeathLasts replies
+  pub exact : IsLimitedExactly from base replayed.end.died script.rounds batches replies
+  pub text : replayed.text ≡ replies_text replies ++ end_line replayed.end
+  pub visible : replayed.end.visible ≡ end_after from (base ++ batches)
+  pub count : replayed.end.batches ≡ length batches
+  pub halted : replayed.end.halted ≡ script.halted
+  pub limited : replayed.limited ≡ limit_told replies
+
+-- A script was run over a base and a disk: what it says, and what its journal came to.
+pub record RunsScript (base : List Batch) (script : Script) (wal threshold : ℕ) (tells : Bool) (old new : DiskView) (replayed : Replayed) : Type 0 where
+  pub batches : List Batch
+  pub says : SaysRun NUMBER_FIRST base script batches replayed
+  pub ended : HasRun threshold tells old wal (end_after NUMBER_FIRST base) script.rounds batches replayed.end new
+
+-- ---- inside
+
+-- whether there is a stall
+abbrev pub stalls_any : List StallLine → Bool
+stalls_any [] = false
+stalls_any (stall ∷ stalls) = true
+
+-- whether a round stalls polls
+abbrev pub has_stalls : Round → Bool
+has_stalls round = stalls_any round.stalls
+
+-- what a run is opened on: more polls may be left to stall where a round stalls some
+abbrev pub run_opening : {Disk : Type 0} → (Disk → DiskView) → List Batch → List Round → JournalView Disk → Opening
+run_opening view base rounds journal = opening_on view base journal (list_any has_stalls rounds)
+
+-- The journal keeps what it kept, and no fewer batches are acked.
+pub record GoesOnKept {Disk : Type 0} (tells : Bool) (view : Disk → DiskView) (old new : JournalView Disk) : Type 0 where
+  pub keeps : (opening : Opening) (batches : List Batch) → KeepsJournal tells opening batches old.state (view old.disk)
+      → KeepsJournal tells opening batches new.state (view new.disk)
+  pub acked : acked old.state ≤ acked new.state
+
+-- A journal that was dead is dead.
+abbrev pub RemainsDead : State → State → Type 0
+RemainsDead old new = old.dead ≢ None → new.dead ≢ None
+
+-- Unless the script halted, or the journal is dead, all batches are synced and nothing is in flight.
+abbrev pub IsShutUnless : Bool → State → DiskView → Type 0
+IsShutUnless halted state v = halted ≡ false → state.dead ≡ None → (acked state ≡ len state) × NothingInFlight v
+
+-- The numbers of the end are those of the journal.
+pub record TellsJournal (state : State) (v : DiskView) (end : RunEnd) : Type 0 where
+  pub acked_is : end.acked ≡ acked state
+  pub segments_is : end.segments ≡ length state.segments
+  pub died_is : end.died ≡ is_some state.dead
+  pub all : WasClosed end → acked state ≡ len state
+  pub rests : WasClosed end → NothingInFlight v
+  pub sound : IsSoundJournal state
+
+-- The run has ended, with these numbers. A journal that was dead is dead.
+pub record EndsJournal {Disk : Type 0} (view : Disk → DiskView) (halted : Bool) (visible batches : ℕ) (old new : JournalView Disk) (end : RunEnd) : Type 0 where
+  pub visible_is : end.visible ≡ visible
+  pub batches_are : end.batches ≡ batches
+  pub halted_is : end.halted ≡ halted
+  pub dies : RemainsDead old.state new.state
+  pub tells : TellsJournal new.state (view new.disk) end
+
+-- The run has ended so, and its last line is added to what was said.
+pub record EndsRun {Disk : Type 0} (view : Disk → DiskView) (halted : Bool) (visible batches : ℕ) (transcript : Transcript) (old new : JournalView Disk)
+    (replayed : Replayed) : Type 0 where
+  pub ends : EndsJournal view halted visible batches old new replayed.end
+  pub text : replayed.text ≡ transcript.text ++ end_line replayed.end
+  pub limited : replayed.limited ≡ transcript.limited
+
+-- The journal that is handed on is as it was, or keeps the opening of the run, with some batches.
+abbrev pub HandsOnOver : {Disk : Type 0} → Bool → (Disk → DiskView) → List Batch → List Round → JournalView Disk → JournalView Disk → Type 0
+HandsOnOver tells view base rounds old new = (new ≡ old)
+    ⊎ ((batches : List Batch) × KeepsJournal tells (run_opening view base rounds old) batches new.state (view new.disk))
+
+-- A script was run over a base and a journal: what it says, and what its journal came to.
+pub record RunsOver {Disk : Type 0} (tells : Bool) (view : Disk → DiskView) (base : List Batch) (script : Script) (old new : JournalView Disk)
+    (replayed : Replayed) : Type 0 where
+  pub batches : List Batch
+  pub keeps : KeepsJournal tells (run_opening view base script.rounds old) batches new.state (view new.disk)
+  pub says : SaysRun (first_of (run_opening view base script.rounds old)) base script batches replayed
+  pub tells_end : TellsJournal new.state (view new.disk) replayed.end

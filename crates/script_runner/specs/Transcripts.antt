@@ -1,0 +1,36 @@
+-- What a run has said so far (docs/FORMATS.md, "The replies").
+use Rattle.std.specs.Prelude.{◌≡◌, ◌++◌, ◌||◌, ℕ, Bool, false, List, []}
+use Rattle.std.specs.List.{flat_map, list_any}
+use Rattle.session_script.specs.declared.replies.Said.{Said}
+use Rattle.session_script.specs.Replies.{reply_line}
+use Rattle.session_script.specs.Legal.{Replied, replies_text}
+use Rattle.session_script.specs.Theorems.{tells_limit, limit_told}
+use Rattle.script_runner.specs.declared.transcript.Transcript.{Transcript}
+
+-- whether one of these replies tells of a limit
+abbrev pub any_limit : List Replied → Bool
+any_limit replies = list_any (λ (r : Replied). tells_limit r.said) replies
+
+-- the lines of some replies
+abbrev pub lines_text : List Replied → List ℕ
+lines_text replies = flat_map (λ (r : Replied). reply_line r.line.session r.said) replies
+
+-- Nothing was said.
+pub record IsEmptyTranscript (transcript : Transcript) : Type 0 where
+  pub text : transcript.text ≡ []
+  pub limited : transcript.limited ≡ false
+
+-- A reply is added to it.
+pub record NotesReply (session : ℕ) (said : Said) (old new : Transcript) : Type 0 where
+  pub text : new.text ≡ old.text ++ reply_line session said
+  pub limited : new.limited ≡ (old.limited || tells_limit said)
+
+-- These replies are added to it.
+pub record NotesReplies (replies : List Replied) (old new : Transcript) : Type 0 where
+  pub text : new.text ≡ old.text ++ lines_text replies
+  pub limited : new.limited ≡ (old.limited || any_limit replies)
+
+-- The replies of these rounds are added to it.
+pub record NotesRounds (rounds : List (List Replied)) (old new : Transcript) : Type 0 where
+  pub text : new.text ≡ old.text ++ replies_text rounds
+  pub limited : new.limited ≡ (old.limited || limit_told rounds)
