@@ -4,5 +4,4 @@ pub use Rattle.failover_writer.proofs.IsOpening.{read_synced, recovered_opens, r
 pub use Rattle.failover_writer.proofs.RecoversTo.{base_recovers, none_of_opening}
 pub use Rattle.failover_writer.proofs.ReadsAsImage.{reads_as_image}
 pub use Rattle.failover_writer.proofs.Segments.{not_theirs, synced_within}
-pub use Rattle.failover_writer.proofs.StandsFor.{same_stands}
-pub use Rattle.failover_writer.proofs.Runs.{len_is, runs_further, runs_reserved, runs_pushed, pushes_over, runs_on, runs_then, others_same, has_ended}
+pub use Rattle.failover_writer.proofs.StandsFor.{same_stands, len_is}

@@ -26,4 +26,3 @@ mod Lasts
 mod IsOpening
 mod ReadsAsImage
 mod Limits
-mod Runs

@@ -1,6 +1,7 @@
 -- What a journal holds where no file changes: at its start, and over a disk that stays.
 use Rattle.std.proofs.Common.{◌≡◌, ℕ, ◌≤◌, Bool, List, [], length, drop, Option, Some, None, IsTrue, ap, sym, subst, ◌∙◌, refl, arith}
 use Rattle.std.specs.List.{AllByRecursion}
+use Rattle.std.proofs.lemmas.List.{length-drop}
 use Rattle.batch_repr.specs.declared.batch.Batch.{Batch}
 use Rattle.batch_repr.specs.Batches.{IsContiguous, end_after}
 use Rattle.disk_face.specs.declared.OpId.{OpId}
@@ -10,7 +11,7 @@ use Rattle.record_queue.specs.Queue.{Queue}
 use Rattle.log_writer.specs.Writer.{Writer}
 use Rattle.log_writer.specs.Fits.{Fits, IsUnsent, place_of_writer}
 use Rattle.log_writer.proofs.Laws.{same_disk, fits_beside}
-use Rattle.failover_writer.specs.State.{State}
+use Rattle.failover_writer.specs.State.{State, len}
 use Rattle.failover_writer.specs.Ranges.{AreJoined, AreUnsent, StandsFor}
 use Rattle.failover_writer.proofs.Segments.{place_at}
 use Rattle.failover_writer.proofs.Lists.{all_then}
@@ -75,3 +76,8 @@ roomy_stands tells records state queue v start held stands = record {
   alone = stands.alone;
   fresh = stands.fresh;
 }
+
+-- ---- what a run's journal keeps
+
+pub len_is : (tells : Bool) (own : List Batch) (state : State) (v : DiskView) → StandsFor tells own state v → len state ≡ length own
+len_is tells own state v stands = omega (arith, stands.queue.start, ap length stands.queue.holds, length-drop state.queue.start own)

@@ -1,9 +1,9 @@
 -- What a run has to say comes exactly where its cause holds.
 use Rattle.disk_face.specs.Image.{directories}
-use Rattle.std.proofs.Common.{◌≡◌, ◌⊎◌, inl, inr, ℕ, ◌<◌, ◌≤◌, List, refl, sym, ◌∙◌, arith, subst}
+use Rattle.std.proofs.Common.{◌≡◌, ◌⊎◌, inl, inr, ℕ, ◌<◌, ◌≤◌, true, false, List, refl, sym, ◌∙◌, arith, subst}
 use Rattle.std.specs.Prelude.{IsTrue}
 use Rattle.batch_repr.specs.declared.batch.Batch.{Batch}
-use Rattle.batch_repr.specs.declared.limits.TheConstants.{NUMBER_MAX}
+use Rattle.batch_repr.specs.declared.limits.TheConstants.{NUMBER_FIRST}
 use Rattle.disk_face.specs.View.{DiskView}
 use Rattle.wal_recovery.specs.declared.reports.Mode.{Mode}
 use Rattle.wal_recovery.specs.declared.reports.Mode.TheVariants.{Strict, Lenient}
@@ -13,19 +13,20 @@ use Rattle.wal_recovery.specs.Refused.{IsRefused, IsLenientlyRefused}
 use Rattle.wal_recovery.specs.Answers.{IsRefusedBy}
 use Rattle.wal_recovery.proofs.Laws.{recovers_once, recovered_or_refused, lenient_or_refused}
 use Rattle.disk_face.specs.declared.names.TheConstants.{WAL_MAX}
-use Rattle.wal_top.specs.declared.script.Act.{Act}
-use Rattle.failover_writer.specs.declared.fault.JournalEnd.{JournalEnd}
+use Rattle.session_script.specs.declared.script.Script.{Script}
+use Rattle.session_script.specs.Theorems.{limit_told, AsksTooMuch, IsLimitedExactly}
+use Rattle.script_runner.specs.declared.run.Replayed.{Replayed}
 use Rattle.wal_top.specs.declared.status.Status.{Status}
-use Rattle.wal_top.specs.declared.status.Status.TheVariants.{Done, Usage, Script, Read, Write, Disk, Refused, NoMemory, Limit}
+use Rattle.wal_top.specs.declared.status.Status.TheVariants.{Done, Usage, Read, Write, Disk, Refused, NoMemory, Limit}
+use Rattle.wal_top.specs.declared.status.Status.TheVariants as statuses
 use Rattle.wal_top.specs.Call.{Invocation, Rises, HasCalmSource, HasCalmDisk}
 use Rattle.wal_top.specs.Words.{IsCommand, IsReplay, IsRecover, IsDump, RecoversIn, ReadsSource}
 use Rattle.wal_top.specs.Reading.{TellsScript, TellsNoScript}
-use Rattle.wal_top.specs.Replay.{IsReplayText, AllCommitted, LacksBatch}
-use Rattle.wal_top.specs.Outcomes.{ReachesDisk, read, unread, Replays, IsDoneRun, replayed, recovered, dumped, IsLimited, of_numbers, of_wals, FailsDisk, in_recovery, dead, RefusesDirectories, HasToSay}
-use Rattle.wal_top.specs.Run.{Run, YieldsTo, IsDoneUnless, MayBegin, end_of_script, ComesExactly}
+use Rattle.wal_top.specs.Outcomes.{ReachesDisk, read, unread, Replays, IsDoneRun, replayed, recovered, dumped, IsLimited, of_commits, of_wals}
+use Rattle.wal_top.specs.Outcomes.{FailsDisk, in_recovery, dead, RefusesDirectories, HasToSay}
+use Rattle.wal_top.specs.Run.{Run, YieldsTo, IsDoneUnless, MayBegin, AsksEnough, ComesExactly}
 use Rattle.wal_top.proofs.Coming.{one_next_wal}
-use Rattle.wal_top.proofs.Counting.{all_numbers, none_lacks}
-use Rattle.wal_top.proofs.TellsScript.{not_refused, not_accepted, acts_told}
+use Rattle.wal_top.proofs.TellsScript.{not_refused, not_accepted, script_told}
 
 -- ---- no command is two
 
@@ -67,21 +68,21 @@ module _ (c : Invocation) where
 
   failed_command : (text : List ℕ) → FailsDisk c text → IsCommand c.words
   failed_command text (in_recovery f) = is_command c.words f.mode f.words
-  failed_command text (dead acts batches end r died) = inl r.words
+  failed_command text (dead script ran r died) = inl r.words
 
   limited_replay : (text : List ℕ) → IsLimited c text → IsReplay c.words
-  limited_replay text (of_numbers acts batches end r lives lacks) = r.words
+  limited_replay text (of_commits script ran r lives some) = r.words
   limited_replay text (of_wals l) = l.words
 
   done_command : (text : List ℕ) → IsDoneRun c text → IsCommand c.words
-  done_command text (replayed acts batches end r lives all) = inl r.words
+  done_command text (replayed script ran r lives none) = inl r.words
   done_command text (recovered s) = inr (inl s.words)
   done_command text (dumped s) = inr (inr s.words)
 
   no_command_is : (said : Status) (text : List ℕ) → HasToSay c said text → (IsCommand c.words → ⊥) → said ≡ Usage
   no_command_is Done text h none = absurd (none (done_command text h))
   no_command_is Usage text h none = refl
-  no_command_is Script text h none = absurd (none (inl h.0))
+  no_command_is statuses.Script text h none = absurd (none (inl h.0))
   no_command_is Read text h none = absurd (none (inl h.0))
   no_command_is Write text h none = absurd h
   no_command_is Disk text h none = absurd (none (failed_command text h))
@@ -93,31 +94,32 @@ module _ (c : Invocation) where
 
   never_failed : (text : List ℕ) → FailsDisk c text → HasCalmDisk c → ⊥
   never_failed text (in_recovery f) calm = calm f.side f.failed
-  never_failed text (dead acts batches end r died) calm = let rose = r.done.ends.failed died in calm rose.0 rose.1
+  never_failed text (dead script ran r died) calm = let rose = r.done.ends.failed died in calm rose.0 rose.1
 
   -- ---- a script that is not accepted
 
   reached_accepted : ReadsSource c.words → TellsNoScript c.left.before → ReachesDisk c → ⊥
-  reached_accepted words told (read acts is reads) = not_accepted c.left.before c.left.after acts told reads
+  reached_accepted words told (read script is reads) = not_accepted c.left.before c.left.after script told reads
   reached_accepted words told (unread none stays) = none words
 
   failed_accepted : (text : List ℕ) → ReadsSource c.words → TellsNoScript c.left.before → FailsDisk c text → ⊥
   failed_accepted text words told (in_recovery f) = reached_accepted words told f.reaches
-  failed_accepted text words told (dead acts batches end r died) = not_accepted c.left.before c.left.after acts told r.accepts
+  failed_accepted text words told (dead script ran r died) = not_accepted c.left.before c.left.after script told r.accepts
 
   limited_accepted : (text : List ℕ) → TellsNoScript c.left.before → IsLimited c text → ⊥
-  limited_accepted text told (of_numbers acts batches end r lives lacks) = not_accepted c.left.before c.left.after acts told r.accepts
-  limited_accepted text told (of_wals l) = not_accepted c.left.before c.left.after l.acts told l.accepts
+  limited_accepted text told (of_commits script ran r lives some) = not_accepted c.left.before c.left.after script told r.accepts
+  limited_accepted text told (of_wals l) = not_accepted c.left.before c.left.after l.script told l.accepts
 
   done_accepted : (text : List ℕ) → ReadsSource c.words → TellsNoScript c.left.before → IsDoneRun c text → ⊥
-  done_accepted text words told (replayed acts batches end r lives all) = not_accepted c.left.before c.left.after acts told r.accepts
+  done_accepted text words told (replayed script ran r lives none) = not_accepted c.left.before c.left.after script told r.accepts
   done_accepted text words told (recovered s) = not_recover c.words words s.words
   done_accepted text words told (dumped s) = not_dump c.words words s.words
 
-  no_script_is : (said : Status) (text : List ℕ) → HasToSay c said text → ReadsSource c.words → TellsNoScript c.left.before → HasCalmSource c → said ≡ Script
+  no_script_is : (said : Status) (text : List ℕ) → HasToSay c said text → ReadsSource c.words → TellsNoScript c.left.before → HasCalmSource c
+      → said ≡ statuses.Script
   no_script_is Done text h words told calm = absurd (done_accepted text words told h)
   no_script_is Usage text h words told calm = absurd (h.0 (inl words))
-  no_script_is Script text h words told calm = refl
+  no_script_is statuses.Script text h words told calm = refl
   no_script_is Read text h words told calm = absurd (calm h.1)
   no_script_is Write text h words told calm = absurd h
   no_script_is Disk text h words told calm = absurd (failed_accepted text words told h)
@@ -130,7 +132,7 @@ module _ (c : Invocation) where
   module _ (mode : Mode) (why : RecoverFault) (words : RecoversIn c.words mode) (told : IsTrue c.tells)
       (is_refused : IsRefusedBy mode (directories c.disk.before) why) where
     limited_unrefused : (text : List ℕ) → IsLimited c text → ⊥
-    limited_unrefused text (of_numbers acts batches end r lives lacks) =
+    limited_unrefused text (of_commits script ran r lives some) =
         recovered_or_refused (directories c.disk.before) r.done.base why (r.done.recovers told)
         (refused_strictly c.words mode c.disk.before why (inl r.words) words is_refused)
     limited_unrefused text (of_wals l) =
@@ -138,7 +140,7 @@ module _ (c : Invocation) where
         (refused_strictly c.words mode c.disk.before why (inl l.words) words is_refused)
 
     done_unrefused : (text : List ℕ) → IsDoneRun c text → ⊥
-    done_unrefused text (replayed acts batches end r lives all) =
+    done_unrefused text (replayed script ran r lives none) =
         recovered_or_refused (directories c.disk.before) r.done.base why (r.done.recovers told)
         (refused_strictly c.words mode c.disk.before why (inl r.words) words is_refused)
     done_unrefused text (recovered s) =
@@ -152,7 +154,7 @@ module _ (c : Invocation) where
         → HasCalmSource c → HasCalmDisk c → said ≡ Refused
     refused_is Done text h good calm calm_disk = absurd (done_unrefused text h)
     refused_is Usage text h good calm calm_disk = absurd (h.0 (is_command c.words mode words))
-    refused_is Script text h good calm calm_disk = absurd (not_refused c.left text (good h.0) h.1)
+    refused_is statuses.Script text h good calm calm_disk = absurd (not_refused c.left text (good h.0) h.1)
     refused_is Read text h good calm calm_disk = absurd (calm h.1)
     refused_is Write text h good calm calm_disk = absurd h
     refused_is Disk text h good calm calm_disk = absurd (never_failed text h calm_disk)
@@ -176,38 +178,34 @@ module _ (c : Invocation) where
       (refused_leniently c.words r.mode c.disk.before r.fault dump r.words (r.refused told))
 
   module _ (b : MayBegin c) where
-    -- the base and the acts are those
-    replay_told : (acts : List Act) (batches : List Batch) (end : JournalEnd) (text : List ℕ) → Replays c acts batches end text
-        → IsReplayText b.base b.script.good.acts batches end text
-    replay_told acts batches end text r =
-        subst (λ (a : List Act). IsReplayText b.base a batches end text) (acts_told c.left.before c.left.after acts b.script r.accepts)
-        (subst (λ (l : List Batch). IsReplayText l acts batches end text)
-        (recovers_once (directories c.disk.before) r.done.base b.base (r.done.recovers b.tells) b.recovers) r.done.answers)
+    -- the base and the script are those
+    asks_told : (script : Script) (ran : Replayed) (text : List ℕ) → (r : Replays c script ran text)
+        → IsLimitedExactly NUMBER_FIRST b.base ran.end.died b.script.script.rounds r.done.batches r.done.says.replies
+    asks_told script ran text r =
+        subst (λ (s : Script). IsLimitedExactly NUMBER_FIRST b.base ran.end.died s.rounds r.done.batches r.done.says.replies)
+        (script_told c.left.before c.left.after script b.script r.accepts)
+        (subst (λ (l : List Batch). IsLimitedExactly NUMBER_FIRST l ran.end.died script.rounds r.done.batches r.done.says.replies)
+        (recovers_once (directories c.disk.before) r.done.base b.base (r.done.recovers b.tells) b.recovers) r.done.says.exact)
 
-    done_within : (text : List ℕ) → IsDoneRun c text → (WAL_MAX < b.next) ⊎ (NUMBER_MAX < end_of_script b) → ⊥
-    done_within text (replayed acts batches end r lives all) (inl past) = omega
+    done_within : (text : List ℕ) → IsDoneRun c text → (WAL_MAX < b.next) ⊎ AsksTooMuch NUMBER_FIRST b.base b.script.script.rounds → ⊥
+    done_within text (replayed script ran r lives none) (inl past) = omega
         (arith, past, r.done.logs.within, one_next_wal c.disk.before r.done.logs.wal b.next (r.done.logs.next b.tells) b.next_is)
-    done_within text (replayed acts batches end r lives all) (inr past) =
-        omega (
-          arith,
-          past,
-          all_numbers b.base b.script.good.acts batches end text (replay_told acts batches end text r)
-              (subst (λ (a : List Act). AllCommitted a batches) (acts_told c.left.before c.left.after acts b.script r.accepts) all),
-        )
+    done_within text (replayed script ran r lives none) (inr much) =
+        let clash : true ≡ false = sym ((asks_told script ran text r).some lives much) ∙ sym r.done.says.limited ∙ none in absurd cc
     done_within text (recovered s) past = not_recover c.words b.words s.words
     done_within text (dumped s) past = not_dump c.words b.words s.words
 
-    limited_past : (text : List ℕ) → IsLimited c text → b.next ≤ WAL_MAX → end_of_script b ≤ NUMBER_MAX → ⊥
-    limited_past text (of_numbers acts batches end r lives lacks) within room =
-        none_lacks b.base b.script.good.acts batches end text lives (replay_told acts batches end text r) room
-        (subst (λ (a : List Act). LacksBatch a batches) (acts_told c.left.before c.left.after acts b.script r.accepts) lacks)
-    limited_past text (of_wals l) within room = omega (arith, l.past, within, one_next_wal c.disk.before l.next b.next (l.next_is b.tells) b.next_is)
+    limited_past : (text : List ℕ) → IsLimited c text → b.next ≤ WAL_MAX → AsksEnough b → ⊥
+    limited_past text (of_commits script ran r lives some) within enough =
+        let none : limit_told r.done.says.replies ≡ false = (asks_told script ran text r).none enough.numbers enough.batches in
+        let clash : true ≡ false = sym some ∙ r.done.says.limited ∙ none in absurd cc
+    limited_past text (of_wals l) within enough = omega (arith, l.past, within, one_next_wal c.disk.before l.next b.next (l.next_is b.tells) b.next_is)
 
-    limited_is : (said : Status) (text : List ℕ) → HasToSay c said text → (WAL_MAX < b.next) ⊎ (NUMBER_MAX < end_of_script b)
+    limited_is : (said : Status) (text : List ℕ) → HasToSay c said text → (WAL_MAX < b.next) ⊎ AsksTooMuch NUMBER_FIRST b.base b.script.script.rounds
         → HasCalmSource c → HasCalmDisk c → said ≡ Limit
     limited_is Done text h past calm calm_disk = absurd (done_within text h past)
     limited_is Usage text h past calm calm_disk = absurd (h.0 (inl b.words))
-    limited_is Script text h past calm calm_disk = absurd (not_refused c.left text b.script h.1)
+    limited_is statuses.Script text h past calm calm_disk = absurd (not_refused c.left text b.script h.1)
     limited_is Read text h past calm calm_disk = absurd (calm h.1)
     limited_is Write text h past calm calm_disk = absurd h
     limited_is Disk text h past calm calm_disk = absurd (never_failed text h calm_disk)
@@ -215,23 +213,23 @@ module _ (c : Invocation) where
     limited_is NoMemory text h past calm calm_disk = absurd h
     limited_is Limit text h past calm calm_disk = refl
 
-    replays_is : (said : Status) (text : List ℕ) → HasToSay c said text → b.next ≤ WAL_MAX → end_of_script b ≤ NUMBER_MAX → HasCalmSource c
+    replays_is : (said : Status) (text : List ℕ) → HasToSay c said text → b.next ≤ WAL_MAX → AsksEnough b → HasCalmSource c
         → HasCalmDisk c → said ≡ Done
-    replays_is Done text h within room calm calm_disk = refl
-    replays_is Usage text h within room calm calm_disk = absurd (h.0 (inl b.words))
-    replays_is Script text h within room calm calm_disk = absurd (not_refused c.left text b.script h.1)
-    replays_is Read text h within room calm calm_disk = absurd (calm h.1)
-    replays_is Write text h within room calm calm_disk = absurd h
-    replays_is Disk text h within room calm calm_disk = absurd (never_failed text h calm_disk)
-    replays_is Refused text h within room calm calm_disk = absurd (recovered_unrefused b.base text (inl b.words) b.tells b.recovers h)
-    replays_is NoMemory text h within room calm calm_disk = absurd h
-    replays_is Limit text h within room calm calm_disk = absurd (limited_past text h within room)
+    replays_is Done text h within enough calm calm_disk = refl
+    replays_is Usage text h within enough calm calm_disk = absurd (h.0 (inl b.words))
+    replays_is statuses.Script text h within enough calm calm_disk = absurd (not_refused c.left text b.script h.1)
+    replays_is Read text h within enough calm calm_disk = absurd (calm h.1)
+    replays_is Write text h within enough calm calm_disk = absurd h
+    replays_is Disk text h within enough calm calm_disk = absurd (never_failed text h calm_disk)
+    replays_is Refused text h within enough calm calm_disk = absurd (recovered_unrefused b.base text (inl b.words) b.tells b.recovers h)
+    replays_is NoMemory text h within enough calm calm_disk = absurd h
+    replays_is Limit text h within enough calm calm_disk = absurd (limited_past text h within enough)
 
   recover_is : (said : Status) (text : List ℕ) → HasToSay c said text → IsRecover c.words → IsTrue c.tells → (base : List Batch)
       → Recovers (directories c.disk.before) base → HasCalmDisk c → said ≡ Done
   recover_is Done text h words told base recovers calm_disk = refl
   recover_is Usage text h words told base recovers calm_disk = absurd (h.0 (inr (inl words)))
-  recover_is Script text h words told base recovers calm_disk = absurd (not_recover c.words h.0 words)
+  recover_is statuses.Script text h words told base recovers calm_disk = absurd (not_recover c.words h.0 words)
   recover_is Read text h words told base recovers calm_disk = absurd (not_recover c.words h.0 words)
   recover_is Write text h words told base recovers calm_disk = absurd h
   recover_is Disk text h words told base recovers calm_disk = absurd (never_failed text h calm_disk)
@@ -243,7 +241,7 @@ module _ (c : Invocation) where
       → RecoversLenient (directories c.disk.before) base → HasCalmDisk c → said ≡ Done
   dump_is Done text h words told base recovers calm_disk = refl
   dump_is Usage text h words told base recovers calm_disk = absurd (h.0 (inr (inr words)))
-  dump_is Script text h words told base recovers calm_disk = absurd (not_dump c.words h.0 words)
+  dump_is statuses.Script text h words told base recovers calm_disk = absurd (not_dump c.words h.0 words)
   dump_is Read text h words told base recovers calm_disk = absurd (not_dump c.words h.0 words)
   dump_is Write text h words told base recovers calm_disk = absurd h
   dump_is Disk text h words told base recovers calm_disk = absurd (never_failed text h calm_disk)
@@ -268,7 +266,7 @@ module _ (r : Run) (given : Status) (write : given ≡ Write → Rises r.sink_fa
     no_script = λ words told calm. yields_as (no_script_is r.call said text h words told calm) yields;
     refused = λ mode why words good told is calm calm_disk. yields_as (refused_is r.call mode why words told is said text h good calm calm_disk) yields;
     limited = λ begin past calm calm_disk. yields_as (limited_is r.call begin said text h past calm calm_disk) yields;
-    replays = λ begin within room calm calm_disk. done_unless (replays_is r.call begin said text h within room calm calm_disk) yields;
+    replays = λ begin within enough calm calm_disk. done_unless (replays_is r.call begin said text h within enough calm calm_disk) yields;
     shows_store = λ words told batches recovers calm_disk. done_unless (recover_is r.call said text h words told batches recovers calm_disk) yields;
     shows_segments = λ words told batches recovers calm_disk. done_unless (dump_is r.call said text h words told batches recovers calm_disk) yields;
   }

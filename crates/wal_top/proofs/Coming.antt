@@ -1,9 +1,7 @@
--- What a replay does after a recovery, told of the disk as it was before.
-use Rattle.wal_top.specs.declared.replay.TheConstants.{THRESHOLD}
-use Rattle.batch_repr.specs.declared.limits.TheConstants.{NUMBER_FIRST}
+-- What a run does after a recovery, told of the disk as it was before.
+use Rattle.wal_top.specs.declared.replaying.TheConstants.{THRESHOLD}
 use Rattle.std.proofs.Common.{◌≡◌, ◌⊎◌, inl, inr, ℕ, suc, ◌≤◌, Bool, true, false, List, [], length, Option, Some, None, IsTrue, refl, sym, ap, ◌∙◌, arith, subst}
 use Rattle.batch_repr.specs.declared.batch.Batch.{Batch}
-use Rattle.batch_repr.specs.Batches.{end_after}
 use Rattle.disk_face.specs.declared.Side.{Side}
 use Rattle.disk_face.specs.View.{Place, segment, DiskView, File, Files, files}
 use Rattle.disk_face.specs.Image.{IsSound, IsRested, as_read, dirs_as_read, directories}
@@ -17,13 +15,14 @@ use Rattle.failover_writer.proofs.Laws.{read_synced, rested_synced, recovered_op
 use Rattle.wal_recovery.specs.Listing.{Stored, StandsIn, name_in, IsNextWal}
 use Rattle.wal_recovery.specs.Recovering.{Recovers}
 use Rattle.wal_recovery.specs.Resting.{AreSegmentsStable, IsAsOrSynced, OnlySynced}
-use Rattle.wal_top.specs.declared.script.Act.{Act}
-use Rattle.failover_writer.specs.declared.fault.JournalEnd.{JournalEnd}
-use Rattle.wal_top.specs.declared.status.Status.{Status}
 use Rattle.disk_face.specs.declared.names.TheConstants.{WAL_MAX}
-use Rattle.failover_writer.specs.Running.{OthersOnlySynced, PollsLeft, EndsAs, LogsBatches, OthersSame, HasEnded}
-use Rattle.wal_top.specs.Outcomes.{ReplaysActs}
-use Rattle.wal_top.specs.Doing.{ReplaysOver}
+use Rattle.failover_writer.specs.Running.{OthersOnlySynced, PollsLeft, LogsBatches, OthersSame}
+use Rattle.session_script.specs.declared.script.Script.{Script}
+use Rattle.commit_pipeline.specs.Holding.{WentOn}
+use Rattle.commit_pipeline.proofs.Laws.{went_further}
+use Rattle.script_runner.specs.declared.run.Replayed.{Replayed}
+use Rattle.script_runner.specs.Runs.{PollsNeverRise, StallsSome, EndsRunAs, RunsScript}
+use Rattle.wal_top.specs.Outcomes.{RunsOverDisk}
 
 -- ---- nothing was sent to a segment of the next WAL
 
@@ -62,22 +61,30 @@ are_unsent wal old now v is sound next within only index low high =
 
 -- ---- what follows a recovery
 
+pub went_since : (old mid new : DiskView) → GoesOn old mid → WentOn mid new → WentOn old new
+went_since old mid new goes later =
+    went_further old mid new (record { faults = goes.faults; clock = goes.clock; history = goes.history }) later
+
+pub polls_since : (old mid new : DiskView) → GoesOn old mid → PollsNeverRise mid new → PollsNeverRise old new
+polls_since old mid new goes later side = omega (arith, goes.polls side, later side)
+
 module _ (old mid new : DiskView) (wal : ℕ) (tells : Bool) (only : IsTrue tells → OnlySynced (files old) (files mid)) where
   pub others_stay : (IsTrue tells → OthersSame wal (files mid) (files new)) → IsTrue tells → OthersOnlySynced wal (files old) (files new)
   others_stay same told p elsewhere = subst (IsAsOrSynced (files old p)) (sym (same told p elsewhere)) (only told p)
 
-  module _ (base batches : List Batch) (end : JournalEnd) (goes : GoesOn old mid)
-      (ended : HasEnded THRESHOLD tells mid wal (end_after NUMBER_FIRST base) batches end new) where
+  module _ (base' : List Batch) (script : Script) (ran : Replayed) (goes : GoesOn old mid)
+      (r : RunsScript base' script wal THRESHOLD tells mid new ran) where
     rose_since : FaultsRose mid new → FaultsRose old new
     rose_since (side, rose) = (side, rose_later (old.faults side) (mid.faults side) (new.faults side) (goes.faults side) rose)
 
-    more_since : FaultsRose mid new ⊎ PollsLeft mid → FaultsRose old new ⊎ PollsLeft old
+    more_since : FaultsRose mid new ⊎ (PollsLeft mid ⊎ StallsSome script.rounds) → FaultsRose old new ⊎ (PollsLeft old ⊎ StallsSome script.rounds)
     more_since (inl rose) = inl (rose_since rose)
-    more_since (inr (side, left)) = inr (side, omega (arith, left, goes.polls side))
+    more_since (inr (inl (side, left))) = inr (inl (side, omega (arith, left, goes.polls side)))
+    more_since (inr (inr stalls)) = inr (inr stalls)
 
-    ends_since : EndsAs (length batches) end old new
+    ends_since : EndsRunAs script.rounds (length r.batches) ran.end old new
     ends_since =
-        let e = ended.ends in
+        let e = r.ended.ends in
         record {
           within = e.within;
           all = e.all;
@@ -90,40 +97,38 @@ module _ (old mid new : DiskView) (wal : ℕ) (tells : Bool) (only : IsTrue tell
         }
 
     module _ (stable : IsTrue tells → IsRested (files old) → AreSegmentsStable (files mid)) (within : wal ≤ WAL_MAX)
-        (next : IsTrue tells → IsNextWal (directories old) wal) (recovers : IsTrue tells → Recovers (directories old) base) where
-      recovers_since : IsTrue tells → IsRested (files old) → RecoversTo base batches end.acked (files new)
-      recovers_since told rested = ended.recovers told base (recovered_opens wal base (files old) (files mid) rested (only told)
+        (next : IsTrue tells → IsNextWal (directories old) wal) (recovers : IsTrue tells → Recovers (directories old) base') where
+      recovers_since : IsTrue tells → IsRested (files old) → RecoversTo base' r.batches ran.end.acked (files new)
+      recovers_since told rested = r.ended.recovers told base' (recovered_opens wal base' (files old) (files mid) rested (only told)
           (stable told rested) (recovers told) (next told))
 
-      logs_since : LogsBatches tells base batches end.acked old new
+      logs_since : LogsBatches tells base' r.batches ran.end.acked old new
       logs_since = record {
         wal = wal;
         within = within;
         next = next;
-        others = others_stay ended.others;
-        nothing = λ told empty p. subst (IsAsOrSynced (files old p)) (sym (ended.nothing told empty p)) (only told p);
+        others = others_stay r.ended.others;
+        nothing = λ told empty p. subst (IsAsOrSynced (files old p)) (sym (r.ended.nothing told empty p)) (only told p);
         recovers = recovers_since;
         read = λ told rested calm.
-            let whole = ended.read told (rested_synced (files old) (files mid) rested (only told)) (λ rose. calm (rose_since rose)) in
+            let whole = r.ended.read told (rested_synced (files old) (files mid) rested (only told)) (λ rose. calm (rose_since rose)) in
             recovers_since told rested (directories new) whole.0 whole.1;
-        stable = λ told rested side name f listed other is. stable told rested side name f listed (sym (ended.others told (segment side name) other) ∙ is);
+        stable = λ told rested side name f listed other is. stable told rested side name f listed (sym (r.ended.others told (segment side name) other) ∙ is);
       }
 
-  -- a replay over what was recovered is a replay of the acts
-  pub replays_since : (acts : List Act) (base : List Batch) (status : Status) (text : List ℕ)
-      → (IsTrue tells → IsRested (files old) → AreSegmentsStable (files mid)) → wal ≤ WAL_MAX → GoesOn old mid
-      → (IsTrue tells → Recovers (directories old) base) → (IsTrue tells → IsNextWal (directories old) wal)
-      → (r : ReplaysOver base acts wal tells mid new status text) → ReplaysActs acts tells old new r.batches r.end text
-  replays_since acts base_ status text stable within goes recovers_ next_ r = record {
-    base = base_;
-    recovers = recovers_;
-    answers = r.answers;
-    ends = ends_since base_ r.batches r.end goes r.ended;
-    wal = wal;
-    next = next_;
-    of = r.ended.of;
-    logs = logs_since base_ r.batches r.end goes r.ended stable within next_ recovers_;
-  }
+      -- a script that is run over what was recovered is run over the disk as it was
+      pub runs_since : RunsOverDisk script tells old new ran
+      runs_since = record {
+        base = base';
+        recovers = recovers;
+        batches = r.batches;
+        says = r.says;
+        ends = ends_since;
+        wal = wal;
+        next = next;
+        of = r.ended.of;
+        logs = logs_since;
+      }
 
 -- 1 where no segment stands, or 1 more than a segment's WAL
 abbrev IsLeast : DiskView → ℕ → Type 0

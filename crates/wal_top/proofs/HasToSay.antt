@@ -2,7 +2,7 @@
 use Rattle.batch_repr.specs.declared.limits.TheConstants.{NUMBER_FIRST}
 use Rattle.std.proofs.Common.{◌≡◌, ℕ, Bool, true, false, List, ◌++◌, length, IsTrue, refl, sym, ap, ◌∙◌, subst}
 use Rattle.batch_repr.specs.declared.batch.Batch.{Batch}
-use Rattle.disk_face.specs.View.{DiskView, files, NothingInFlight}
+use Rattle.disk_face.specs.View.{files, NothingInFlight}
 use Rattle.batch_repr.specs.Batches.{end_after}
 use Rattle.disk_face.specs.Image.{IsRested, directories}
 use Rattle.disk_face.specs.Calls.{SameDisk}
@@ -16,7 +16,8 @@ use Rattle.wal_recovery.specs.declared.fault.RecoverFault.{RecoverFault}
 use Rattle.wal_recovery.specs.declared.fault.RecoverFault.TheVariants as faults
 use Rattle.wal_recovery.specs.Resting.{OnlySynced, AreSegmentsStable}
 use Rattle.wal_recovery.specs.Answers.{IsRefusedBy, IsRefusal, FaultRose, DiskMemoryOr}
-use Rattle.wal_top.specs.declared.script.Act.{Act}
+use Rattle.session_script.specs.declared.script.Script.{Script}
+use Rattle.script_runner.specs.declared.run.Replayed.{Replayed}
 use Rattle.wal_top.specs.declared.status.Status.{Status}
 use Rattle.wal_top.specs.declared.status.Status.TheVariants.{Done, Refused}
 use Rattle.wal_top.specs.Call.{Invocation, Stays}
@@ -24,8 +25,8 @@ use Rattle.wal_top.specs.Words.{IsReplay, IsRecover, IsDump, RecoversIn}
 use Rattle.wal_top.specs.Printing.{refusal_text, segments_text}
 use Rattle.wal_top.specs.Reading.{ReadsScript}
 use Rattle.wal_top.specs.Faults.{SaysFault}
-use Rattle.wal_top.specs.Doing.{IsShort, status_after, ReplaysOver}
-use Rattle.wal_top.specs.Outcomes.{ReachesDisk, ReplaysActs, Replays, replayed, recovered, dumped, of_numbers, in_recovery, dead, HasToSay}
+use Rattle.wal_top.specs.Replay.{status_by, status_after}
+use Rattle.wal_top.specs.Outcomes.{ReachesDisk, RunsOverDisk, Replays, replayed, recovered, dumped, of_commits, in_recovery, dead, HasToSay}
 
 -- it has to say so by this status
 as_status : (c : Invocation) (text : List ℕ) (status said : Status) → status ≡ said → HasToSay c said text → HasToSay c status text
@@ -72,21 +73,20 @@ module _ (c : Invocation) (mode : Mode) (words : RecoversIn c.words mode) (reach
       (refuses (faults.Conflict wal index first) text t tt is (same tt))
   says_unrecovered faults.NoMemory status text says rose is same = absurd says
 
--- a replay says that its journal died, that a commit has no batch, or that it is done
-pub says_replayed : (c : Invocation) (acts : List Act) (base : List Batch) (wal : ℕ) (mid : DiskView) (status : Status) (text : List ℕ)
-    → IsReplay c.words → ReadsScript c.left.before acts c.left.after
-    → (r : ReplaysOver base acts wal c.tells mid c.disk.after status text)
-    → ReplaysActs acts c.tells c.disk.before c.disk.after r.batches r.end text → HasToSay c status text
-says_replayed c acts base wal mid status text is reads r replays_acts = as_status c text status (status_after r.end.died r.limited)
-    r.status_is (by r.end.died refl r.limited refl)
+-- a replay says that its journal died, that a reply told a limit, or that it is done
+pub says_replayed : (c : Invocation) (script : Script) (ran : Replayed) (status : Status) (text : List ℕ)
+    → IsReplay c.words → ReadsScript c.left.before script c.left.after
+    → RunsOverDisk script c.tells c.disk.before c.disk.after ran → status ≡ status_after ran → text ≡ ran.text → HasToSay c status text
+says_replayed c script ran status text is reads run_done status_is text_as_run =
+    as_status c text status (status_after ran) status_is (by ran.end.died refl ran.limited refl)
   where
-    all : Replays c acts r.batches r.end text
-    all = record { words = is; accepts = reads; done = replays_acts }
+    all : Replays c script ran text
+    all = record { words = is; accepts = reads; done = run_done; text_is = text_as_run }
 
-    by : (died : Bool) → r.end.died ≡ died → (limited : Bool) → r.limited ≡ limited → HasToSay c (status_after died limited) text
-    by true e limited l = dead acts r.batches r.end all e
-    by false e true l = of_numbers acts r.batches r.end all e (subst (λ (b : Bool). IsShort b acts r.batches) l (r.short e))
-    by false e false l = replayed acts r.batches r.end all e (subst (λ (b : Bool). IsShort b acts r.batches) l (r.short e))
+    by : (died : Bool) → ran.end.died ≡ died → (limited : Bool) → ran.limited ≡ limited → HasToSay c (status_by died limited) text
+    by true e limited l = dead script ran all e
+    by false e true l = of_commits script ran all e l
+    by false e false l = replayed script ran all e l
 
 -- the store and the segments, as recovery answers them and as they are printed
 module _ (c : Invocation) (batches' : List Batch) (next : ℕ) (text : List ℕ) (ends : next ≡ end_after NUMBER_FIRST batches') (unread' : Stays c.left) where

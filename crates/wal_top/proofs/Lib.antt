@@ -1,8 +1,5 @@
 mod Examples
 mod Limits
-mod OneScript
-mod Closings
-mod TellsOf
 mod Saying
 mod Coming
 mod HasToSay
@@ -11,13 +8,6 @@ mod ComesExactly
 mod TellsScript
 mod Leaves
 mod Letting
-mod Counting
-mod Going
 mod AddsPiece
-mod LinesSoFar
-mod Answering
-mod Numbering
-mod Deciding
-mod Cuts
 mod OneWord
 mod WrittenSoFar

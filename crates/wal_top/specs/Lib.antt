@@ -1,15 +1,11 @@
 pub mod Words
 pub mod Commands
 pub mod Statuses
-pub mod Cutting
-pub mod Script
 pub mod Printing
 pub mod Replay
-pub mod Kept
 pub mod Reading
 pub mod Call
 pub mod Outcomes
 pub mod Run
 pub mod Parts
-pub mod Doing
 pub mod Faults

@@ -1,5 +1,5 @@
 -- What a run has to say, by its status (docs/FORMATS.md, "Statuses").
-use Rattle.wal_top.specs.declared.replay.TheConstants.{THRESHOLD}
+use Rattle.wal_top.specs.declared.replaying.TheConstants.{THRESHOLD}
 use Rattle.batch_repr.specs.declared.limits.TheConstants.{NUMBER_FIRST}
 use Rattle.std.specs.Prelude.{◌≡◌, ℕ, ◌<◌, Bool, false, IsTrue, List, ◌++◌, length, Option}
 use Rattle.wal_base.specs.Faults.{Rose}
@@ -20,15 +20,16 @@ use Rattle.wal_recovery.specs.Reports.{AreReports}
 use Rattle.wal_recovery.specs.Resting.{OnlySynced, AreSegmentsStable}
 use Rattle.wal_recovery.specs.Answers.{IsRefusedBy, IsRefusal}
 use Rattle.wal_top.specs.declared.status.Status.{Status}
-use Rattle.wal_top.specs.declared.status.Status.TheVariants.{Done, Usage, Script, Read, Write, Disk, Refused, NoMemory, Limit}
-use Rattle.wal_top.specs.declared.script.Act.{Act}
-use Rattle.failover_writer.specs.declared.fault.JournalEnd.{JournalEnd}
+use Rattle.wal_top.specs.declared.status.Status.TheVariants.{Done, Usage, Read, Write, Disk, Refused, NoMemory, Limit}
+use Rattle.wal_top.specs.declared.status.Status.TheVariants as statuses
+use Rattle.session_script.specs.declared.script.Script.{Script}
+use Rattle.script_runner.specs.declared.run.Replayed.{Replayed}
+use Rattle.script_runner.specs.Runs.{EndsRunAs, journal_end, SaysRun}
 use Rattle.disk_face.specs.declared.names.TheConstants.{WAL_MAX}
 use Rattle.wal_top.specs.Call.{Change, Invocation, Stays, Rises}
 use Rattle.wal_top.specs.Words.{IsCommand, IsReplay, IsRecover, IsDump, RecoversIn, ReadsSource}
 use Rattle.wal_top.specs.Printing.{usage_text, read_fault_text, too_long_text, bad_line_text, disk_fault_text, refusal_text, limit_wal_text, segments_text}
-use Rattle.wal_top.specs.Replay.{IsReplayText, AllCommitted, LacksBatch}
-use Rattle.failover_writer.specs.Running.{EndsAs, EndsOf, LogsBatches}
+use Rattle.failover_writer.specs.Running.{EndsOf, LogsBatches}
 use Rattle.wal_top.specs.Reading.{ReadsScript, ReadsTooMuch, ReadsBadLine}
 
 -- A script of the source was refused with this text: for its length, or for its first bad line.
@@ -38,34 +39,36 @@ pub data RefusesScript (left : Change (Option (List ℕ))) : List ℕ → Type 0
 
 -- The disk is reached: a command that reads a script has read and accepted it, and another has left the source alone.
 pub data ReachesDisk (c : Invocation) : Type 0 where
-  read : (acts : List Act) → ReadsSource c.words → ReadsScript c.left.before acts c.left.after → ReachesDisk c
+  read : (script : Script) → ReadsSource c.words → ReadsScript c.left.before script c.left.after → ReachesDisk c
   unread : (ReadsSource c.words → ⊥) → Stays c.left → ReachesDisk c
 
 -- ---- what a command does
 
--- The acts were replayed over what the directories recover to: these are their batches, this is how their journal ended and the
--- text of the answers, and the journal is left.
-pub record ReplaysActs (acts : List Act) (tells : Bool) (old new : DiskView) (batches : List Batch) (end : JournalEnd) (text : List ℕ) : Type 0 where
+-- The script was run over what the directories recover to: these are its batches, this is what is said of it and how its journal
+-- ended, and the journal is left.
+pub record RunsOverDisk (script : Script) (tells : Bool) (old new : DiskView) (replayed : Replayed) : Type 0 where
   pub base : List Batch
   pub recovers : IsTrue tells → Recovers (directories old) base
-  pub answers : IsReplayText base acts batches end text
-  pub ends : EndsAs (length batches) end old new
+  pub batches : List Batch
+  pub says : SaysRun NUMBER_FIRST base script batches replayed
+  pub ends : EndsRunAs script.rounds (length batches) replayed.end old new
   pub wal : ℕ
   pub next : IsTrue tells → IsNextWal (directories old) wal
-  pub of : EndsOf THRESHOLD tells wal (end_after NUMBER_FIRST base) batches end new
-  pub logs : LogsBatches tells base batches end.acked old new
+  pub of : EndsOf THRESHOLD tells wal (end_after NUMBER_FIRST base) batches (journal_end replayed.end) new
+  pub logs : LogsBatches tells base batches replayed.end.acked old new
 
--- The accepted script of the source was replayed so.
-pub record Replays (c : Invocation) (acts : List Act) (batches : List Batch) (end : JournalEnd) (text : List ℕ) : Type 0 where
+-- The accepted script of the source was run so, and this is the text of it.
+pub record Replays (c : Invocation) (script : Script) (replayed : Replayed) (text : List ℕ) : Type 0 where
   pub words : IsReplay c.words
-  pub accepts : ReadsScript c.left.before acts c.left.after
-  pub done : ReplaysActs acts c.tells c.disk.before c.disk.after batches end text
+  pub accepts : ReadsScript c.left.before script c.left.after
+  pub done : RunsOverDisk script c.tells c.disk.before c.disk.after replayed
+  pub text_is : text ≡ replayed.text
 
 -- The last WAL is taken: the script was accepted and the directories recover, but no WAL is next. No file was begun.
 pub record LacksWal (c : Invocation) (text : List ℕ) : Type 0 where
   pub words : IsReplay c.words
-  pub acts : List Act
-  pub accepts : ReadsScript c.left.before acts c.left.after
+  pub script : Script
+  pub accepts : ReadsScript c.left.before script c.left.after
   pub base : List Batch
   pub recovers : IsTrue c.tells → Recovers (directories c.disk.before) base
   pub next : ℕ
@@ -100,17 +103,16 @@ pub record ShowsSegments (c : Invocation) (text : List ℕ) : Type 0 where
 
 -- ---- what a status says
 
--- What was done, and its text: a replay of which each batch is committed and synced, the store that was recovered, or the segments that were read.
+-- What was done, and its text: a script was run of which no commit met a dead journal or a limit, the store that was recovered, or
+-- the segments that were read.
 pub data IsDoneRun (c : Invocation) (text : List ℕ) : Type 0 where
-  replayed : (acts : List Act) (batches : List Batch) (end : JournalEnd) → Replays c acts batches end text → end.died ≡ false
-      → AllCommitted acts batches → IsDoneRun c text
+  replayed : (script : Script) (ran : Replayed) → Replays c script ran text → ran.end.died ≡ false → ran.limited ≡ false → IsDoneRun c text
   recovered : ShowsStore c text → IsDoneRun c text
   dumped : ShowsSegments c text → IsDoneRun c text
 
--- A limit was reached: the script was replayed but for commits that would end past the numbers, or the last WAL is taken.
+-- A limit was reached: it is told by a reply of the script that was run, or the last WAL is taken.
 pub data IsLimited (c : Invocation) (text : List ℕ) : Type 0 where
-  of_numbers : (acts : List Act) (batches : List Batch) (end : JournalEnd) → Replays c acts batches end text → end.died ≡ false
-      → LacksBatch acts batches → IsLimited c text
+  of_commits : (script : Script) (ran : Replayed) → Replays c script ran text → ran.end.died ≡ false → IsTrue ran.limited → IsLimited c text
   of_wals : LacksWal c text → IsLimited c text
 
 -- A side failed in recovery, and is named. No file was begun, and nothing is in flight.
@@ -124,10 +126,10 @@ pub record FailsRecovery (c : Invocation) (text : List ℕ) : Type 0 where
   pub only_synced : IsTrue c.tells → OnlySynced (files c.disk.before) (files c.disk.after)
   pub idle : NothingInFlight c.disk.after
 
--- The disk failed, and this is the text: in recovery, or so often that the journal of the answered script died.
+-- The disk failed, and this is the text: in recovery, or so often that the journal of the script that was run died.
 pub data FailsDisk (c : Invocation) (text : List ℕ) : Type 0 where
   in_recovery : FailsRecovery c text → FailsDisk c text
-  dead : (acts : List Act) (batches : List Batch) (end : JournalEnd) → Replays c acts batches end text → IsTrue end.died → FailsDisk c text
+  dead : (script : Script) (ran : Replayed) → Replays c script ran text → IsTrue ran.end.died → FailsDisk c text
 
 -- The directories are refused, with this text. Nothing was done to them.
 pub record RefusesDirectories (c : Invocation) (text : List ℕ) : Type 0 where
@@ -145,7 +147,7 @@ pub record RefusesDirectories (c : Invocation) (text : List ℕ) : Type 0 where
 abbrev pub HasToSay : Invocation → Status → List ℕ → Type 0
 HasToSay c Done text = IsDoneRun c text
 HasToSay c Usage text = (IsCommand c.words → ⊥) × (text ≡ usage_text) × Stays c.disk
-HasToSay c Script text = ReadsSource c.words × RefusesScript c.left text × Stays c.disk
+HasToSay c statuses.Script text = ReadsSource c.words × RefusesScript c.left text × Stays c.disk
 HasToSay c Read text = ReadsSource c.words × Rises c.source_faults × (text ≡ read_fault_text) × Stays c.disk
 HasToSay c Write text = ⊥
 HasToSay c Disk text = FailsDisk c text

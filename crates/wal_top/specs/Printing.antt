@@ -1,50 +1,15 @@
--- The lines of the texts (docs/FORMATS.md, "The text of a replay").
-use Rattle.std.specs.Prelude.{ℕ, Bool, true, false, List, [], ◌∷◌, ◌++◌, length, Option, Some, None, codes}
+-- The texts that are said beside a store and the replies (docs/FORMATS.md, "Statuses", "The text of a dump", "Refused directories").
+use Rattle.std.specs.Prelude.{ℕ, List, [], ◌∷◌, ◌++◌, length, codes}
 use Rattle.std.specs.List.{flat_map}
 use Rattle.std.specs.Fmt.{decimal}
 use Rattle.disk_face.specs.declared.Side.{Side}
 use Rattle.disk_face.specs.declared.Side.TheVariants.{Primary, Secondary}
-use Rattle.text_lines.specs.Printed.{printed}
 use Rattle.text_lines.specs.Lines.{segment_line, batch_lines}
 use Rattle.text_lines.specs.Refusals.{duplicate_line, bad_batch_line, gap_line, conflict_line}
 use Rattle.wal_recovery.specs.declared.reports.SegReport.{SegReport}
 use Rattle.wal_recovery.specs.declared.fault.RecoverFault.{RecoverFault}
 use Rattle.wal_recovery.specs.declared.fault.RecoverFault.TheVariants as faults
 use Rattle.wal_recovery.specs.Listing.{name_in}
-use Rattle.failover_writer.specs.declared.fault.JournalEnd.{JournalEnd}
-
--- `sS commit FIRST COUNT`
-unfoldable pub commit_line : ℕ → ℕ → ℕ → List ℕ
-commit_line session first count = codes "s" ++ decimal session ++ codes " commit " ++ decimal first ++ codes " " ++ decimal count ++ 10 ∷ []
-
--- `sS commit limit`
-unfoldable pub limit_line : ℕ → List ℕ
-limit_line session = codes "s" ++ decimal session ++ codes " commit limit" ++ 10 ∷ []
-
--- `sS commit dead`
-unfoldable pub dead_line : ℕ → List ℕ
-dead_line session = codes "s" ++ decimal session ++ codes " commit dead" ++ 10 ∷ []
-
--- ` = V`, or ` none`
-abbrev pub plain_answer : Option (List ℕ) → List ℕ
-plain_answer None = codes " none"
-plain_answer (Some value) = codes " = " ++ printed value
-
--- `sS get K = V @N`, or `sS get K none @N`
-unfoldable pub get_line : ℕ → List ℕ → Option (List ℕ) → ℕ → List ℕ
-get_line session key value visible = codes "s" ++ decimal session ++ codes " get " ++ printed key ++ plain_answer value ++ codes " @" ++
-    decimal visible ++ 10 ∷ []
-
--- how a journal ended: ` dead`, or ` closed`
-abbrev pub how_ended : Bool → List ℕ
-how_ended true = codes " dead\n"
-how_ended false = codes " closed\n"
-
--- `end visible V batches B acked A segments G W`
-unfoldable pub plain_end_line : ℕ → ℕ → JournalEnd → List ℕ
-plain_end_line visible batches end =
-    codes "end visible " ++ decimal visible ++ codes " batches " ++ decimal batches ++ codes " acked " ++ decimal end.acked ++ codes
-    " segments " ++ decimal end.segments ++ how_ended end.died
 
 -- what is said of a segment and its batches
 abbrev pub report_lines : SegReport → List ℕ

@@ -2,9 +2,9 @@
 use Rattle.std.specs.Prelude.{◌≡◌, ℕ, ◌<◌, ◌≤◌, List, [], ◌++◌, length, Option, Some, IfSome}
 use Rattle.wal_base.specs.Told.{told_front}
 use Rattle.wal_top.specs.declared.reading.TheConstants.{SCRIPT_MAX}
-use Rattle.wal_top.specs.declared.script.Act.{Act}
-use Rattle.wal_top.specs.Cutting.{plain_lines_of}
-use Rattle.wal_top.specs.Script.{IsPlainScript, IsFirstBadPlain}
+use Rattle.session_script.specs.declared.script.Script.{Script}
+use Rattle.session_script.specs.Words.{lines_of}
+use Rattle.session_script.specs.Script.{IsScript, IsFirstBad}
 
 -- So many bytes were taken of the source, and stand after the old ones.
 pub record AddsPiece (count : ℕ) (before after : Option (List ℕ)) (old new : List ℕ) : Type 0 where
@@ -24,12 +24,12 @@ pub record ReadsWhole (before : Option (List ℕ)) (bytes : List ℕ) (after : O
   pub taken : before ≡ told_front bytes after
   pub at_end : IfSome after (λ rest. rest ≡ [])
 
--- The source has a script of at most the greatest length, which asks for these acts.
-pub record ReadsScript (before : Option (List ℕ)) (acts : List Act) (after : Option (List ℕ)) : Type 0 where
-  pub script : List ℕ
-  pub whole : ReadsWhole before script after
-  pub within : length script ≤ SCRIPT_MAX
-  pub asks : IsPlainScript script acts
+-- The bytes of the source are this script, and are no more than a script may have.
+pub record ReadsScript (before : Option (List ℕ)) (script : Script) (after : Option (List ℕ)) : Type 0 where
+  pub bytes : List ℕ
+  pub whole : ReadsWhole before bytes after
+  pub within : length bytes ≤ SCRIPT_MAX
+  pub is : IsScript bytes script
 
 -- More bytes stood there than a script may have.
 pub record ReadsTooMuch (before after : Option (List ℕ)) : Type 0 where
@@ -39,30 +39,26 @@ pub record ReadsTooMuch (before after : Option (List ℕ)) : Type 0 where
 
 -- The whole script was read, and the line of this number is its first bad one.
 pub record ReadsBadLine (before : Option (List ℕ)) (number : ℕ) (after : Option (List ℕ)) : Type 0 where
-  pub script : List ℕ
-  pub whole : ReadsWhole before script after
-  pub within : length script ≤ SCRIPT_MAX
-  pub bad : IsFirstBadPlain (plain_lines_of script) number
+  pub bytes : List ℕ
+  pub whole : ReadsWhole before bytes after
+  pub within : length bytes ≤ SCRIPT_MAX
+  pub bad : IsFirstBad (lines_of bytes) number
 
--- The script is accepted.
-pub record IsGoodScript (script : List ℕ) : Type 0 where
-  pub within : length script ≤ SCRIPT_MAX
-  pub acts : List Act
-  pub asks : IsPlainScript script acts
+-- The bytes are too many, or have a bad line.
+pub data IsNoScript (bytes : List ℕ) : Type 0 where
+  longer : SCRIPT_MAX < length bytes → IsNoScript bytes
+  bad : (number : ℕ) → length bytes ≤ SCRIPT_MAX → IsFirstBad (lines_of bytes) number → IsNoScript bytes
 
--- The script is too long, or has a bad line.
-pub data IsNoScript (script : List ℕ) : Type 0 where
-  longer : SCRIPT_MAX < length script → IsNoScript script
-  bad : (number : ℕ) → length script ≤ SCRIPT_MAX → IsFirstBadPlain (plain_lines_of script) number → IsNoScript script
-
--- The source tells a script that is accepted.
+-- The source tells bytes that are this script, and no more than a script may have.
 pub record TellsScript (told : Option (List ℕ)) : Type 0 where
-  pub script : List ℕ
-  pub told_is : told ≡ Some script
-  pub good : IsGoodScript script
+  pub bytes : List ℕ
+  pub told_is : told ≡ Some bytes
+  pub within : length bytes ≤ SCRIPT_MAX
+  pub script : Script
+  pub is : IsScript bytes script
 
--- The source tells a script that is not accepted.
+-- The source tells bytes that are no script.
 pub record TellsNoScript (told : Option (List ℕ)) : Type 0 where
-  pub script : List ℕ
-  pub told_is : told ≡ Some script
-  pub wrong : IsNoScript script
+  pub bytes : List ℕ
+  pub told_is : told ≡ Some bytes
+  pub wrong : IsNoScript bytes

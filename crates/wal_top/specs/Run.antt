@@ -1,12 +1,12 @@
 -- A run, and all that it promises by its status (docs/FORMATS.md, "Statuses").
 use Rattle.disk_face.specs.Image.{directories}
-use Rattle.std.specs.Prelude.{◌≡◌, ◌⊎◌, ℕ, ◌+◌, ◌<◌, ◌≤◌, Bool, IsTrue, List, ◌++◌, Option, sum_by}
+use Rattle.std.specs.Prelude.{◌≡◌, ◌⊎◌, ℕ, ◌+◌, ◌<◌, ◌≤◌, Bool, IsTrue, List, ◌++◌, Option}
 use Rattle.wal_base.specs.Told.{told_back}
 use Rattle.batch_repr.specs.declared.batch.Batch.{Batch}
-use Rattle.batch_repr.specs.declared.limits.TheConstants.{NUMBER_FIRST, NUMBER_MAX}
+use Rattle.batch_repr.specs.declared.limits.TheConstants.{NUMBER_FIRST, NUMBER_MAX, BATCHES_MAX}
 use Rattle.batch_repr.specs.Batches.{end_after}
 use Rattle.disk_face.specs.View.{DiskView, files, NothingInFlight, AtEachMoment}
-use Rattle.disk_face.specs.Calls.{GoesOn, SameDisk}
+use Rattle.disk_face.specs.Calls.{SameDisk}
 use Rattle.wal_recovery.specs.declared.reports.Mode.{Mode}
 use Rattle.wal_recovery.specs.declared.fault.RecoverFault.{RecoverFault}
 use Rattle.wal_recovery.specs.Listing.{IsNextWal}
@@ -16,11 +16,16 @@ use Rattle.wal_recovery.specs.Answers.{IsRefusedBy}
 use Rattle.wal_top.specs.declared.reading.TheConstants.{SCRIPT_MAX}
 use Rattle.disk_face.specs.declared.names.TheConstants.{WAL_MAX}
 use Rattle.wal_top.specs.declared.status.Status.{Status}
-use Rattle.wal_top.specs.declared.status.Status.TheVariants.{Done, Usage, Script, Write, Refused, NoMemory, Limit}
+use Rattle.wal_top.specs.declared.status.Status.TheVariants.{Done, Usage, Write, Refused, NoMemory, Limit}
+use Rattle.wal_top.specs.declared.status.Status.TheVariants as statuses
 use Rattle.wal_top.specs.Call.{Change, change_in, Invocation, Rises, Stays, HasCalmSource, HasCalmDisk}
 use Rattle.wal_top.specs.Words.{IsCommand, IsReplay, IsRecover, IsDump, RecoversIn, ReadsSource, HasJournal, StartsOperations}
-use Rattle.wal_top.specs.Reading.{TookAtMost, TellsScript, TellsNoScript}
-use Rattle.wal_top.specs.Replay.{plain_numbers_taken}
+use Rattle.wal_top.specs.Reading.{TookAtMost, ReadsScript, TellsScript, TellsNoScript}
+use Rattle.session_script.specs.declared.script.Script.{Script}
+use Rattle.session_script.specs.Script.{rounds_numbers, rounds_commits}
+use Rattle.session_script.specs.Theorems.{AsksTooMuch}
+use Rattle.commit_pipeline.specs.Holding.{WentOn}
+use Rattle.script_runner.specs.Runs.{StallNone, PollsNeverRise}
 use Rattle.failover_writer.specs.Running.{OthersOnlySynced}
 use Rattle.wal_top.specs.Outcomes.{HasToSay}
 
@@ -90,21 +95,22 @@ pub record MayBegin (c : Invocation) : Type 0 where
   pub next : ℕ
   pub next_is : IsNextWal (directories c.disk.before) next
 
--- the number after all commits of the script
-abbrev pub end_of_script : {c : Invocation} → MayBegin c → ℕ
-end_of_script begin = end_after NUMBER_FIRST begin.base + sum_by plain_numbers_taken begin.script.good.acts
+-- The script asks for no more numbers than are left after the base, and for no more batches than a run may commit.
+pub record AsksEnough {c : Invocation} (begin : MayBegin c) : Type 0 where
+  pub numbers : end_after NUMBER_FIRST begin.base + rounds_numbers begin.script.script.rounds ≤ NUMBER_MAX
+  pub batches : rounds_commits begin.script.script.rounds ≤ BATCHES_MAX
 
 -- The exact causes: where one of these holds, its status comes.
 pub record ComesExactly (r : Run) (status : Status) : Type 0 where
   pub no_command : (IsCommand r.call.words → ⊥) → YieldsTo Usage status
-  pub no_script : ReadsSource r.call.words → TellsNoScript r.call.left.before → HasCalmSource r.call → YieldsTo Script status
+  pub no_script : ReadsSource r.call.words → TellsNoScript r.call.left.before → HasCalmSource r.call → YieldsTo statuses.Script status
   pub refused : (mode : Mode) (fault : RecoverFault) → RecoversIn r.call.words mode
       → (ReadsSource r.call.words → TellsScript r.call.left.before) → IsTrue r.call.tells
       → IsRefusedBy mode (directories r.call.disk.before) fault → HasCalmSource r.call → HasCalmDisk r.call → YieldsTo Refused status
-  pub limited : (begin : MayBegin r.call) → (WAL_MAX < begin.next) ⊎ (NUMBER_MAX < end_of_script begin) → HasCalmSource r.call
-      → HasCalmDisk r.call → YieldsTo Limit status
-  pub replays : (begin : MayBegin r.call) → begin.next ≤ WAL_MAX → end_of_script begin ≤ NUMBER_MAX → HasCalmSource r.call
-      → HasCalmDisk r.call → IsDoneUnless r.sink_faults status
+  pub limited : (begin : MayBegin r.call) → (WAL_MAX < begin.next) ⊎ AsksTooMuch NUMBER_FIRST begin.base begin.script.script.rounds
+      → HasCalmSource r.call → HasCalmDisk r.call → YieldsTo Limit status
+  pub replays : (begin : MayBegin r.call) → begin.next ≤ WAL_MAX → AsksEnough begin → HasCalmSource r.call → HasCalmDisk r.call
+      → IsDoneUnless r.sink_faults status
   pub shows_store : IsRecover r.call.words → IsTrue r.call.tells → (batches : List Batch)
       → Recovers (directories r.call.disk.before) batches → HasCalmDisk r.call → IsDoneUnless r.sink_faults status
   pub shows_segments : IsDump r.call.words → IsTrue r.call.tells → (batches : List Batch)
@@ -119,11 +125,16 @@ pub record WritesNoJournal (tells : Bool) (disk : Change DiskView) : Type 0 wher
   pub each_moment : IsTrue tells → AtEachMoment disk.before.clock disk.after (AddsNoImage (files disk.before))
   pub idle : NothingInFlight disk.after
 
+-- The words ask for no replay, or the script of the source stalls no poll.
+abbrev pub StallsNoPoll : Invocation → Type 0
+StallsNoPoll c = (script : Script) → HasJournal c.words → ReadsScript c.left.before script c.left.after → StallNone script.rounds
+
 -- What a run leaves: its source gave no more than one byte past the longest script, and no file but segments of the next WAL
 -- changes unless by a sync.
 pub record Leaves (c : Invocation) : Type 0 where
   pub took : TookAtMost (SCRIPT_MAX + 1) c.left.before c.left.after
-  pub goes_on : GoesOn c.disk.before c.disk.after
+  pub went_on : WentOn c.disk.before c.disk.after
+  pub polls : StallsNoPoll c → PollsNeverRise c.disk.before c.disk.after
   pub others : IsTrue c.tells → (wal : ℕ) → IsNextWal (directories c.disk.before) wal → OthersOnlySynced wal (files c.disk.before) (files c.disk.after)
   pub no_journal : (HasJournal c.words → ⊥) → WritesNoJournal c.tells c.disk
   pub starts_nothing : (StartsOperations c.words → ⊥) → SameDisk c.disk.before c.disk.after

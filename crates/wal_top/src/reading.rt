@@ -60,8 +60,10 @@ fn buffer_of(alloc: Global, len: usize) -> Result<Vec<u8>, AllocError>
 /// Takes a piece of the source, and adds it to the script. Answers how many bytes it has.
 fn add_piece<S: Source>(src: &mut S, piece: &mut [u8], script: &mut Buf) -> Result<usize, ReadError>
     ensures within { IfOk result (λ count. count ≤ length piece.old) }
-    ensures added { IfOk result (λ count. AddsPiece count (S.left src.old) (S.left src.new) script.old script.new) }
-    ensures end { IfOk result (λ count. count ≡ 0 → 0 < length piece.old → IfSome (S.left src.old) (λ bytes. bytes ≡ [])) }
+    ensures added { IfOk result (λ count. AddsPiece count (S.left src.old) (S.left src.new)
+        script.old script.new) }
+    ensures end { IfOk result (λ count. count ≡ 0 → 0 < length piece.old
+        → IfSome (S.left src.old) (λ bytes. bytes ≡ [])) }
     ensures fault { IsErrOf result ReadError.Fault → Rose (S.faults src.old) (S.faults src.new) }
     ensures too_long { IsErrOf result ReadError.TooLong → ⊥ }
     ensures took { TookAtMost (length piece.old) (S.left src.old) (S.left src.new) }
@@ -82,7 +84,8 @@ fn read_by<S: Source>(alloc: Global, src: &mut S, piece: &mut [u8]) -> Result<Bu
     ensures whole { IfOk result (λ script. ReadsWhole (S.left src.old) script (S.left src.new)) }
     ensures within { IfOk result (λ script. length script ≤ SCRIPT_MAX) }
     ensures fault { IsErrOf result ReadError.Fault → Rose (S.faults src.old) (S.faults src.new) }
-    ensures too_long { IsErrOf result ReadError.TooLong → ReadsTooMuch (S.left src.old) (S.left src.new) }
+    ensures too_long { IsErrOf result ReadError.TooLong
+        → ReadsTooMuch (S.left src.old) (S.left src.new) }
     ensures took { TookAtMost (SCRIPT_MAX + 1) (S.left src.old) (S.left src.new) }
 {
     let mut script = Buf::new(alloc)?;
@@ -103,7 +106,8 @@ pub(crate) fn read_script_bytes<S: Source>(alloc: Global, src: &mut S) -> Result
     ensures whole { IfOk result (λ script. ReadsWhole (S.left src.old) script (S.left src.new)) }
     ensures within { IfOk result (λ script. length script ≤ SCRIPT_MAX) }
     ensures fault { IsErrOf result ReadError.Fault → Rose (S.faults src.old) (S.faults src.new) }
-    ensures too_long { IsErrOf result ReadError.TooLong → ReadsTooMuch (S.left src.old) (S.left src.new) }
+    ensures too_long { IsErrOf result ReadError.TooLong
+        → ReadsTooMuch (S.left src.old) (S.left src.new) }
     ensures took { TookAtMost (SCRIPT_MAX + 1) (S.left src.old) (S.left src.new) }
 {
     let mut piece = buffer_of(alloc, PIECE)?;

@@ -22,7 +22,8 @@ use wal_recovery::{Mode, Recovered, SegReport, SegReports, recover};
 
 /// The text of a store.
 fn store_text(alloc: Global, batches: &[Batch], next: u64) -> Result<Buf, NoMemory>
-    ensures { IfOk result (λ text. (store : _) × IsStoreText batches.now store × (text ≡ store ++ recovered_end (length batches.now) next)) }
+    ensures { IfOk result (λ text. (store : _) × IsStoreText batches.now store
+        × (text ≡ store ++ recovered_end (length batches.now) next)) }
 {
     let mut text = Buf::new(alloc)?;
     put_store(alloc, &mut text, batches)?;

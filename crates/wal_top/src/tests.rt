@@ -1,13 +1,21 @@
 ghost use Rattle.std.specs.Prelude.{◌≤◌, length};
 
+mod bad_lines;
+mod deaths;
+mod generated;
+mod halts;
+mod numbers;
 mod recovery;
 mod replays;
+mod scripts;
+mod shortages;
+mod stalls;
 mod statuses;
 
 use crate::{NoGate, Ran, Status, run};
 use crc_chunk::{ChunkKind, put_chunk};
 use disk_face::{Disk, SegName, Side, StallDisk};
-use mem_disk::{CrashPick, FilePicks, MemDisk};
+use mem_disk::{CrashPick, FilePick, FilePicks, MemDisk};
 use std::alloc::{AllocError, Global};
 use std::marker::Model;
 use std::process::Abort;
@@ -66,14 +74,29 @@ impl Rig {
         self.disk.stall(side, polls);
     }
 
-    /// The disk after a crash that leaves no more than what is stable.
-    fn after_crash(rt: &impl Abort, alloc: Global, disk: MemDisk) -> Rig {
-        let picks = CrashPick {
-            files: FilePicks::new(alloc),
-        };
-        let disk = disk.crash(&picks).expect(rt, "memory");
+    /// The disk after a crash that leaves what the pick names.
+    fn after(rt: &impl Abort, disk: MemDisk, pick: &CrashPick) -> Rig {
+        let disk = disk.crash(pick).expect(rt, "memory");
         Rig { disk }
     }
+
+    /// The disk after a crash that leaves no more than what is stable.
+    fn after_crash(rt: &impl Abort, alloc: Global, disk: MemDisk) -> Rig {
+        let files = FilePicks::new(alloc);
+        Rig::after(rt, disk, &CrashPick { files })
+    }
+}
+
+/// What a crash leaves where the stable bytes of the log of WAL 1 are followed by this tail.
+fn tail_of(alloc: Global, tail: &[u8]) -> Result<CrashPick, NoMemory> {
+    let mut files = FilePicks::new(alloc);
+    let pick = FilePick {
+        side: Side::Primary,
+        name: SegName { wal: 1, index: 0 },
+        tail: Some(Blob::copy_of(alloc, tail)?),
+    };
+    files.push(pick).map_err(|_| NoMemory)?;
+    Ok(CrashPick { files })
 }
 
 /// What a segment of WAL 1 has, which stands on the primary side where its index is even.
@@ -156,6 +179,30 @@ fn check_command<R: Threads + Wait + Sync + Abort>(
     assert!(rt; sink.written() == text.as_bytes());
     assert_eq!(rt; ended, status);
     Ok(disk)
+}
+
+/// Asserts what a replay over a new disk writes, and its status. Answers the disk.
+fn check_replay<R: Threads + Wait + Sync + Abort>(
+    rt: &R,
+    alloc: Global,
+    script: &str,
+    status: Status,
+    text: &str,
+) -> Result<MemDisk, Fail> {
+    let rig = Rig::new(alloc)?;
+    check_command(rt, alloc, rig, &["replay"], script.as_bytes(), status, text)
+}
+
+/// Asserts what is recovered once a crash left no more than what is stable.
+fn check_crash<R: Threads + Wait + Sync + Abort>(
+    rt: &R,
+    alloc: Global,
+    disk: MemDisk,
+    store: &str,
+) -> Result<(), Fail> {
+    let rig = Rig::after_crash(rt, alloc, disk);
+    check_command(rt, alloc, rig, &["recover"], b"", Status::Done, store)?;
+    Ok(())
 }
 
 /// Asserts what a replay over a disk writes, its status, and what the log of WAL 1 then has.

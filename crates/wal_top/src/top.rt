@@ -8,7 +8,6 @@ ghost use Rattle.wal_top.specs.Words.{IsReplay, ReadsSource};
 ghost use Rattle.wal_top.specs.Outcomes.{HasToSay};
 ghost use Rattle.wal_top.specs.Run.{run_of, Says, YieldsTo, ComesExactly, Leaves};
 
-use crate::gate::Gate;
 use crate::reading::{ReadError, read_script_bytes};
 use crate::replaying::said_of;
 use crate::said::{Answered, Said, saying};
@@ -16,6 +15,7 @@ use crate::showing::{segments_said, store_said};
 use crate::status::{Ran, Status};
 use crate::words::{Command, command_of};
 use crate::writing::write_all;
+use commit_pipeline::Gate;
 use disk_face::Disk;
 use std::alloc::Global;
 use std::sync::Wait;
@@ -25,7 +25,12 @@ use wal_base::{NoMemory, PutErr, Sink, Source};
 const USAGE: &str = "usage: replay [--threshold N] | recover | dump | load SEED COUNT\n";
 
 /// What a replay of the source's script has to say.
-fn replayed<S: Source, D: Disk>(alloc: Global, src: &mut S, disk: D) -> Answered<D>
+fn replayed<S: Source, D: Disk, G: Gate>(
+    alloc: Global,
+    src: &mut S,
+    disk: D,
+    gate: &G,
+) -> Answered<D>
     requires { NothingInFlight (D.view disk) }
     ensures says { IfOk result.said (λ said. (words : List (List ℕ)) → IsReplay words →
         let call = call_of words S.left S.faults src.old src.new
@@ -37,7 +42,7 @@ fn replayed<S: Source, D: Disk>(alloc: Global, src: &mut S, disk: D) -> Answered
         Leaves call }
 {
     match read_script_bytes(alloc, src) {
-        Ok(script) => said_of(alloc, script.as_slice(), disk),
+        Ok(script) => said_of(alloc, script.as_slice(), disk, gate),
         Err(ReadError::NoMemory) => Answered {
             said: Err(NoMemory),
             disk,
@@ -54,11 +59,12 @@ fn replayed<S: Source, D: Disk>(alloc: Global, src: &mut S, disk: D) -> Answered
 }
 
 /// Everything of a run before its first byte is written. It waits for nobody.
-fn answered<S: Source, D: Disk>(
+fn answered<S: Source, D: Disk, G: Gate>(
     alloc: Global,
     words: &[String],
     src: &mut S,
     mut disk: D,
+    gate: &G,
 ) -> Answered<D>
     requires { NothingInFlight (D.view disk) }
     ensures says { let call = call_of (map string_bytes words.now) S.left S.faults src.old src.new
@@ -70,7 +76,7 @@ fn answered<S: Source, D: Disk>(
     ensures unread { (ReadsSource (map string_bytes words.now) → ⊥) → src.new ≡ src.old }
 {
     match command_of(words) {
-        Some(Command::Replay) => replayed(alloc, src, disk),
+        Some(Command::Replay) => replayed(alloc, src, disk, gate),
         Some(Command::Recover) => {
             let said = store_said(alloc, &mut disk);
             Answered { said, disk }
@@ -128,7 +134,7 @@ pub fn run<S: Source, K: Sink, D: Disk + Send, G: Gate + Sync, R: Threads + Wait
         Leaves call }
     ensures unread { (ReadsSource (map string_bytes words.now) → ⊥) → src.new ≡ src.old }
 {
-    let Answered { said, disk } = answered(alloc, words, src, disk);
+    let Answered { said, disk } = answered(alloc, words, src, disk, gate);
     match said {
         Ok(said) => {
             let status = ended(out, &said);
