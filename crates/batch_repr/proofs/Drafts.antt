@@ -14,7 +14,7 @@ use Rattle.batch_repr.specs.Written.{written_entry, written_entries, written_len
 use Rattle.batch_repr.specs.Building.{room_fault}
 use Rattle.batch_repr.specs.Draft.{IsDraft}
 
-written_entries-push : (entries : List Entry) (entry : Entry) → written_entries (entries ++ entry ∷ []) ≡ written_entries entries ++ written_entry entry
+pub written_entries-push : (entries : List Entry) (entry : Entry) → written_entries (entries ++ entry ∷ []) ≡ written_entries entries ++ written_entry entry
 unfolding written_entries
 written_entries-push entries entry = flat_map-append written_entry entries (entry ∷ [])
     ∙ ap (λ (t : List ℕ). flat_map written_entry entries ++ t) (append-nil (written_entry entry))

@@ -4,6 +4,7 @@ mod WrittenNumber
 mod Drafts
 mod Written
 mod Shortest
+mod Sizes
 mod FitsBatch
 mod Tools
 mod Numbers

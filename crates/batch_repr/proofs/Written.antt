@@ -114,7 +114,7 @@ entry_some (Set key value) = omega arith
 entry_some (Delete key) = omega arith
 entry_some (Note bytes) = omega arith
 
-entries_few : (entries : List Entry) → length entries ≤ length (written_entries entries)
+pub entries_few : (entries : List Entry) → length entries ≤ length (written_entries entries)
 unfolding written_entries
 entries_few [] = omega arith
 entries_few (entry ∷ entries) = omega (arith, entry_some entry, entries_few entries, length-append (written_entry entry) (flat_map written_entry entries))

@@ -1,10 +1,11 @@
 -- Which entries fit one batch, and what a builder refuses (docs/FORMATS.md, "Limits").
-use Rattle.std.specs.Prelude.{◌≡◌, ℕ, ◌≤◌, List, [], ◌∷◌, ◌++◌, length, All, Option, Some, None, Result, Ok, Err, nat_lt, if◌then◌else◌}
+use Rattle.std.specs.Prelude.{◌≡◌, ℕ, ◌<◌, ◌≤◌, List, [], ◌∷◌, ◌++◌, length, All, Option, Some, None, Result, Ok, Err, nat_lt, if◌then◌else◌}
 use Rattle.wal_base.specs.declared.entry.Entry.{Entry}
 use Rattle.wal_base.specs.declared.entry.Entry.TheVariants.{Set, Delete, Note}
 use Rattle.batch_repr.specs.declared.fault.BuildFault.{BuildFault}
 use Rattle.batch_repr.specs.declared.fault.BuildFault.TheVariants as faults
 use Rattle.batch_repr.specs.declared.limits.TheConstants.{KEY_MAX, VALUE_MAX, BATCH_MAX}
+use Rattle.batch_repr.specs.Batches.{count_of}
 use Rattle.batch_repr.specs.Limits.{IsWithinLimits}
 use Rattle.batch_repr.specs.Written.{written_len}
 
@@ -12,6 +13,16 @@ use Rattle.batch_repr.specs.Written.{written_len}
 pub record FitsBatch (entries : List Entry) : Type 0 where
   pub limits : All IsWithinLimits entries
   pub size : written_len entries ≤ BATCH_MAX
+
+-- The entries fit one batch, which has so many bytes as it is written.
+pub record FitsIn (entries : List Entry) (size : ℕ) : Type 0 where
+  pub fits : FitsBatch entries
+  pub size_is : size ≡ written_len entries
+
+-- The entries make one batch: they fit it, and some of them takes a number.
+pub record MakesBatch (entries : List Entry) : Type 0 where
+  pub fits : FitsBatch entries
+  pub some : 0 < count_of entries
 
 -- a batch of this length is too long, or not
 abbrev pub room_fault : ℕ → Option BuildFault

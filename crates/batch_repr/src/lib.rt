@@ -18,6 +18,7 @@ mod limits;
 mod numbered;
 mod theorems;
 mod unnumbered;
+mod unwritten;
 mod writing;
 
 pub use batch::{Batch, Batches};
@@ -30,6 +31,7 @@ pub use limits::{
 pub use numbered::Numbered;
 pub use theorems::{bytes_have_one_reading, fits_exactly_where_not_refused, shortest_is_written};
 pub use unnumbered::Unnumbered;
+pub use unwritten::Unwritten;
 
 #[cfg(test)]
 mod tests;

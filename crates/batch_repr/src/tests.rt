@@ -1,7 +1,9 @@
-use crate::{Batch, BatchBuilder, BatchFault, BuildFault, Unnumbered, decode, decode_shared};
+use crate::{
+    Batch, BatchBuilder, BatchFault, BuildFault, Unnumbered, Unwritten, decode, decode_shared,
+};
 use std::alloc::Global;
 use std::process::Abort;
-use wal_base::{Blob, Entry};
+use wal_base::{Blob, Entries, Entry};
 
 /// A batch of one Set, key `a` to `1`.
 fn one_set(rt: &impl Abort, mut builder: BatchBuilder) -> Unnumbered {
@@ -135,6 +137,31 @@ fn a_note_and_a_delete_are_written_and_read(rt: HostRuntime) {
     assert_eq!(rt; numbered.bytes(), bytes.as_slice());
     let read = decode(rt.alloc(), bytes).expect(&rt, "a batch");
     assert_eq!(rt; (read.first, read.entries.len()), (11, 2));
+}
+
+/// A note, and a Delete where one is asked for.
+fn note_and(rt: &impl Abort, alloc: Global, delete: bool) -> Entries {
+    let text = Blob::copy_of(alloc, b"t7 a").expect(rt, "memory");
+    let bytes = text.part(0, 2).expect(rt, "a part");
+    let mut entries = Entries::new(alloc);
+    assert!(rt; entries.push(Entry::Note { bytes }).is_ok());
+    if delete {
+        let key = text.part(3, 4).expect(rt, "a part");
+        assert!(rt; entries.push(Entry::Delete { key }).is_ok());
+    }
+    entries
+}
+
+#[test]
+fn entries_that_make_a_batch_are_written(rt: HostRuntime) {
+    let alone = note_and(&rt, rt.alloc(), false);
+    assert!(&rt; Unwritten::of(alone).is_none());
+    let both = note_and(&rt, rt.alloc(), true);
+    let unwritten = Unwritten::of(both).expect(&rt, "a batch");
+    let batch = unwritten.write(rt.alloc()).expect(&rt, "memory");
+    assert_eq!(&rt; (batch.count(), batch.size()), (1, 19));
+    let bytes = b"\x0b\0\0\0\0\0\0\0\x01\0\0\0\x03\x02t7\0\x01a";
+    assert_eq!(&rt; batch.number(11).bytes(), bytes.as_slice());
 }
 
 /// A header, and the entries after it.
