@@ -63,7 +63,7 @@ pub(crate) fn run_turns<D: Disk, G: Gate>(
     let mut number = 0;
     let mut outcome = Ok(());
     while let Some(turn) = turns.pop_front() {
-        outcome = outcome.and(run_lines(pipeline, &mut sessions[number], turn, transcript));
+        outcome = outcome.and(run_lines(alloc, pipeline, &mut sessions[number], turn, transcript));
         number += 1;
     }
     outcome

@@ -6,7 +6,6 @@ mod Drafting
 mod EntriesSoFar
 mod Examples
 mod Exhausted
-mod Fits
 mod InOrder
 mod Lasting
 mod Limits

@@ -1,82 +1,64 @@
 //! The entries of a batch, as a line spells them.
 
-ghost use Rattle.std.specs.Prelude.{◌≡◌, ◌++◌, ◌∷◌, [], ℕ, List, IfOk, OnOk, IfSome, IfNone, IsErrOf};
+ghost use Rattle.std.specs.Prelude.{◌≡◌, ◌++◌, ◌∷◌, [], ℕ, List, IfOk, OnOk, IsErrOf};
 ghost use Rattle.wal_base.specs.declared.entry.Entry.{Entry};
-ghost use Rattle.batch_repr.specs.Building.{FitsBatch};
+ghost use Rattle.session_script.specs.Words.{parts_of, SpellEntries};
 ghost use Rattle.session_script.specs.Next.{TakesEntry, HasNoEntry};
-ghost use Rattle.session_script.specs.Spelled.{entry_of, AsksForBatch, AsksForNoBatch, HasNoRoom};
+ghost use Rattle.session_script.specs.Spelled.{AsksForBatch, AsksForNoBatch, SpellNoEntries};
 
 use crate::fault::LineFault;
 use crate::pieces::Pieces;
 use crate::words::next_word;
-use batch_repr::{BatchBuilder, Unnumbered};
+use batch_repr::Unwritten;
 use std::alloc::Global;
+use wal_base::{Entries, Entry};
 
-/// An entry whose bytes stand in the script.
-#[derive(Clone, Copy, Debug, PartialEq, Eq)]
-enum Spelled<'a> {
-    /// `set K V`
-    Set { key: &'a [u8], value: &'a [u8] },
-    /// `del K`
-    Delete { key: &'a [u8] },
-    /// `note T`
-    Note { text: &'a [u8] },
-}
-
-/// Takes the words of an entry off. `None` exactly where no entry comes next.
-fn next_entry<'a>(words: &mut Pieces<'a>) -> Option<Spelled<'a>>
-    ensures some { IfSome result (λ spelled. TakesEntry words.old (entry_of spelled) words.new) }
-    ensures none { IfNone result (HasNoEntry words.old) }
+/// Takes the words of an entry off. It is bad exactly where no entry comes next.
+fn next_entry(words: &mut Pieces<'_>) -> Result<Entry, LineFault>
+    ensures entry { IfOk result (λ entry. TakesEntry words.old entry words.new) }
+    ensures bad { IsErrOf result LineFault.Bad → HasNoEntry words.old }
 {
-    match words.next()? {
+    match words.next().ok_or(LineFault::Bad)? {
         b"set" => {
             let key = next_word(words)?;
             let value = next_word(words)?;
-            Some(Spelled::Set { key, value })
+            Ok(Entry::Set { key, value })
         }
         b"del" => {
             let key = next_word(words)?;
-            Some(Spelled::Delete { key })
+            Ok(Entry::Delete { key })
         }
         b"note" => {
-            let text = next_word(words)?;
-            Some(Spelled::Note { text })
+            let bytes = next_word(words)?;
+            Ok(Entry::Note { bytes })
         }
-        _ => None,
+        _ => Err(LineFault::Bad),
     }
 }
 
-/// Copies an entry into a batch. It is bad where no batch has room for it after those that are there.
-fn add_entry(builder: &mut BatchBuilder, spelled: Spelled<'_>) -> Result<(), LineFault>
-    ensures ok { OnOk result (builder.new ≡ builder.old ++ entry_of spelled.entry ∷ []) }
-    ensures fits { OnOk result (FitsBatch builder.old → FitsBatch builder.new) }
-    ensures bad { IsErrOf result LineFault.Bad → HasNoRoom builder.old (entry_of spelled.entry) }
+/// The entries that the words spell, with a semicolon between two of them.
+fn entries_of(alloc: Global, words: &mut Pieces<'_>) -> Result<Entries, LineFault>
+    ensures ok { IfOk result (λ entries. SpellEntries entries (parts_of words.old)) }
+    ensures bad { IsErrOf result LineFault.Bad → SpellNoEntries words.old }
 {
-    match spelled {
-        Spelled::Set { key, value } => builder.set(key, value)?,
-        Spelled::Delete { key } => builder.delete(key)?,
-        Spelled::Note { text } => builder.note(text)?,
-    }
-    Ok(())
-}
-
-/// The batch whose entries the words spell, with a semicolon between two of them.
-pub(crate) fn batch_of(alloc: Global, words: &mut Pieces<'_>) -> Result<Unnumbered, LineFault>
-    ensures ok { IfOk result (AsksForBatch words.old) }
-    ensures bad { IsErrOf result LineFault.Bad → AsksForNoBatch words.old }
-{
-    let mut builder = BatchBuilder::new(alloc)?;
+    let mut entries = Entries::with_capacity(alloc, 1)?;
     loop {
-        let Some(spelled) = next_entry(words) else {
-            return Err(LineFault::Bad);
-        };
-        add_entry(&mut builder, spelled)?;
+        let entry = next_entry(words)?;
+        entries.push(entry).map_err(|_| LineFault::NoMemory)?;
         let Some(word) = words.next() else {
-            break;
+            return Ok(entries);
         };
         if word != b";".as_slice() {
             return Err(LineFault::Bad);
         }
     }
-    builder.finish().map_err(|_| LineFault::Bad)
+}
+
+/// The batch whose entries the words spell.
+pub(crate) fn batch_of(alloc: Global, words: &mut Pieces<'_>) -> Result<Unwritten, LineFault>
+    ensures ok { IfOk result (AsksForBatch words.old) }
+    ensures bad { IsErrOf result LineFault.Bad → AsksForNoBatch words.old }
+{
+    let entries = entries_of(alloc, words)?;
+    Unwritten::of(entries).ok_or(LineFault::Bad)
 }

@@ -1,6 +1,5 @@
 //! Why a script or a line of it is not read.
 
-use batch_repr::BuildFault;
 use thiserror::Error;
 use wal_base::NoMemory;
 
@@ -34,22 +33,6 @@ impl From<NoMemory> for LineFault {
 
     fn from(_: NoMemory) -> LineFault {
         LineFault::NoMemory
-    }
-}
-
-impl From<BuildFault> for LineFault {
-    ghost use Rattle.std.specs.Prelude.{◌≡◌};
-    ghost use Rattle.session_script.specs.Spelled.{blame};
-
-    ghost from_gives = { λ fault e. e ≡ blame fault };
-
-    fn from(fault: BuildFault) -> LineFault {
-        match fault {
-            BuildFault::NoMemory => LineFault::NoMemory,
-            BuildFault::KeyTooLong { .. }
-            | BuildFault::ValueTooLong { .. }
-            | BuildFault::BatchTooLong { .. } => LineFault::Bad,
-        }
     }
 }
 

@@ -7,8 +7,8 @@
 //!
 //! A script is read in one pass, line by line, and each word once: `pieces` cuts the lines and their words, `words` reads
 //! names and numbers, `entries` the entries of a batch, `sayings` what one line says, and `reading` joins what the
-//! lines say into rounds. The bytes of a key, a value or a note are copied once, as their line is read. `replies` has the
-//! replies and the last line of a run.
+//! lines say into rounds. The bytes are copied once, and a key, a value or a note is a part of the copy.
+//! `replies` has the replies and the last line of a run.
 #![tactic(auto)]
 
 mod entries;
@@ -27,7 +27,7 @@ pub use replies::{RunEnd, Said, put_reply, put_run_end};
 pub use script::{Act, Line, Lines, POLLS_MAX, Round, Rounds, Script, StallLine, Stalls};
 pub use theorems::{
     a_script_counts_its_sessions_and_few_numbers, answers_in_order_are_legal, bytes_are_one_script,
-    bytes_have_one_first_bad_line, one_session_fixes_the_replies,
+    bytes_have_one_first_bad_line, limits_are_exact, one_session_fixes_the_replies,
 };
 
 #[cfg(test)]

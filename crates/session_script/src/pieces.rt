@@ -1,12 +1,13 @@
 //! A text, taken piece by piece.
 
-ghost use Rattle.std.specs.Prelude.{◌≡◌, ◌≢◌, ℕ, List, [], ◌∷◌, true, false, IfSome, IfNone};
+ghost use Rattle.std.specs.Prelude.{◌≡◌, ◌≢◌, ◌≤◌, ◌^◌, ℕ, List, [], ◌∷◌, length, true, false, IfOk, IfSome, IfNone};
 ghost use Rattle.memchr.specs.Find.{IsFirstByte};
 ghost use Rattle.session_script.specs.Words.{lines_of, words_of};
 ghost use Rattle.session_script.specs.Cutting.{is_cut};
 
 use memchr::{memchr, memchr2};
 use std::marker::Model;
+use wal_base::{Blob, NoMemory};
 
 /// Where a text is cut.
 #[derive(Clone, Copy, Debug, PartialEq, Eq)]
@@ -33,38 +34,49 @@ impl Cut {
 #[derive(Debug, Drop)]
 pub(crate) struct Pieces<'a> {
     cut: Cut,
-    rest: &'a [u8],
+    text: &'a Blob,
+    /// The bytes of the text.
+    bytes: &'a [u8],
+    /// Where what is left of it begins.
+    from: usize,
     is_done: bool,
 }
 
 impl<'a> Model for Pieces<'a> {
-    ghost use Rattle.std.specs.Prelude.{List, ℕ};
+    ghost use Rattle.std.specs.Prelude.{◌≡◌, ◌≤◌, List, ℕ, drop, length};
     ghost use Rattle.session_script.specs.Cutting.{pieces_left};
 
     ghost Value = { List (List ℕ) };
 
-    ghost view = { λ a. pieces_left a.cut a.rest.now a.is_done };
+    ghost view = { λ a. pieces_left a.cut (drop a.from a.text.now) a.is_done };
+
+    ghost invariant = { λ a. (a.bytes.now ≡ a.text.now) × (a.from ≤ length a.text.now) };
 }
 
 impl<'a> Pieces<'a> {
-    /// The lines of a script.
-    pub(crate) fn lines(script: &'a [u8]) -> Pieces<'a>
-        ensures { result ≡ lines_of script.now }
+    /// The lines of a script, which a `u64` counts.
+    pub(crate) fn lines(script: &'a Blob) -> Pieces<'a>
+        ensures lines { result ≡ lines_of script.now }
+        ensures few { length result ≤ 2 ^ 63 }
     {
         Pieces {
             cut: Cut::AtLineFeeds,
-            rest: script,
+            text: script,
+            bytes: script.as_slice(),
+            from: 0,
             is_done: false,
         }
     }
 
     /// The words of a line.
-    pub(crate) fn words(line: &'a [u8]) -> Pieces<'a>
+    pub(crate) fn words(line: &'a Blob) -> Pieces<'a>
         ensures { result ≡ words_of line.now }
     {
         Pieces {
             cut: Cut::AtBlanks,
-            rest: line,
+            text: line,
+            bytes: line.as_slice(),
+            from: 0,
             is_done: false,
         }
     }
@@ -77,10 +89,10 @@ impl<'a> Pieces<'a> {
         if self.is_done {
             return None;
         }
-        let rest = self.rest;
+        let rest = &self.bytes[self.from..];
         match self.cut.first_in(rest) {
             Some(at) => {
-                self.rest = &rest[at + 1..];
+                self.from += at + 1;
                 Some(&rest[..at])
             }
             None => {
@@ -88,5 +100,18 @@ impl<'a> Pieces<'a> {
                 Some(rest)
             }
         }
+    }
+
+    /// Takes the next piece off as a part of the text, whose bytes are shared. `None` exactly where none is left.
+    pub(crate) fn next_part(&mut self) -> Result<Option<Blob>, NoMemory>
+        ensures some { IfOk result (λ part. IfSome part (λ piece. self.old ≡ piece ∷ self.new)) }
+        ensures none { IfOk result (λ part. IfNone part ((self.old ≡ []) × (self.new ≡ []))) }
+    {
+        let (text, from) = (self.text, self.from);
+        let Some(piece) = self.next() else {
+            return Ok(None);
+        };
+        let to = from + piece.len();
+        Ok(Some(text.part(from, to)?))
     }
 }

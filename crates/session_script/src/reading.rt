@@ -15,7 +15,7 @@ use crate::sayings::said_by;
 use crate::script::{Line, Lines, Round, Rounds, Saying, Script, StallLine, Stalls};
 use std::alloc::Global;
 use std::mem;
-use wal_base::NoMemory;
+use wal_base::{Blob, NoMemory};
 
 impl Round {
     /// A round in which nothing happens. It takes no memory.
@@ -96,7 +96,7 @@ impl Draft {
     }
 
     /// Adds a line. It is bad where it is no line of a script, and where it says something after a `halt`.
-    fn add_line(&mut self, alloc: Global, line: &[u8]) -> Result<(), LineFault>
+    fn add_line(&mut self, alloc: Global, line: &Blob) -> Result<(), LineFault>
         ensures added { OnOk result (TakesLine self.old line.now self.new) }
         ensures bad { IsErrOf result LineFault.Bad → RefusesLine self.old line.now }
     {
@@ -129,23 +129,35 @@ impl Draft {
     }
 }
 
-/// Reads a script. `Err` tells the first bad line, counted from 1, or that memory ran out.
-pub fn read_script(alloc: Global, bytes: &[u8]) -> Result<Script, ScriptFault>
-    ensures script { IfOk result (IsScript bytes.now) }
+/// The script that a text is. What its lines name are parts of the text.
+fn read_text(alloc: Global, text: &Blob) -> Result<Script, ScriptFault>
+    ensures script { IfOk result (IsScript text.now) }
     ensures sessions { IfOk result NamesItsSessions }
-    ensures few { IfOk result (λ script. script_numbers script ≤ length bytes.now + 1) }
-    ensures bad { (line : ℕ) → result ≡ Err (faults.BadLine line) → IsFirstBad (lines_of bytes.now) line }
+    ensures few { IfOk result (λ script. script_numbers script ≤ length text.now + 1) }
+    ensures bad { (line : ℕ) → result ≡ Err (faults.BadLine line) → IsFirstBad (lines_of text.now) line }
 {
     let mut draft = Draft::new(alloc);
-    let mut lines = Pieces::lines(bytes);
+    let mut lines = Pieces::lines(text);
     let mut number = 0;
-    while let Some(line) = lines.next() {
+    while let Some(line) = lines.next_part()? {
         number += 1;
-        match draft.add_line(alloc, line) {
+        match draft.add_line(alloc, &line) {
             Ok(()) => {}
             Err(LineFault::Bad) => return Err(ScriptFault::BadLine { line: number }),
             Err(LineFault::NoMemory) => return Err(ScriptFault::NoMemory),
         }
     }
     Ok(draft.finish()?)
+}
+
+/// Reads a script. `Err` tells the first bad line, counted from 1, or that memory ran out. The bytes are copied once, and all
+/// that the script names is a part of the copy.
+pub fn read_script(alloc: Global, bytes: &[u8]) -> Result<Script, ScriptFault>
+    ensures script { IfOk result (IsScript bytes.now) }
+    ensures sessions { IfOk result NamesItsSessions }
+    ensures few { IfOk result (λ script. script_numbers script ≤ length bytes.now + 1) }
+    ensures bad { (line : ℕ) → result ≡ Err (faults.BadLine line) → IsFirstBad (lines_of bytes.now) line }
+{
+    let text = Blob::copy_of(alloc, bytes)?;
+    read_text(alloc, &text)
 }

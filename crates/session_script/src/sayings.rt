@@ -53,16 +53,16 @@ fn next_side(words: &mut Pieces<'_>) -> Option<Side>
     }
 }
 
-/// The last word, if it is a key within its limit. `None` exactly where it is none.
-fn last_key<'a>(words: &mut Pieces<'a>) -> Option<&'a [u8]>
-    ensures some { IfSome result (λ key. EndsWithKey words.old key.now) }
-    ensures none { IfNone result (EndsWithNoKey words.old) }
+/// The last word, if it is a key within its limit. It is bad exactly where it is none.
+fn last_key(words: &mut Pieces<'_>) -> Result<Blob, LineFault>
+    ensures key { IfOk result (EndsWithKey words.old) }
+    ensures bad { IsErrOf result LineFault.Bad → EndsWithNoKey words.old }
 {
     let key = next_word(words)?;
-    if key.len() <= KEY_MAX && is_end(words) {
-        Some(key)
+    if key.as_slice().len() <= KEY_MAX && is_end(words) {
+        Ok(key)
     } else {
-        None
+        Err(LineFault::Bad)
     }
 }
 
@@ -83,13 +83,12 @@ fn commit_of(alloc: Global, words: &mut Pieces<'_>) -> Result<Saying, LineFault>
 }
 
 /// What a line says whose first word is `get`.
-fn get_of(alloc: Global, words: &mut Pieces<'_>) -> Result<Saying, LineFault>
+fn get_of(words: &mut Pieces<'_>) -> Result<Saying, LineFault>
     ensures says { IfOk result (WordsSay (codes "get" ∷ words.old)) }
     ensures bad { IsErrOf result LineFault.Bad → WordsSayNone (codes "get" ∷ words.old) }
 {
     let session = next_session(words).ok_or(LineFault::Bad)?;
-    let key = last_key(words).ok_or(LineFault::Bad)?;
-    let key = Blob::copy_of(alloc, key)?;
+    let key = last_key(words)?;
     Ok(Saying::Does {
         line: Line {
             session,
@@ -114,7 +113,7 @@ fn stall_of(words: &mut Pieces<'_>) -> Option<Saying>
 }
 
 /// What the words of a line say.
-fn saying_of(alloc: Global, line: &[u8]) -> Result<Saying, LineFault>
+fn saying_of(alloc: Global, line: &Blob) -> Result<Saying, LineFault>
     ensures says { IfOk result (WordsSay (words_of line.now)) }
     ensures bad { IsErrOf result LineFault.Bad → WordsSayNone (words_of line.now) }
 {
@@ -124,7 +123,7 @@ fn saying_of(alloc: Global, line: &[u8]) -> Result<Saying, LineFault>
         return commit_of(alloc, &mut words);
     }
     if verb == b"get".as_slice() {
-        return get_of(alloc, &mut words);
+        return get_of(&mut words);
     }
     if verb == b"stall".as_slice() {
         return stall_of(&mut words).ok_or(LineFault::Bad);
@@ -139,11 +138,12 @@ fn saying_of(alloc: Global, line: &[u8]) -> Result<Saying, LineFault>
 }
 
 /// What a line says: nothing, or what its words say.
-pub(crate) fn said_by(alloc: Global, line: &[u8]) -> Result<Option<Saying>, LineFault>
+pub(crate) fn said_by(alloc: Global, line: &Blob) -> Result<Option<Saying>, LineFault>
     ensures says { IfOk result (LineSays line.now) }
     ensures bad { IsErrOf result LineFault.Bad → IsNoLine line.now }
 {
-    if line.is_empty() || line[0] == b'#' {
+    let bytes = line.as_slice();
+    if bytes.is_empty() || bytes[0] == b'#' {
         return Ok(None);
     }
     Ok(Some(saying_of(alloc, line)?))

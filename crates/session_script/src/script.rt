@@ -1,6 +1,6 @@
 //! What a script is once it is read.
 
-use batch_repr::Unnumbered;
+use batch_repr::Unwritten;
 use disk_face::Side;
 use wal_base::{Blob, ListOf};
 
@@ -11,7 +11,7 @@ pub const POLLS_MAX: u32 = 100_000;
 #[derive(Debug, Drop)]
 pub enum Act {
     /// Commit this batch, and with `sync` wait until a sync covers it.
-    Commit { sync: bool, batch: Unnumbered },
+    Commit { sync: bool, batch: Unwritten },
     /// Answer the value of this key.
     Get { key: Blob },
 }

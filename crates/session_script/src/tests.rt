@@ -41,11 +41,12 @@ fn put_parts(out: &mut Buf, parts: &[&[u8]]) -> Result<(), NoMemory> {
 }
 
 /// Adds what a session is to do.
-fn put_line(out: &mut Buf, line: &Line) -> Result<(), NoMemory> {
+fn put_line(out: &mut Buf, alloc: Global, line: Line) -> Result<(), NoMemory> {
     put_number(out, line.session)?;
-    match &line.act {
+    match line.act {
         Act::Commit { sync, batch } => {
-            out.append(if *sync { b"sync " } else { b"free " })?;
+            out.append(if sync { b"sync " } else { b"free " })?;
+            let batch = batch.write(alloc)?;
             for entry in batch.entries().as_slice() {
                 match entry {
                     Entry::Set { key, value } => {
@@ -62,9 +63,9 @@ fn put_line(out: &mut Buf, line: &Line) -> Result<(), NoMemory> {
 }
 
 /// What a script is, as a text of another form than its own.
-fn shown(alloc: Global, script: &Script) -> Result<Buf, NoMemory> {
+fn shown(alloc: Global, script: Script) -> Result<Buf, NoMemory> {
     let mut out = Buf::new(alloc)?;
-    for round in script.rounds.as_slice() {
+    for round in script.rounds.into_vec() {
         out.append(b"[\n")?;
         for stall in round.stalls.as_slice() {
             put_number(&mut out, stall.polls)?;
@@ -73,8 +74,8 @@ fn shown(alloc: Global, script: &Script) -> Result<Buf, NoMemory> {
                 Side::Secondary => b"of secondary\n".as_slice(),
             })?;
         }
-        for line in round.lines.as_slice() {
-            put_line(&mut out, line)?;
+        for line in round.lines.into_vec() {
+            put_line(&mut out, alloc, line)?;
         }
         out.append(b"]\n")?;
     }
@@ -110,7 +111,7 @@ fn each_kind_of_line_is_read(rt: HostRuntime) -> Result<(), Fail> {
         0 free del,a,\n\
         ]\n\
         halted, 64 ";
-    assert!(rt; shown(rt.alloc(), &script)?.as_slice() == expected.as_slice());
+    assert!(rt; shown(rt.alloc(), script)?.as_slice() == expected.as_slice());
     Ok(())
 }
 
@@ -131,7 +132,7 @@ fn a_transfer_is_read(rt: HostRuntime) -> Result<(), Fail> {
         0 get,acct/3,\n\
         ]\n\
         1 ";
-    assert!(rt; shown(rt.alloc(), &script)?.as_slice() == expected.as_slice());
+    assert!(rt; shown(rt.alloc(), script)?.as_slice() == expected.as_slice());
     Ok(())
 }
 
@@ -148,7 +149,7 @@ fn rounds_are_what_stands_between_their_ends(rt: HostRuntime) -> Result<(), Fail
         ),
     ] {
         let script = script_of(&rt, rt.alloc(), text)?;
-        assert!(rt; shown(rt.alloc(), &script)?.as_slice() == expected);
+        assert!(rt; shown(rt.alloc(), script)?.as_slice() == expected);
     }
     Ok(())
 }
@@ -157,8 +158,30 @@ fn rounds_are_what_stands_between_their_ends(rt: HostRuntime) -> Result<(), Fail
 fn a_tab_stands_for_a_space(rt: HostRuntime) -> Result<(), Fail> {
     let script = script_of(&rt, rt.alloc(), b"commit\t7 sync\tset a\tb\t; del\t\x7e!")?;
     assert!(rt;
-        shown(rt.alloc(), &script)?.as_slice() == b"[\n7 sync set,a,b,del,~!,\n]\n8 ".as_slice()
+        shown(rt.alloc(), script)?.as_slice() == b"[\n7 sync set,a,b,del,~!,\n]\n8 ".as_slice()
     );
+    Ok(())
+}
+
+#[test]
+fn words_are_right_parts_up_to_the_end_of_the_text(rt: HostRuntime) -> Result<(), Fail> {
+    for (text, expected) in [
+        (
+            b"get 0 first\nget 1 last".as_slice(),
+            b"[\n0 get,first,\n1 get,last,\n]\n2 ".as_slice(),
+        ),
+        (
+            b"commit\t0\tsync\tset\tkey\tvalue",
+            b"[\n0 sync set,key,value,\n]\n1 ",
+        ),
+        (
+            b"get\t0\tk\n\ncommit 2 nosync set k v\t;\tdel\tkey\t; note\tend",
+            b"[\n0 get,k,\n2 free set,k,v,del,key,note,end,\n]\n3 ",
+        ),
+    ] {
+        let script = script_of(&rt, rt.alloc(), text)?;
+        assert!(rt; shown(rt.alloc(), script)?.as_slice() == expected);
+    }
     Ok(())
 }
 

@@ -1,11 +1,13 @@
 //! The words of a line, one after another.
 
-ghost use Rattle.std.specs.Prelude.{◌≡◌, ◌≢◌, ◌↔◌, ◌<◌, ◌≤◌, ◌^◌, ◌∷◌, [], ℕ, List, IsTrue, IfSome, IfNone};
+ghost use Rattle.std.specs.Prelude.{◌≡◌, ◌≢◌, ◌↔◌, ◌<◌, ◌≤◌, ◌^◌, ◌∷◌, [], ℕ, List, IsTrue, IfOk, IfSome, IfNone, IsErrOf};
 ghost use Rattle.std.specs.Fmt.{decimal};
 ghost use Rattle.session_script.specs.Words.{IsWord};
 ghost use Rattle.session_script.specs.Next.{TakesWord, HasNoWord, TakesNumber, HasNoNumber};
 
+use crate::fault::LineFault;
 use crate::pieces::Pieces;
+use wal_base::Blob;
 
 /// Whether the bytes may stand as a key, a value or a note.
 fn is_word(bytes: &[u8]) -> bool
@@ -14,13 +16,17 @@ fn is_word(bytes: &[u8]) -> bool
     !bytes.is_empty() && bytes.iter().all(|b| *b >= 0x21 && *b <= 0x7E && *b != b';')
 }
 
-/// Takes the next word off. `None` exactly where none comes next.
-pub(crate) fn next_word<'a>(words: &mut Pieces<'a>) -> Option<&'a [u8]>
-    ensures some { IfSome result (λ word. TakesWord words.old word.now words.new) }
-    ensures none { IfNone result (HasNoWord words.old) }
+/// Takes the next word off as a part of its text. It is bad exactly where none comes next.
+pub(crate) fn next_word(words: &mut Pieces<'_>) -> Result<Blob, LineFault>
+    ensures word { IfOk result (λ word. TakesWord words.old word words.new) }
+    ensures bad { IsErrOf result LineFault.Bad → HasNoWord words.old }
 {
-    let word = words.next()?;
-    if is_word(word) { Some(word) } else { None }
+    let word = words.next_part()?.ok_or(LineFault::Bad)?;
+    if is_word(word.as_slice()) {
+        Ok(word)
+    } else {
+        Err(LineFault::Bad)
+    }
 }
 
 /// Whether no word is left.

@@ -1,14 +1,16 @@
 //! A script, replayed over what the directories recover to.
 
 ghost use Rattle.disk_face.specs.Image.{directories};
-ghost use Rattle.std.specs.Prelude.{◌≡◌, ◌≤◌, length, IfOk, IsOkAnd, IsTrue};
+ghost use Rattle.std.specs.Prelude.{◌≡◌, ◌+◌, ◌≤◌, ℕ, length, Err, IfOk, IsOkAnd, IsTrue};
 ghost use Rattle.disk_face.specs.View.{files, NothingInFlight};
 ghost use Rattle.wal_recovery.specs.Listing.{IsNextWal};
 ghost use Rattle.wal_top.specs.declared.reading.TheConstants.{SCRIPT_MAX};
 ghost use Rattle.wal_top.specs.declared.status.Status.TheVariants as statuses;
 ghost use Rattle.wal_top.specs.Printing.{bad_line_text};
 ghost use Rattle.failover_writer.specs.Running.{OthersOnlySynced};
-ghost use Rattle.session_script.specs.Script.{NamesItsSessions};
+ghost use Rattle.session_script.specs.declared.fault.ScriptFault.TheVariants as faults;
+ghost use Rattle.session_script.specs.Words.{lines_of};
+ghost use Rattle.session_script.specs.Script.{IsScript, IsFirstBad, NamesItsSessions, script_numbers};
 ghost use Rattle.commit_pipeline.specs.Holding.{WentOn};
 ghost use Rattle.script_runner.specs.Runs.{StallNone, PollsNeverRise};
 ghost use Rattle.wal_top.specs.Call.{change_in};
@@ -22,7 +24,7 @@ use disk_face::{Disk, WAL_MAX};
 use script_runner::{Replayed, Run, run_script};
 use session_script::{Script, ScriptFault, read_script};
 use std::alloc::Global;
-use wal_base::NoMemory;
+use wal_base::{Buf, NoMemory};
 use wal_recovery::{Mode, recover};
 
 /// From how many pending polls in a row an operation hangs.
@@ -108,23 +110,33 @@ fn bad_line_said(alloc: Global, line: u64) -> Result<Said, NoMemory>
     saying(alloc, Status::Script, text.as_str())
 }
 
+/// The script that the bytes are. The bytes are let go, since a script has a copy of its own.
+fn script_of(alloc: Global, bytes: Buf) -> Result<Script, ScriptFault>
+    ensures script { IfOk result (IsScript bytes) }
+    ensures sessions { IfOk result NamesItsSessions }
+    ensures few { IfOk result (λ script. script_numbers script ≤ length bytes + 1) }
+    ensures bad { (line : ℕ) → result ≡ Err (faults.BadLine line) → IsFirstBad (lines_of bytes) line }
+{
+    read_script(alloc, bytes.as_slice())
+}
+
 /// What the bytes of a script come to over a disk.
 pub(crate) fn said_of<D: Disk, G: Gate>(
     alloc: Global,
-    script: &[u8],
+    script: Buf,
     disk: D,
     gate: &G,
 ) -> Answered<D>
-    requires within { length script.now ≤ SCRIPT_MAX }
+    requires within { length script ≤ SCRIPT_MAX }
     requires idle { NothingInFlight (D.view disk) }
     ensures went_on { WentOn (D.view disk) (D.view result.disk) }
-    ensures polls { StallsNoneOf script.now → PollsNeverRise (D.view disk) (D.view result.disk) }
+    ensures polls { StallsNoneOf script → PollsNeverRise (D.view disk) (D.view result.disk) }
     ensures others { IsTrue D.tells → (wal : _) → IsNextWal (directories (D.view disk)) wal
         → OthersOnlySynced wal (files (D.view disk)) (files (D.view result.disk)) }
     ensures says { let over = change_in D.view disk result.disk in
-        IfOk result.said (λ said. SaysOfBytes script.now D.tells over said.status said.text) }
+        IfOk result.said (λ said. SaysOfBytes script D.tells over said.status said.text) }
 {
-    match read_script(alloc, script) {
+    match script_of(alloc, script) {
         Ok(script) => script_said(alloc, script, disk, gate),
         Err(ScriptFault::BadLine { line }) => Answered {
             said: bad_line_said(alloc, line),

@@ -42,7 +42,7 @@ fn replayed<S: Source, D: Disk, G: Gate>(
         Leaves call }
 {
     match read_script_bytes(alloc, src) {
-        Ok(script) => said_of(alloc, script.as_slice(), disk, gate),
+        Ok(script) => said_of(alloc, script, disk, gate),
         Err(ReadError::NoMemory) => Answered {
             said: Err(NoMemory),
             disk,

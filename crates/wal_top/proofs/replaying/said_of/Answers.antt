@@ -7,7 +7,7 @@ use Rattle.wal_top.proofs.replaying.said_of.Goals as goal
 pub returns-in-Ok-clause-says : goal.returns-in-Ok-clause-says
 returns-in-Ok-clause-says g c =
     ok_map c.script_said.result.said c.script_said.ensures.says (λ said p words left faults is reads. p words left faults is
-    (record { bytes = c.args.script.now; whole = reads; within = c.requires.within; is = c.in-Ok.ensures.script }))
+    (record { bytes = c.args.script; whole = reads; within = c.requires.within; is = c.in-Ok.ensures.script }))
 
 pub returns-in-Err-BadLine-clause-says : goal.returns-in-Err-BadLine-clause-says
 returns-in-Err-BadLine-clause-says g c =
@@ -24,6 +24,6 @@ returns-in-Err-BadLine-clause-says g c =
     as_told (HasToSay call) said.status _ said.text _ (
       is,
       bad_line line
-          (record { bytes = c.args.script.now; whole = reads; within = c.requires.within; bad = is_bad }),
+          (record { bytes = c.args.script; whole = reads; within = c.requires.within; bad = is_bad }),
       refl,
     ) p.0 p.1)

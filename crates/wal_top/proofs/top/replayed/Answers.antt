@@ -1,19 +1,15 @@
 -- What was read decides what is said, and nothing but the journal is left.
-use Rattle.std.proofs.Common.{List, ℕ, ◌≤◌, length, Err, refl, sym, ap, subst}
-use Rattle.wal_top.specs.declared.reading.TheConstants.{SCRIPT_MAX}
+use Rattle.std.proofs.Common.{Err, refl, ap}
 use Rattle.wal_top.specs.Call.{Invocation, call_of, change_in}
-use Rattle.wal_top.specs.Reading.{ReadsWhole}
 use Rattle.wal_top.specs.Outcomes.{HasToSay, too_long}
-use Rattle.wal_top.specs.Parts.{SaysOfBytes}
 use Rattle.wal_top.proofs.Saying.{ok_map, as_told}
 use Rattle.wal_top.proofs.Leaves.{leaves_journal, leaves_unrun, stalls_none}
 use Rattle.wal_top.proofs.top.replayed.Goals as goal
 
 pub returns-in-Ok-clause-says : goal.returns-in-Ok-clause-says
 returns-in-Ok-clause-says g c =
-    ok_map c.said_of.result.said c.said_of.ensures.says (λ said p words is.
-    subst (λ (t : List ℕ). SaysOfBytes t g.D.Disk.tells (change_in g.D.Disk.view c.args.disk c.said_of.result.disk) said.status said.text) c.as_slice.ensures p
-    words (change_in g.S.Source.left c.args.src.now c.read_script_bytes.new.src) (change_in g.S.Source.faults c.args.src.now c.read_script_bytes.new.src) is c.in-Ok.ensures.whole)
+    ok_map c.said_of.result.said c.said_of.ensures.says (λ said p words is. p words (change_in g.S.Source.left c.args.src.now c.read_script_bytes.new.src)
+    (change_in g.S.Source.faults c.args.src.now c.read_script_bytes.new.src) is c.in-Ok.ensures.whole)
 
 pub returns-in-Err-Fault-clause-says : goal.returns-in-Err-Fault-clause-says
 returns-in-Err-Fault-clause-says g c =
@@ -30,11 +26,8 @@ returns-in-Err-TooLong-clause-says g c =
 pub returns-in-Ok-clause-leaves : goal.returns-in-Ok-clause-leaves
 returns-in-Ok-clause-leaves g c words' is =
     let call : Invocation = call_of words' g.S.Source.left g.S.Source.faults c.args.src.now c.read_script_bytes.new.src g.D.Disk.tells g.D.Disk.view c.args.disk c.said_of.result.disk in
-    let bytes : List ℕ = c.as_slice.result.now in
-    let whole = subst (λ (t : List ℕ). ReadsWhole call.left.before t call.left.after) (sym c.as_slice.ensures) c.in-Ok.ensures.whole in
-    let few = subst (λ (t : List ℕ). length t ≤ SCRIPT_MAX) (sym c.as_slice.ensures) c.in-Ok.ensures.within in
     leaves_journal call is c.in-Ok.ensures.took c.said_of.ensures.went_on
-    (λ none. c.said_of.ensures.polls (stalls_none call bytes is whole few none)) c.said_of.ensures.others
+    (λ none. c.said_of.ensures.polls (stalls_none call c.in-Ok.script is c.in-Ok.ensures.whole c.in-Ok.ensures.within none)) c.said_of.ensures.others
 
 pub returns-in-Err-NoMemory-clause-leaves : goal.returns-in-Err-NoMemory-clause-leaves
 returns-in-Err-NoMemory-clause-leaves g c words' is =
