@@ -148,6 +148,8 @@ fn run_over<D: StallDisk, G: Gate>(
             };
         }
     };
+    // The shards have their entries.
+    drop(base);
     let mut sessions = sessions.into_vec();
     let Ok(()) = run_rounds(alloc, &mut pipeline, &mut sessions, rounds, &mut transcript) else {
         return Course {
