@@ -1,0 +1,53 @@
+//! The commands.
+
+use thiserror::Error;
+use wal_base::NoMemory;
+
+/// From how many pending polls in a row an operation hangs, where the words do not say.
+pub const THRESHOLD_DEFAULT: u32 = 3;
+
+/// The most batches of a load.
+pub const LOAD_MAX: u32 = 2_000_000;
+
+/// What the words ask for.
+#[derive(Clone, Copy, Debug, PartialEq, Eq)]
+pub enum Command {
+    /// Run a script over a journal.
+    Replay {
+        /// From how many pending polls in a row an operation hangs.
+        threshold: u32,
+    },
+    /// Print the store.
+    Recover,
+    /// Print the segments and their batches.
+    Dump,
+    /// Write made batches.
+    Load {
+        /// What the batches are made from.
+        seed: u64,
+        /// How many they are.
+        batches: u32,
+    },
+}
+
+/// Why words are not read as a command.
+#[derive(Clone, Copy, Debug, PartialEq, Eq, Error)]
+pub enum WordsFault {
+    /// They are no command.
+    #[error("the words are no command")]
+    Usage,
+    /// Memory ran out.
+    #[error("out of memory")]
+    NoMemory,
+}
+
+impl From<NoMemory> for WordsFault {
+    ghost use Rattle.std.specs.Prelude.{◌≡◌};
+    ghost use Rattle.command_line.specs.declared.command.WordsFault.TheVariants as faults;
+
+    ghost from_gives = { λ _ e. e ≡ faults.NoMemory };
+
+    fn from(_: NoMemory) -> WordsFault {
+        WordsFault::NoMemory
+    }
+}
