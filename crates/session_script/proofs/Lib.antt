@@ -9,6 +9,9 @@ mod Exhausted
 mod InOrder
 mod Lasting
 mod Limits
+mod LoadEntries
+mod LoadMade
+mod LoadRounds
 mod LinesSoFar
 mod Naming
 mod Numerals

@@ -7,5 +7,6 @@ pub mod Script
 pub mod Drafts
 pub mod Replies
 pub mod Legal
+pub mod Load
 pub mod Lasting
 pub mod Theorems

@@ -1,5 +1,6 @@
--- Laws of scripts and of their replies, each as one statement (docs/FORMATS.md, "The whole script" and "Which replies are legal").
-use Rattle.std.specs.Prelude.{◌≡◌, ◌⊎◌, ℕ, ◌+◌, ◌<◌, ◌≤◌, List, ◌++◌, length, Bool, true, false, map}
+-- Laws of scripts, of their replies and of loads, each as one statement (docs/FORMATS.md, "The whole script", "Which replies are legal"
+-- and "The generated load").
+use Rattle.std.specs.Prelude.{◌≡◌, ◌⊎◌, ℕ, ◌+◌, ◌/◌, ◌<◌, ◌≤◌, List, [], ◌++◌, length, Bool, true, false, map}
 use Rattle.session_script.specs.declared.script.Script.{Script}
 use Rattle.session_script.specs.Words.{lines_of}
 use Rattle.session_script.specs.Script.{IsScript, IsFirstBad, NamesItsSessions, script_numbers, rounds_numbers, rounds_commits}
@@ -7,9 +8,12 @@ use Rattle.std.specs.List.{AllByRecursion, list_any}
 use Rattle.batch_repr.specs.declared.batch.Batch.{Batch}
 use Rattle.batch_repr.specs.declared.limits.TheConstants.{NUMBER_MAX, BATCHES_MAX}
 use Rattle.batch_repr.specs.Batches.{end_after}
+use Rattle.session_script.specs.declared.load.TheConstants.{LOAD_SESSIONS}
+use Rattle.session_script.specs.declared.script.Line.{Line}
 use Rattle.session_script.specs.declared.script.Round.{Round}
 use Rattle.session_script.specs.declared.replies.Said.{Said}
 use Rattle.session_script.specs.declared.replies.Said.TheVariants.{Committed, Unsynced, Dead, Limit, Got}
+use Rattle.session_script.specs.Load.{load_rounds, load_script_of}
 use Rattle.session_script.specs.Legal.{Replied, lines_of_session, AnswersInOrder, IsLegalRound, AreLegal}
 
 -- ---- scripts
@@ -111,3 +115,26 @@ pub record IsLimitedExactly (from : ℕ) (base : List Batch) (died : Bool) (roun
 abbrev pub LimitsAreExact : Type 0
 LimitsAreExact = (from : ℕ) (base : List Batch) (died : Bool) (rounds : List Round) (batches : List Batch) (replies : List (List Replied))
     → AreLegal from base died rounds batches replies → IsLimitedExactly from base died rounds batches replies
+
+-- ---- loads
+
+-- A load commits each of its batches once.
+abbrev pub LoadsCommitAll : Type 0
+LoadsCommitAll = (seed batches : ℕ) → rounds_commits (load_rounds seed batches) ≡ batches
+
+-- A batch takes one number, and every eighth one takes two.
+abbrev pub LoadsTakeFewNumbers : Type 0
+LoadsTakeFewNumbers = (seed batches : ℕ) → rounds_numbers (load_rounds seed batches) ≡ batches + batches / 8
+
+-- Each line of a load is of a session that its script counts, of which there are not too many.
+abbrev pub LoadsNameTheirSessions : Type 0
+LoadsNameTheirSessions = (seed batches : ℕ) → 1 ≤ batches → NamesItsSessions (load_script_of seed batches)
+
+-- Each line of a load is of one of four sessions, however few its batches are.
+abbrev pub LoadsNameFourSessions : Type 0
+LoadsNameFourSessions = (seed batches : ℕ)
+    → AllByRecursion (λ (round : Round). AllByRecursion (λ (line : Line). line.session < LOAD_SESSIONS) round.lines) (load_rounds seed batches)
+
+-- No round of a load stalls a poll.
+abbrev pub LoadsStallNothing : Type 0
+LoadsStallNothing = (seed batches : ℕ) → AllByRecursion (λ (round : Round). round.stalls ≡ []) (load_rounds seed batches)

@@ -9,10 +9,16 @@
 //! names and numbers, `entries` the entries of a batch, `sayings` what one line says, and `reading` joins what the
 //! lines say into rounds. The bytes are copied once, and a key, a value or a note is a part of the copy.
 //! `replies` has the replies and the last line of a run.
+//!
+//! A load is a script that nobody writes: `load` makes its batches from a seed and their numbers, a round at a time, and
+//! `load_end` has the line that is printed at its end.
 #![tactic(auto)]
 
+mod digits;
 mod entries;
 mod fault;
+mod load;
+mod load_end;
 mod pieces;
 mod reading;
 mod replies;
@@ -22,12 +28,18 @@ mod theorems;
 mod words;
 
 pub use fault::ScriptFault;
+pub use load::{
+    LOAD_BATCH_STEP, LOAD_KEYS, LOAD_ROUND, LOAD_SEED_STEP, LOAD_SESSIONS, Load, load_key,
+    load_number, load_script,
+};
+pub use load_end::{LoadEnd, put_load_end};
 pub use reading::read_script;
 pub use replies::{RunEnd, Said, put_reply, put_run_end};
 pub use script::{Act, Line, Lines, POLLS_MAX, Round, Rounds, Script, StallLine, Stalls};
 pub use theorems::{
-    a_script_counts_its_sessions_and_few_numbers, answers_in_order_are_legal, bytes_are_one_script,
-    bytes_have_one_first_bad_line, limits_are_exact, one_session_fixes_the_replies,
+    a_load_asks_for_few, a_script_counts_its_sessions_and_few_numbers, answers_in_order_are_legal,
+    bytes_are_one_script, bytes_have_one_first_bad_line, limits_are_exact,
+    one_session_fixes_the_replies,
 };
 
 #[cfg(test)]

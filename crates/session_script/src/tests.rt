@@ -1,3 +1,4 @@
+mod load;
 mod replies;
 
 use crate::{Act, Line, Script, ScriptFault, read_script};

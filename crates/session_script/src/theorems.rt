@@ -1,6 +1,7 @@
-//! Laws of scripts and their replies that no single call says.
+//! Laws of scripts, their replies and loads that no single call says.
 
 ghost use Rattle.session_script.specs.Theorems.{BytesAreOneScript, ScriptsHaveNoBadLine, OneLineIsFirstBad, ScriptsNameTheirSessions, ScriptsTakeFewNumbers};
+ghost use Rattle.session_script.specs.Theorems.{LoadsCommitAll, LoadsTakeFewNumbers, LoadsNameTheirSessions, LoadsNameFourSessions, LoadsStallNothing};
 ghost use Rattle.session_script.specs.Theorems.{AnswersInOrderAreLegal, OneSessionFixesReplies, LimitsAreExact};
 
 /// Bytes are one script at most.
@@ -36,4 +37,14 @@ pub fn one_session_fixes_the_replies()
 /// for too much. Where the journal did not die, some reply then does, and where none does the run takes all of it.
 pub fn limits_are_exact()
     ensures { LimitsAreExact }
+{}
+
+/// A load of n batches has n commits, which take n numbers and one more for each eighth batch. Its script counts its
+/// sessions, which are of the first four, and none of its rounds stalls a poll.
+pub fn a_load_asks_for_few()
+    ensures commits { LoadsCommitAll }
+    ensures numbers { LoadsTakeFewNumbers }
+    ensures names { LoadsNameTheirSessions }
+    ensures four { LoadsNameFourSessions }
+    ensures calm { LoadsStallNothing }
 {}
