@@ -167,7 +167,7 @@ impl<'a, D: Disk, G: Gate> Pipeline<'a, D, G> {
         self.journal.push(numbered, sync);
         settle(&mut self.journal);
         self.gate.pass(session, GatePoint::Numbered);
-        self.shards.apply(pieces, committed.first);
+        self.shards.add(pieces, committed.first);
         self.gate.pass(session, GatePoint::Applied);
         self.gate.pass(session, GatePoint::Marked);
         self.gate.pass(session, GatePoint::Published);

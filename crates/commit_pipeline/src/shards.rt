@@ -70,7 +70,7 @@ impl Shards {
     }
 
     /// Adds the versions of a batch, whose first number is the next one. It takes no memory.
-    pub(crate) fn apply(&mut self, mut pieces: Pieces, first: u64)
+    fn apply(&mut self, mut pieces: Pieces, first: u64)
         requires whole { pieces ≡ whole_pieces pieces.entries }
         requires some { 0 < count_of pieces.entries }
         requires within { first + count_of pieces.entries ≤ NUMBER_MAX }
@@ -80,6 +80,30 @@ impl Shards {
         pieces.number(first);
         while let Some((shard, piece)) = pieces.take() {
             self.shards[shard].apply(piece);
+        }
+    }
+
+    /// Adds the versions of a batch, whose first number is the next one, and moves them into the indexes. What memory does
+    /// not allow waits where it was linked, and is found there.
+    pub(crate) fn add(&mut self, pieces: Pieces, first: u64)
+        requires whole { pieces ≡ whole_pieces pieces.entries }
+        requires some { 0 < count_of pieces.entries }
+        requires within { first + count_of pieces.entries ≤ NUMBER_MAX }
+        requires reached { HaveReached first self.old }
+        ensures { GainBatch (record { first = first; entries = pieces.entries }) self.old self.new }
+    {
+        self.apply(pieces, first);
+        self.settle_all();
+    }
+
+    /// Moves what was applied into the indexes, as far as memory allows.
+    fn settle_all(&mut self)
+        ensures { KeepBatches self.old self.new }
+    {
+        for shard in 0..SHARDS {
+            if self.settle(shard).is_err() {
+                return;
+            }
         }
     }
 
