@@ -102,3 +102,42 @@ def segment(records, log=LOG):
 def log_of(pairs, first=FIRST_NUMBER, log=LOG):
     """The log of a run that commits one Set after another, each a pair of a key and a value."""
     return segment([batch(number, set_of(*it)) for number, it in enumerate(pairs, first)], log)
+
+
+# ---- generated loads
+
+SEED_STEP, BATCH_STEP = 0x5851F42D4C957F2D, 0x14057B7EF767814F
+ROUND, SESSIONS, KEYS = 1_000, 4, 1_000
+
+
+def load_entries(seed, number):
+    """The key that a batch of a load sets, its value, and the key that it deletes, if it deletes one."""
+    word = b"%016x" % ((seed * SEED_STEP + number * BATCH_STEP) % 2**64)
+    deleted = b"k%04d" % ((number - 4) % KEYS) if number % 8 == 7 else None
+    return b"k%04d" % (number % KEYS), word * 4, deleted
+
+
+def load_numbers(count):
+    """Yields the numbers of a load's batches as they are committed: round by round, one session after another."""
+    for begin in range(0, count, ROUND):
+        for session in range(SESSIONS):
+            yield from range(begin + session, min(begin + ROUND, count), SESSIONS)
+
+
+def load_batches(seed, count, first=FIRST_NUMBER):
+    """Yields the batches of a load, the first one with this number."""
+    for number in load_numbers(count):
+        key, value, deleted = load_entries(seed, number)
+        entries = [set_of(key, value)] + ([delete_of(deleted)] if deleted else [])
+        yield batch(first, *entries)
+        first += len(entries)
+
+
+def load_store(seed, count):
+    """The store after a load."""
+    store = {}
+    for number in load_numbers(count):
+        key, value, deleted = load_entries(seed, number)
+        store[key] = value
+        store.pop(deleted, None)
+    return store

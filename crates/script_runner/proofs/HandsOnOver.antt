@@ -1,17 +1,34 @@
 -- What a run leaves of its journal and its disk, whatever it came to.
-use Rattle.std.proofs.Common.{inl, inr, ℕ, Bool, List, [], IsTrue, refl, sym, subst, arith}
+use Rattle.std.proofs.Common.{◌≡◌, inl, inr, ℕ, Bool, List, [], ◌++◌, IsTrue, refl, sym, subst, append_assoc, arith}
 use Rattle.std.specs.List.{list_any}
 use Rattle.batch_repr.specs.declared.batch.Batch.{Batch}
 use Rattle.disk_face.specs.View.{DiskView, files}
 use Rattle.failover_writer.specs.State.{JournalView}
 use Rattle.failover_writer.specs.Running.{OthersSame}
 use Rattle.session_script.specs.declared.script.Round.{Round}
-use Rattle.commit_pipeline.specs.Holding.{Opening, KeepsJournal, Pipe, HoldsBase}
+use Rattle.commit_pipeline.specs.Holding.{Opening, KeepsJournal, Pipe, PipeStage, PipelineHolds, HoldsBase}
 use Rattle.commit_pipeline.specs.Ending.{HandsOnJournal}
-use Rattle.script_runner.specs.Rounds.{HoldsWhereAllowed}
+use Rattle.script_runner.specs.declared.work.Work.{Work}
+use Rattle.script_runner.specs.declared.work.Work.TheVariants as works
+use Rattle.script_runner.specs.Acts.{HoldsMore}
+use Rattle.script_runner.specs.Rounds.{NameSessions, HoldsAllowed, HoldsWhereAllowed}
+use Rattle.script_runner.specs.Works.{work_rounds, work_sessions, NamesItsOwn}
 use Rattle.script_runner.specs.Runs.{StallNone, PollsNeverRise, has_stalls, run_opening, GoesOnKept, HandsOnOver}
 use Rattle.script_runner.proofs.AllowsStalls.{allowed, none_stalls}
 use Rattle.script_runner.proofs.HasRun.{IsStarted, run_others}
+
+-- what holds more of an opening that allows the stalls, and then goes on
+pub allowed_further : (tells : Bool) (rounds : List Round) (old mid new : PipeStage) → HoldsAllowed tells rounds old mid → HoldsMore tells mid new
+    → HoldsAllowed tells rounds old new
+allowed_further tells rounds old mid new on more opening batches may held =
+    let one = on opening batches may held in
+    let two = more opening (batches ++ one.0) one.1 in
+    (one.0 ++ two.0, subst (λ (bs : List Batch). PipelineHolds tells opening bs new) (append_assoc batches one.0 two.0) two.1)
+
+-- the lines of some work are of the sessions that are made for it
+pub named_own : (work : Work) (count : ℕ) → NamesItsOwn work → count ≡ work_sessions work → NameSessions count (work_rounds work)
+named_own (works.Script script) count own is = subst (λ (n : ℕ). NameSessions n script.rounds) (sym is) own.within
+named_own (works.Load load) count own is = subst (λ (n : ℕ). NameSessions n load) (sym is) own
 
 module _ {Disk : Type 0} (tells : Bool) (view : Disk → DiskView) (base : List Batch) (rounds : List Round) (old : JournalView Disk) where
   -- a pipeline of the opening was run, and gave its journal up

@@ -4,6 +4,8 @@ mod AreTurnsOf
 mod TurnsSoFar
 mod StallsPolls
 mod RoundsSoFar
+mod LoadSoFar
+mod CountsKeys
 mod DeathLasts
 mod RunsRounds
 mod AllowsStalls

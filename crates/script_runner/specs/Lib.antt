@@ -2,5 +2,6 @@ pub mod Acts
 pub mod Transcripts
 pub mod Turns
 pub mod Rounds
+pub mod Works
 pub mod Runs
 pub mod Theorems

@@ -1,4 +1,4 @@
--- What a whole run of a script over a disk comes to (docs/FORMATS.md, "The run of a script").
+-- What a whole run over a disk comes to (docs/FORMATS.md, "The run of a script", "The generated load").
 use Rattle.std.specs.Prelude.{◌≡◌, ◌≢◌, ◌⊎◌, ◌++◌, ℕ, ◌<◌, ◌≤◌, Bool, true, false, List, [], ◌∷◌, length, Contains, None, IsTrue, is_some}
 use Rattle.std.specs.List.{AllByRecursion, list_any}
 use Rattle.batch_repr.specs.declared.batch.Batch.{Batch}
@@ -17,15 +17,17 @@ use Rattle.failover_writer.specs.Running.{PollsLeft, EndsOf, OthersSame, ReadsAs
 use Rattle.session_script.specs.declared.replies.RunEnd.{RunEnd}
 use Rattle.session_script.specs.declared.script.Round.{Round}
 use Rattle.session_script.specs.declared.script.StallLine.{StallLine}
-use Rattle.session_script.specs.declared.script.Script.{Script}
-use Rattle.session_script.specs.Replies.{end_line}
+use Rattle.session_script.specs.Load.{live_keys}
 use Rattle.session_script.specs.Legal.{Replied, replies_text, AreLegal}
 use Rattle.session_script.specs.Lasting.{DeathLasts}
 use Rattle.session_script.specs.Theorems.{limit_told, IsLimitedExactly}
 use Rattle.commit_pipeline.specs.Holding.{Opening, first_of, opening_on, KeepsJournal}
-use Rattle.script_runner.specs.declared.run.Replayed.{Replayed}
-use Rattle.script_runner.specs.declared.transcript.Transcript.{Transcript}
+use Rattle.script_runner.specs.declared.performing.Told.{Told}
+use Rattle.script_runner.specs.declared.run.Outcome.{Outcome}
+use Rattle.script_runner.specs.declared.work.Work.{Work}
+use Rattle.script_runner.specs.declared.work.Work.TheVariants as works
 use Rattle.script_runner.specs.Rounds.{SyncedAreAcked}
+use Rattle.script_runner.specs.Works.{work_rounds, halts}
 
 -- ---- the end of a run
 
@@ -77,25 +79,35 @@ pub record HasRun (threshold : ℕ) (tells : Bool) (start : DiskView) (wal first
 
 -- ---- what is said
 
--- What is said of a run: the replies, which are legal for these batches, and the last line. Each batch that is answered synced is
--- acked, a journal that died stays dead, and a limit is told exactly where too much is asked for.
-pub record SaysRun (from : ℕ) (base : List Batch) (script : Script) (batches : List Batch) (replayed : Replayed) : Type 0 where
-  pub replies : List (List Replied)
-  pub legal : AreLegal from base replayed.end.died script.rounds batches replies
-  pub synced : AllByRecursion (SyncedAreAcked batches replayed.end.acked) replies
+-- The replies to the rounds of a run: they are legal for these batches, each batch that is answered synced is acked, a journal that
+-- died stays dead, and a limit is told exactly where too much is asked for.
+pub record AnswersRun (from : ℕ) (base : List Batch) (rounds : List Round) (batches : List Batch) (replies : List (List Replied))
+    (outcome : Outcome) : Type 0 where
+  pub legal : AreLegal from base outcome.end.died rounds batches replies
+  pub synced : AllByRecursion (SyncedAreAcked batches outcome.end.acked) replies
   pub lasting : DeathLasts replies
-  pub exact : IsLimitedExactly from base replayed.end.died script.rounds batches replies
-  pub text : replayed.text ≡ replies_text replies ++ end_line replayed.end
-  pub visible : replayed.end.visible ≡ end_after from (base ++ batches)
-  pub count : replayed.end.batches ≡ length batches
-  pub halted : replayed.end.halted ≡ script.halted
-  pub limited : replayed.limited ≡ limit_told replies
+  pub exact : IsLimitedExactly from base outcome.end.died rounds batches replies
+  pub limited : outcome.told.limited ≡ limit_told replies
+  pub visible : outcome.end.visible ≡ end_after from (base ++ batches)
+  pub count : outcome.end.batches ≡ length batches
 
--- A script was run over a base and a disk: what it says, and what its journal came to.
-pub record RunsScript (base : List Batch) (script : Script) (wal threshold : ℕ) (tells : Bool) (old new : DiskView) (replayed : Replayed) : Type 0 where
+-- What some work tells: a script the text of its replies, and a load how many of its keys have a value after all batches.
+abbrev pub TellsWork : Work → List Batch → List (List Replied) → Told → Type 0
+TellsWork (works.Script script) store replies told = told.text ≡ replies_text replies
+TellsWork (works.Load load) store replies told = told.live ≡ live_keys store
+
+-- What is said of some work that was run.
+pub record SaysRun (from : ℕ) (base : List Batch) (work : Work) (batches : List Batch) (outcome : Outcome) : Type 0 where
+  pub replies : List (List Replied)
+  pub answers : AnswersRun from base (work_rounds work) batches replies outcome
+  pub tells : TellsWork work (base ++ batches) replies outcome.told
+  pub halted : outcome.end.halted ≡ halts work
+
+-- Some work was run over a base and a disk: what is said of it, and what its journal came to.
+pub record RunsWork (base : List Batch) (work : Work) (wal threshold : ℕ) (tells : Bool) (old new : DiskView) (outcome : Outcome) : Type 0 where
   pub batches : List Batch
-  pub says : SaysRun NUMBER_FIRST base script batches replayed
-  pub ended : HasRun threshold tells old wal (end_after NUMBER_FIRST base) script.rounds batches replayed.end new
+  pub says : SaysRun NUMBER_FIRST base work batches outcome
+  pub ended : HasRun threshold tells old wal (end_after NUMBER_FIRST base) (work_rounds work) batches outcome.end new
 
 -- ---- inside
 
@@ -143,22 +155,15 @@ pub record EndsJournal {Disk : Type 0} (view : Disk → DiskView) (halted : Bool
   pub dies : RemainsDead old.state new.state
   pub tells : TellsJournal new.state (view new.disk) end
 
--- The run has ended so, and its last line is added to what was said.
-pub record EndsRun {Disk : Type 0} (view : Disk → DiskView) (halted : Bool) (visible batches : ℕ) (transcript : Transcript) (old new : JournalView Disk)
-    (replayed : Replayed) : Type 0 where
-  pub ends : EndsJournal view halted visible batches old new replayed.end
-  pub text : replayed.text ≡ transcript.text ++ end_line replayed.end
-  pub limited : replayed.limited ≡ transcript.limited
-
 -- The journal that is handed on is as it was, or keeps the opening of the run, with some batches.
 abbrev pub HandsOnOver : {Disk : Type 0} → Bool → (Disk → DiskView) → List Batch → List Round → JournalView Disk → JournalView Disk → Type 0
 HandsOnOver tells view base rounds old new = (new ≡ old)
     ⊎ ((batches : List Batch) × KeepsJournal tells (run_opening view base rounds old) batches new.state (view new.disk))
 
--- A script was run over a base and a journal: what it says, and what its journal came to.
-pub record RunsOver {Disk : Type 0} (tells : Bool) (view : Disk → DiskView) (base : List Batch) (script : Script) (old new : JournalView Disk)
-    (replayed : Replayed) : Type 0 where
+-- Some work was run over a base and a journal: what is said of it, and what its journal came to.
+pub record RunsOver {Disk : Type 0} (tells : Bool) (view : Disk → DiskView) (base : List Batch) (work : Work) (old new : JournalView Disk)
+    (outcome : Outcome) : Type 0 where
   pub batches : List Batch
-  pub keeps : KeepsJournal tells (run_opening view base script.rounds old) batches new.state (view new.disk)
-  pub says : SaysRun (first_of (run_opening view base script.rounds old)) base script batches replayed
-  pub tells_end : TellsJournal new.state (view new.disk) replayed.end
+  pub keeps : KeepsJournal tells (run_opening view base (work_rounds work) old) batches new.state (view new.disk)
+  pub says : SaysRun (first_of (run_opening view base (work_rounds work) old)) base work batches outcome
+  pub tells_end : TellsJournal new.state (view new.disk) outcome.end

@@ -1,4 +1,4 @@
-//! The whole run of a script over a disk.
+//! The whole run of a script or of a load over a disk.
 
 ghost use Rattle.std.specs.Prelude.{◌≡◌, ◌≤◌, IfOk, OnOk, IsTrue};
 ghost use Rattle.batch_repr.specs.declared.limits.TheConstants.{NUMBER_FIRST, NUMBER_MAX};
@@ -9,39 +9,35 @@ ghost use Rattle.stall_monitor.specs.declared.verdict.TheConstants.{THRESHOLD_MA
 ghost use Rattle.failover_writer.specs.State.{len};
 ghost use Rattle.failover_writer.specs.Ranges.{AreUnsent};
 ghost use Rattle.failover_writer.specs.Running.{OthersSame};
-ghost use Rattle.session_script.specs.Script.{NamesItsSessions};
 ghost use Rattle.commit_pipeline.specs.Holding.{EndsBefore, WentOn};
-ghost use Rattle.script_runner.specs.Transcripts.{IsEmptyTranscript};
-ghost use Rattle.script_runner.specs.Runs.{StallNone, PollsNeverRise, GoesOnKept, RemainsDead, IsShutUnless, EndsJournal, EndsRun, HandsOnOver, RunsOver, RunsScript};
+ghost use Rattle.script_runner.specs.Works.{work_rounds, NamesItsOwn};
+ghost use Rattle.script_runner.specs.Runs.{StallNone, PollsNeverRise, GoesOnKept, RemainsDead};
+ghost use Rattle.script_runner.specs.Runs.{IsShutUnless, EndsJournal, HandsOnOver, RunsOver, RunsWork};
 
-use crate::rounds::run_rounds;
-use crate::transcript::Transcript;
+use crate::performing::{Told, perform};
+use crate::work::Work;
 use batch_repr::Batches;
 use commit_pipeline::{Finished, Gate, Pipeline, Sessions};
 use disk_face::{Disk, ScriptDisk, StallDisk};
 use failover_writer::{Journal, JournalFault};
-use session_script::{RunEnd, Script, put_run_end};
+use session_script::RunEnd;
 use std::alloc::Global;
-use wal_base::{Buf, NoMemory};
+use wal_base::NoMemory;
 
-/// What a run of a script came to: the text of its replies and of its last line, how it ended, and whether a commit was
-/// answered with a limit.
+/// What a run came to.
 #[derive(Debug, Drop)]
-pub struct Replayed {
-    /// The lines of the replies, and the last line.
-    pub text: Buf,
-    /// How the run ended.
+pub struct Outcome {
+    /// What was said between its opening and its end.
+    pub told: Told,
+    /// How it ended.
     pub end: RunEnd,
-    /// Whether a commit was answered with a limit.
-    pub limited: bool,
 }
 
-/// What a run of a script came to, and the disk as it stands then. `Err` means that memory ran out, and that nothing is
-/// said.
+/// What a run came to, and the disk as it stands then. `Err` means that memory ran out, and that nothing is said.
 #[derive(Debug, Drop)]
 pub struct Run<D> {
     /// What it came to.
-    pub replayed: Result<Replayed, NoMemory>,
+    pub outcome: Result<Outcome, NoMemory>,
     /// The disk as it stands.
     pub disk: D,
 }
@@ -49,7 +45,7 @@ pub struct Run<D> {
 /// The same, with the journal in the place of its disk.
 #[derive(Drop)]
 struct Course<D: Disk> {
-    replayed: Result<Replayed, NoMemory>,
+    outcome: Result<Outcome, NoMemory>,
     journal: Journal<D>,
 }
 
@@ -93,57 +89,33 @@ fn end_journal<D: Disk>(
     })
 }
 
-/// Ends the run, and adds its last line to what it has said.
-fn end_run<D: Disk>(
-    journal: &mut Journal<D>,
-    halted: bool,
-    visible: u64,
-    batches: u64,
-    transcript: Transcript,
-) -> Result<Replayed, NoMemory>
-    ensures keeps { GoesOnKept D.tells D.view journal.old journal.new }
-    ensures left { IsTrue halted → journal.new ≡ journal.old }
-    ensures ends { IfOk result (EndsRun D.view halted visible batches transcript journal.old journal.new) }
-{
-    let end = end_journal(journal, halted, visible, batches)?;
-    let Transcript { mut text, limited } = transcript;
-    put_run_end(&mut text, &end)?;
-    Ok(Replayed { text, end, limited })
-}
-
-/// Runs a script over a journal that has no record yet, and says it in an empty transcript.
+/// Does some work over a journal that has no record yet.
 fn run_over<D: StallDisk, G: Gate>(
     alloc: Global,
     journal: Journal<D>,
     base: Batches,
-    script: Script,
-    mut transcript: Transcript,
+    work: Work,
     gate: &G,
 ) -> Course<D>
     requires empty { len journal.state ≡ 0 }
     requires within { journal.state.next ≤ NUMBER_MAX }
     requires base { EndsBefore base journal.state.next }
-    requires sessions { NamesItsSessions script }
-    requires unsaid { IsEmptyTranscript transcript }
-    ensures keeps { HandsOnOver D.tells D.view base script.rounds journal result.journal }
-    ensures ran { IfOk result.replayed (RunsOver D.tells D.view base script journal result.journal) }
+    requires sessions { NamesItsOwn work }
+    ensures keeps { HandsOnOver D.tells D.view base (work_rounds work) journal result.journal }
+    ensures ran { IfOk result.outcome (RunsOver D.tells D.view base work journal result.journal) }
 {
-    let Script {
-        rounds,
-        halted,
-        sessions,
-    } = script;
+    let halted = work.halts();
     let (mut pipeline, sessions) = match Pipeline::new(
         alloc,
         journal,
         &base,
-        sessions as usize,
+        work.sessions() as usize,
         gate,
     ) {
         Ok(made) => made,
         Err(journal) => {
             return Course {
-                replayed: Err(NoMemory),
+                outcome: Err(NoMemory),
                 journal,
             };
         }
@@ -151,9 +123,9 @@ fn run_over<D: StallDisk, G: Gate>(
     // The shards have their entries.
     drop(base);
     let mut sessions = sessions.into_vec();
-    let Ok(()) = run_rounds(alloc, &mut pipeline, &mut sessions, rounds, &mut transcript) else {
+    let Ok(told) = perform(alloc, &mut pipeline, &mut sessions, work) else {
         return Course {
-            replayed: Err(NoMemory),
+            outcome: Err(NoMemory),
             journal: pipeline.into_journal(),
         };
     };
@@ -163,20 +135,28 @@ fn run_over<D: StallDisk, G: Gate>(
         visible,
         batches,
     } = pipeline.finish(Sessions::new(alloc));
-    let replayed = end_run(&mut journal, halted, visible, batches, transcript);
-    Course { replayed, journal }
+    match end_journal(&mut journal, halted, visible, batches) {
+        Ok(end) => Course {
+            outcome: Ok(Outcome { told, end }),
+            journal,
+        },
+        Err(NoMemory) => Course {
+            outcome: Err(NoMemory),
+            journal,
+        },
+    }
 }
 
-/// Runs a script over a disk and the batches before it, of which `next` is the number after them: its commits go to the
-/// journal of this WAL, whose segments hang from `threshold` pending polls on. The journal is closed at the end, unless the
-/// script halts.
-pub fn run_script<D: Disk, G: Gate>(
+/// Does some work over a disk and the batches before it, of which `next` is the number after them: its commits go to the
+/// journal of this WAL, whose segments hang from `threshold` pending polls on. The journal is closed at the end, unless it
+/// is a script that halts.
+pub fn run_work<D: Disk, G: Gate>(
     alloc: Global,
     base: Batches,
     next: u64,
     wal: u64,
     threshold: u32,
-    script: Script,
+    work: Work,
     disk: D,
     gate: &G,
 ) -> Run<D>
@@ -187,32 +167,27 @@ pub fn run_script<D: Disk, G: Gate>(
     requires threshold { (1 ≤ threshold) × (threshold ≤ THRESHOLD_MAX) }
     requires idle { NothingInFlight (D.view disk) }
     requires absent { IsTrue D.tells → AreUnsent wal 0 (D.view disk) }
-    requires sessions { NamesItsSessions script }
+    requires sessions { NamesItsOwn work }
     ensures went_on { WentOn (D.view disk) (D.view result.disk) }
-    ensures polls { StallNone script.rounds → PollsNeverRise (D.view disk) (D.view result.disk) }
+    ensures polls { StallNone (work_rounds work) → PollsNeverRise (D.view disk) (D.view result.disk) }
     ensures others { IsTrue D.tells → OthersSame wal (files (D.view disk)) (files (D.view result.disk)) }
-    ensures ran { IfOk result.replayed (RunsScript base script wal threshold D.tells (D.view disk) (D.view result.disk)) }
+    ensures ran { IfOk result.outcome
+        (RunsWork base work wal threshold D.tells (D.view disk) (D.view result.disk)) }
 {
-    let Ok(transcript) = Transcript::new(alloc) else {
-        return Run {
-            replayed: Err(NoMemory),
-            disk,
-        };
-    };
     let stalled = ScriptDisk::new(disk);
     let journal = match Journal::start(alloc, stalled, wal, next, threshold) {
         Ok(journal) => journal,
         Err(back) => {
             return Run {
-                replayed: Err(NoMemory),
+                outcome: Err(NoMemory),
                 disk: back.into_inner(),
             };
         }
     };
-    let Course { replayed, journal } = run_over(alloc, journal, base, script, transcript, gate);
+    let Course { outcome, journal } = run_over(alloc, journal, base, work, gate);
     let stalled = journal.into_disk();
     Run {
-        replayed,
+        outcome,
         disk: stalled.into_inner(),
     }
 }

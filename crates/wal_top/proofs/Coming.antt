@@ -1,5 +1,4 @@
 -- What a run does after a recovery, told of the disk as it was before.
-use Rattle.wal_top.specs.declared.replaying.TheConstants.{THRESHOLD}
 use Rattle.std.proofs.Common.{◌≡◌, ◌⊎◌, inl, inr, ℕ, suc, ◌≤◌, Bool, true, false, List, [], length, Option, Some, None, IsTrue, refl, sym, ap, ◌∙◌, arith, subst}
 use Rattle.batch_repr.specs.declared.batch.Batch.{Batch}
 use Rattle.disk_face.specs.declared.Side.{Side}
@@ -17,11 +16,12 @@ use Rattle.wal_recovery.specs.Recovering.{Recovers}
 use Rattle.wal_recovery.specs.Resting.{AreSegmentsStable, IsAsOrSynced, OnlySynced}
 use Rattle.disk_face.specs.declared.names.TheConstants.{WAL_MAX}
 use Rattle.failover_writer.specs.Running.{OthersOnlySynced, PollsLeft, LogsBatches, OthersSame}
-use Rattle.session_script.specs.declared.script.Script.{Script}
 use Rattle.commit_pipeline.specs.Holding.{WentOn}
 use Rattle.commit_pipeline.proofs.Laws.{went_further}
-use Rattle.script_runner.specs.declared.run.Replayed.{Replayed}
-use Rattle.script_runner.specs.Runs.{PollsNeverRise, StallsSome, EndsRunAs, RunsScript}
+use Rattle.script_runner.specs.declared.run.Outcome.{Outcome}
+use Rattle.script_runner.specs.declared.work.Work.{Work}
+use Rattle.script_runner.specs.Works.{work_rounds}
+use Rattle.script_runner.specs.Runs.{PollsNeverRise, StallsSome, EndsRunAs, RunsWork}
 use Rattle.wal_top.specs.Outcomes.{RunsOverDisk}
 
 -- ---- nothing was sent to a segment of the next WAL
@@ -72,17 +72,17 @@ module _ (old mid new : DiskView) (wal : ℕ) (tells : Bool) (only : IsTrue tell
   pub others_stay : (IsTrue tells → OthersSame wal (files mid) (files new)) → IsTrue tells → OthersOnlySynced wal (files old) (files new)
   others_stay same told p elsewhere = subst (IsAsOrSynced (files old p)) (sym (same told p elsewhere)) (only told p)
 
-  module _ (base' : List Batch) (script : Script) (ran : Replayed) (goes : GoesOn old mid)
-      (r : RunsScript base' script wal THRESHOLD tells mid new ran) where
+  module _ (threshold : ℕ) (base' : List Batch) (work : Work) (ran : Outcome) (goes : GoesOn old mid)
+      (r : RunsWork base' work wal threshold tells mid new ran) where
     rose_since : FaultsRose mid new → FaultsRose old new
     rose_since (side, rose) = (side, rose_later (old.faults side) (mid.faults side) (new.faults side) (goes.faults side) rose)
 
-    more_since : FaultsRose mid new ⊎ (PollsLeft mid ⊎ StallsSome script.rounds) → FaultsRose old new ⊎ (PollsLeft old ⊎ StallsSome script.rounds)
+    more_since : FaultsRose mid new ⊎ (PollsLeft mid ⊎ StallsSome (work_rounds work)) → FaultsRose old new ⊎ (PollsLeft old ⊎ StallsSome (work_rounds work))
     more_since (inl rose) = inl (rose_since rose)
     more_since (inr (inl (side, left))) = inr (inl (side, omega (arith, left, goes.polls side)))
     more_since (inr (inr stalls)) = inr (inr stalls)
 
-    ends_since : EndsRunAs script.rounds (length r.batches) ran.end old new
+    ends_since : EndsRunAs (work_rounds work) (length r.batches) ran.end old new
     ends_since =
         let e = r.ended.ends in
         record {
@@ -116,8 +116,8 @@ module _ (old mid new : DiskView) (wal : ℕ) (tells : Bool) (only : IsTrue tell
         stable = λ told rested side name f listed other is. stable told rested side name f listed (sym (r.ended.others told (segment side name) other) ∙ is);
       }
 
-      -- a script that is run over what was recovered is run over the disk as it was
-      pub runs_since : RunsOverDisk script tells old new ran
+      -- work that is done over what was recovered is done over the disk as it was
+      pub runs_since : RunsOverDisk work threshold tells old new ran
       runs_since = record {
         base = base';
         recovers = recovers;

@@ -5,18 +5,28 @@ use Rattle.std.specs.Fmt.{digits}
 use Rattle.wal_base.specs.declared.entry.Entry.TheVariants.{Set}
 use Rattle.disk_face.specs.declared.Side.TheVariants.{Primary}
 use Rattle.wal_recovery.specs.declared.reports.SegReport.{SegReport}
-use Rattle.script_runner.specs.declared.run.Replayed.{Replayed}
+use Rattle.script_runner.specs.declared.run.Outcome.{Outcome}
+use Rattle.command_line.specs.declared.command.Command.TheVariants.{Replay, Load}
 use Rattle.wal_top.specs.declared.status.Status.TheVariants.{Disk}
-use Rattle.wal_top.specs.Printing.{segments_text, bad_line_text}
+use Rattle.session_script.specs.Replies.{end_line}
+use Rattle.wal_top.specs.Printing.{segments_text, bad_line_text, run_text}
 use Rattle.wal_top.specs.Replay.{status_after}
 
 -- a commit found no number left, and the journal died after it
-abbrev limited_and_dead : Replayed
+abbrev limited_and_dead : Outcome
 limited_and_dead = record {
-  text = codes "s0 commit limit\nend visible 72057594037927935 batches 1 acked 0 segments 10 dead\n";
+  told = record { text = codes "s0 commit limit\n"; live = 0; limited = true };
   end = record { visible = 72057594037927935; batches = 1; acked = 0; segments = 10; died = true; halted = false };
-  limited = true;
 }
+
+-- a replay prints its replies, and a load only how it ended
+a_replay_is_told : run_text (Replay 3) limited_and_dead
+    ≡ codes "s0 commit limit\nend visible 72057594037927935 batches 1 acked 0 segments 10 dead\n"
+unfolding end_line digits
+a_replay_is_told = refl
+
+a_load_is_told : run_text (Load 7 1) limited_and_dead ≡ codes "load dead\n"
+a_load_is_told = refl
 
 -- the death is told, and not the limit
 a_death_comes_first : status_after limited_and_dead ≡ Disk

@@ -1,4 +1,4 @@
--- What a run has to say of directories that were not recovered, of a replay over those that were, and of what is shown of them.
+-- What a run has to say of directories that were not recovered, of work over those that were, and of what is shown of them.
 use Rattle.batch_repr.specs.declared.limits.TheConstants.{NUMBER_FIRST}
 use Rattle.std.proofs.Common.{◌≡◌, ℕ, Bool, true, false, List, ◌++◌, length, IsTrue, refl, sym, ap, ◌∙◌, subst}
 use Rattle.batch_repr.specs.declared.batch.Batch.{Batch}
@@ -16,17 +16,16 @@ use Rattle.wal_recovery.specs.declared.fault.RecoverFault.{RecoverFault}
 use Rattle.wal_recovery.specs.declared.fault.RecoverFault.TheVariants as faults
 use Rattle.wal_recovery.specs.Resting.{OnlySynced, AreSegmentsStable}
 use Rattle.wal_recovery.specs.Answers.{IsRefusedBy, IsRefusal, FaultRose, DiskMemoryOr}
-use Rattle.session_script.specs.declared.script.Script.{Script}
-use Rattle.script_runner.specs.declared.run.Replayed.{Replayed}
+use Rattle.command_line.specs.Commands.{AsksToRecover, AsksToDump}
+use Rattle.script_runner.specs.declared.run.Outcome.{Outcome}
 use Rattle.wal_top.specs.declared.status.Status.{Status}
 use Rattle.wal_top.specs.declared.status.Status.TheVariants.{Done, Refused}
 use Rattle.wal_top.specs.Call.{Invocation, Stays}
-use Rattle.wal_top.specs.Words.{IsReplay, IsRecover, IsDump, RecoversIn}
-use Rattle.wal_top.specs.Printing.{refusal_text, segments_text}
-use Rattle.wal_top.specs.Reading.{ReadsScript}
+use Rattle.wal_top.specs.Words.{RecoversIn}
+use Rattle.wal_top.specs.Printing.{refusal_text, segments_text, run_text}
 use Rattle.wal_top.specs.Faults.{SaysFault}
 use Rattle.wal_top.specs.Replay.{status_by, status_after}
-use Rattle.wal_top.specs.Outcomes.{ReachesDisk, RunsOverDisk, Replays, replayed, recovered, dumped, of_commits, in_recovery, dead, HasToSay}
+use Rattle.wal_top.specs.Outcomes.{ReachesDisk, RunsOverDisk, Commands, DoesWork, worked, recovered, dumped, of_commits, in_recovery, dead, HasToSay}
 
 -- it has to say so by this status
 as_status : (c : Invocation) (text : List ℕ) (status said : Status) → status ≡ said → HasToSay c said text → HasToSay c status text
@@ -73,24 +72,24 @@ module _ (c : Invocation) (mode : Mode) (words : RecoversIn c.words mode) (reach
       (refuses (faults.Conflict wal index first) text t tt is (same tt))
   says_unrecovered faults.NoMemory status text says rose is same = absurd says
 
--- a replay says that its journal died, that a reply told a limit, or that it is done
-pub says_replayed : (c : Invocation) (script : Script) (ran : Replayed) (status : Status) (text : List ℕ)
-    → IsReplay c.words → ReadsScript c.left.before script c.left.after
-    → RunsOverDisk script c.tells c.disk.before c.disk.after ran → status ≡ status_after ran → text ≡ ran.text → HasToSay c status text
-says_replayed c script ran status text is reads run_done status_is text_as_run =
-    as_status c text status (status_after ran) status_is (by ran.end.died refl ran.limited refl)
+-- work says that its journal died, that a reply told a limit, or that it is done
+pub says_worked : (c : Invocation) (asks : Commands c) (outcome : Outcome) (status : Status) (text : List ℕ)
+    → RunsOverDisk asks.work asks.threshold c.tells c.disk.before c.disk.after outcome
+    → status ≡ status_after outcome → text ≡ run_text asks.command outcome → HasToSay c status text
+says_worked c asks outcome status text done status_is text_is =
+    as_status c text status (status_after outcome) status_is (by outcome.end.died refl outcome.told.limited refl)
   where
-    all : Replays c script ran text
-    all = record { words = is; accepts = reads; done = run_done; text_is = text_as_run }
+    all : DoesWork c outcome text
+    all = record { asks = asks; done = done; text_is = text_is }
 
-    by : (died : Bool) → ran.end.died ≡ died → (limited : Bool) → ran.limited ≡ limited → HasToSay c (status_by died limited) text
-    by true e limited l = dead script ran all e
-    by false e true l = of_commits script ran all e l
-    by false e false l = replayed script ran all e l
+    by : (died : Bool) → outcome.end.died ≡ died → (limited : Bool) → outcome.told.limited ≡ limited → HasToSay c (status_by died limited) text
+    by true e limited l = dead outcome all e
+    by false e true l = of_commits outcome all e l
+    by false e false l = worked outcome all e l
 
 -- the store and the segments, as recovery answers them and as they are printed
 module _ (c : Invocation) (batches' : List Batch) (next : ℕ) (text : List ℕ) (ends : next ≡ end_after NUMBER_FIRST batches') (unread' : Stays c.left) where
-  pub says_store : (shown : List Batch) → shown ≡ batches' → IsRecover c.words
+  pub says_store : (shown : List Batch) → shown ≡ batches' → AsksToRecover c.words
       → (IsTrue c.tells → Recovers (directories c.disk.before) batches')
       → (IsTrue c.tells → OnlySynced (files c.disk.before) (files c.disk.after))
       → (IsTrue c.tells → IsRested (files c.disk.before) → AreSegmentsStable (files c.disk.after)) → (lines : List ℕ)
@@ -107,7 +106,7 @@ module _ (c : Invocation) (batches' : List Batch) (next : ℕ) (text : List ℕ)
     stable = rested;
   })
 
-  pub says_segments : (reports : List SegReport) (count : ℕ) (lines : List ℕ) → count ≡ length batches' → IsDump c.words
+  pub says_segments : (reports : List SegReport) (count : ℕ) (lines : List ℕ) → count ≡ length batches' → AsksToDump c.words
       → (IsTrue c.tells → RecoversLenient (directories c.disk.before) batches')
       → (IsTrue c.tells → AreReports (directories c.disk.before) reports)
       → SameDisk c.disk.before c.disk.after → lines ≡ segments_text reports → text ≡ lines ++ recovered_end count next → HasToSay c Done text

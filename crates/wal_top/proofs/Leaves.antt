@@ -10,15 +10,15 @@ use Rattle.commit_pipeline.specs.Holding.{WentOn}
 use Rattle.script_runner.specs.Runs.{PollsNeverRise}
 use Rattle.wal_top.specs.declared.reading.TheConstants.{SCRIPT_MAX}
 use Rattle.wal_top.specs.Call.{Invocation, Stays}
-use Rattle.wal_top.specs.Words.{IsReplay, StartsOperations}
+use Rattle.wal_top.specs.Words.{IsReplay, HasJournal, StartsOperations}
 use Rattle.wal_top.specs.Reading.{TookAtMost, ReadsWhole}
 use Rattle.wal_top.specs.Parts.{StallsNoneOf}
 use Rattle.failover_writer.specs.Running.{OthersOnlySynced}
 use Rattle.wal_top.specs.Run.{WritesNoJournal, StallsNoPoll, Leaves}
 use Rattle.wal_top.proofs.AddsPiece.{took_none}
 
--- by a replay
-pub leaves_journal : (c : Invocation) → IsReplay c.words → TookAtMost (SCRIPT_MAX + 1) c.left.before c.left.after
+-- by a command that writes a journal
+pub leaves_journal : (c : Invocation) → HasJournal c.words → TookAtMost (SCRIPT_MAX + 1) c.left.before c.left.after
     → WentOn c.disk.before c.disk.after → (StallsNoPoll c → PollsNeverRise c.disk.before c.disk.after)
     → (IsTrue c.tells → (wal : ℕ) → IsNextWal (directories c.disk.before) wal → OthersOnlySynced wal (files c.disk.before) (files c.disk.after)) → Leaves c
 leaves_journal c words took' went polls' others' = record {
@@ -40,7 +40,7 @@ stalls_none c read words whole' few none script is_script =
 pub leaves_unrun : (c : Invocation) → IsReplay c.words → TookAtMost (SCRIPT_MAX + 1) c.left.before c.left.after → Stays c.disk → Leaves c
 leaves_unrun c words took stays =
     let goes : GoesOn c.disk.before c.disk.after = subst (λ (v : DiskView). GoesOn c.disk.before v) (sym stays) (goes_on_from c.disk.before) in
-    leaves_journal c words took (record { faults = goes.faults; clock = goes.clock; history = goes.history }) (λ none. goes.polls)
+    leaves_journal c (inl words) took (record { faults = goes.faults; clock = goes.clock; history = goes.history }) (λ none. goes.polls)
     (λ told wal next p elsewhere. inl (ap (λ (v : DiskView). files v p) stays))
 
 -- by another command, with the source as it was

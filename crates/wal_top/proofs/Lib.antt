@@ -1,6 +1,7 @@
 mod Examples
 mod Limits
 mod Saying
+mod Asking
 mod Coming
 mod HasToSay
 mod Says
@@ -9,5 +10,4 @@ mod TellsScript
 mod Leaves
 mod Letting
 mod AddsPiece
-mod OneWord
 mod WrittenSoFar

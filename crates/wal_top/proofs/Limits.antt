@@ -1,10 +1,6 @@
--- The limits of a run, as the checker computes them.
+-- The limit of a script, as the checker computes it.
 use Rattle.std.proofs.Common.{◌≡◌, refl}
 use Rattle.wal_top.specs.declared.reading.TheConstants.{SCRIPT_MAX}
-use Rattle.wal_top.specs.declared.replaying.TheConstants.{THRESHOLD}
-
-threshold : THRESHOLD ≡ 3
-threshold = refl
 
 script_max : SCRIPT_MAX ≡ 8388608
 script_max = refl

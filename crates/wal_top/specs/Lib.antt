@@ -1,5 +1,4 @@
 pub mod Words
-pub mod Commands
 pub mod Statuses
 pub mod Printing
 pub mod Replay

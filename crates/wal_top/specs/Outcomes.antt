@@ -1,5 +1,4 @@
 -- What a run has to say, by its status (docs/FORMATS.md, "Statuses").
-use Rattle.wal_top.specs.declared.replaying.TheConstants.{THRESHOLD}
 use Rattle.batch_repr.specs.declared.limits.TheConstants.{NUMBER_FIRST}
 use Rattle.std.specs.Prelude.{◌≡◌, ℕ, ◌<◌, Bool, false, IsTrue, List, ◌++◌, length, Option}
 use Rattle.wal_base.specs.Faults.{Rose}
@@ -22,13 +21,21 @@ use Rattle.wal_recovery.specs.Answers.{IsRefusedBy, IsRefusal}
 use Rattle.wal_top.specs.declared.status.Status.{Status}
 use Rattle.wal_top.specs.declared.status.Status.TheVariants.{Done, Usage, Read, Write, Disk, Refused, NoMemory, Limit}
 use Rattle.wal_top.specs.declared.status.Status.TheVariants as statuses
+use Rattle.command_line.specs.declared.command.TheConstants.{THRESHOLD_DEFAULT}
+use Rattle.command_line.specs.declared.command.Command.{Command}
+use Rattle.command_line.specs.declared.command.Command.TheVariants as commands
+use Rattle.command_line.specs.Commands.{AsksToRecover, AsksToDump, IsCommandOf}
 use Rattle.session_script.specs.declared.script.Script.{Script}
-use Rattle.script_runner.specs.declared.run.Replayed.{Replayed}
+use Rattle.session_script.specs.Load.{load_rounds}
+use Rattle.script_runner.specs.declared.run.Outcome.{Outcome}
+use Rattle.script_runner.specs.declared.work.Work.{Work}
+use Rattle.script_runner.specs.declared.work.Work.TheVariants as works
+use Rattle.script_runner.specs.Works.{work_rounds}
 use Rattle.script_runner.specs.Runs.{EndsRunAs, journal_end, SaysRun}
 use Rattle.disk_face.specs.declared.names.TheConstants.{WAL_MAX}
 use Rattle.wal_top.specs.Call.{Change, Invocation, Stays, Rises}
-use Rattle.wal_top.specs.Words.{IsCommand, IsReplay, IsRecover, IsDump, RecoversIn, ReadsSource}
-use Rattle.wal_top.specs.Printing.{usage_text, read_fault_text, too_long_text, bad_line_text, disk_fault_text, refusal_text, limit_wal_text, segments_text}
+use Rattle.wal_top.specs.Words.{IsCommand, RecoversIn, ReadsSource}
+use Rattle.wal_top.specs.Printing.{usage_text, read_fault_text, too_long_text, bad_line_text, disk_fault_text, refusal_text, limit_wal_text, segments_text, run_text}
 use Rattle.failover_writer.specs.Running.{EndsOf, LogsBatches}
 use Rattle.wal_top.specs.Reading.{ReadsScript, ReadsTooMuch, ReadsBadLine}
 
@@ -44,31 +51,43 @@ pub data ReachesDisk (c : Invocation) : Type 0 where
 
 -- ---- what a command does
 
--- The script was run over what the directories recover to: these are its batches, this is what is said of it and how its journal
--- ended, and the journal is left.
-pub record RunsOverDisk (script : Script) (tells : Bool) (old new : DiskView) (replayed : Replayed) : Type 0 where
+-- The work that a command does, and from how many pending polls on a segment of it hangs. A replay runs the accepted script of its
+-- source, with the threshold of its words. A load runs the generated one, with the default, and leaves the source alone.
+pub data GivesWork (left : Change (Option (List ℕ))) : Command → Work → ℕ → Type 0 where
+  replays : (script : Script) (threshold : ℕ) → ReadsScript left.before script left.after
+      → GivesWork left (commands.Replay threshold) (works.Script script) threshold
+  loads : (seed batches : ℕ) → Stays left → GivesWork left (commands.Load seed batches) (works.Load (load_rounds seed batches)) THRESHOLD_DEFAULT
+
+-- The work was done over what the directories recover to: these are its batches, this is what is said of it and how its journal ended,
+-- and the journal is left.
+pub record RunsOverDisk (work : Work) (threshold : ℕ) (tells : Bool) (old new : DiskView) (outcome : Outcome) : Type 0 where
   pub base : List Batch
   pub recovers : IsTrue tells → Recovers (directories old) base
   pub batches : List Batch
-  pub says : SaysRun NUMBER_FIRST base script batches replayed
-  pub ends : EndsRunAs script.rounds (length batches) replayed.end old new
+  pub says : SaysRun NUMBER_FIRST base work batches outcome
+  pub ends : EndsRunAs (work_rounds work) (length batches) outcome.end old new
   pub wal : ℕ
   pub next : IsTrue tells → IsNextWal (directories old) wal
-  pub of : EndsOf THRESHOLD tells wal (end_after NUMBER_FIRST base) batches (journal_end replayed.end) new
-  pub logs : LogsBatches tells base batches replayed.end.acked old new
+  pub of : EndsOf threshold tells wal (end_after NUMBER_FIRST base) batches (journal_end outcome.end) new
+  pub logs : LogsBatches tells base batches outcome.end.acked old new
 
--- The accepted script of the source was run so, and this is the text of it.
-pub record Replays (c : Invocation) (script : Script) (replayed : Replayed) (text : List ℕ) : Type 0 where
-  pub words : IsReplay c.words
-  pub accepts : ReadsScript c.left.before script c.left.after
-  pub done : RunsOverDisk script c.tells c.disk.before c.disk.after replayed
-  pub text_is : text ≡ replayed.text
+-- The words are a command that does some work.
+pub record Commands (c : Invocation) : Type 0 where
+  pub command : Command
+  pub words : IsCommandOf c.words command
+  pub work : Work
+  pub threshold : ℕ
+  pub works_on : GivesWork c.left command work threshold
 
--- The last WAL is taken: the script was accepted and the directories recover, but no WAL is next. No file was begun.
+-- Its work was done so, and this is the text of it.
+pub record DoesWork (c : Invocation) (outcome : Outcome) (text : List ℕ) : Type 0 where
+  pub asks : Commands c
+  pub done : RunsOverDisk asks.work asks.threshold c.tells c.disk.before c.disk.after outcome
+  pub text_is : text ≡ run_text asks.command outcome
+
+-- The last WAL is taken: there is work to do and the directories recover, but no WAL is next. No file was begun.
 pub record LacksWal (c : Invocation) (text : List ℕ) : Type 0 where
-  pub words : IsReplay c.words
-  pub script : Script
-  pub accepts : ReadsScript c.left.before script c.left.after
+  pub asks : Commands c
   pub base : List Batch
   pub recovers : IsTrue c.tells → Recovers (directories c.disk.before) base
   pub next : ℕ
@@ -80,7 +99,7 @@ pub record LacksWal (c : Invocation) (text : List ℕ) : Type 0 where
 
 -- The store that the directories recover to was shown.
 pub record ShowsStore (c : Invocation) (text : List ℕ) : Type 0 where
-  pub words : IsRecover c.words
+  pub words : AsksToRecover c.words
   pub unread : Stays c.left
   pub batches : List Batch
   pub recovers : IsTrue c.tells → Recovers (directories c.disk.before) batches
@@ -92,7 +111,7 @@ pub record ShowsStore (c : Invocation) (text : List ℕ) : Type 0 where
 
 -- The segments of the directories were shown, and what their batches are merged to.
 pub record ShowsSegments (c : Invocation) (text : List ℕ) : Type 0 where
-  pub words : IsDump c.words
+  pub words : AsksToDump c.words
   pub unread : Stays c.left
   pub batches : List Batch
   pub recovers : IsTrue c.tells → RecoversLenient (directories c.disk.before) batches
@@ -103,16 +122,16 @@ pub record ShowsSegments (c : Invocation) (text : List ℕ) : Type 0 where
 
 -- ---- what a status says
 
--- What was done, and its text: a script was run of which no commit met a dead journal or a limit, the store that was recovered, or
--- the segments that were read.
+-- What was done, and its text: work of which no commit met a dead journal or a limit, the store that was recovered, or the segments
+-- that were read.
 pub data IsDoneRun (c : Invocation) (text : List ℕ) : Type 0 where
-  replayed : (script : Script) (ran : Replayed) → Replays c script ran text → ran.end.died ≡ false → ran.limited ≡ false → IsDoneRun c text
+  worked : (outcome : Outcome) → DoesWork c outcome text → outcome.end.died ≡ false → outcome.told.limited ≡ false → IsDoneRun c text
   recovered : ShowsStore c text → IsDoneRun c text
   dumped : ShowsSegments c text → IsDoneRun c text
 
--- A limit was reached: it is told by a reply of the script that was run, or the last WAL is taken.
+-- A limit was reached: a commit was answered with it, or the last WAL is taken.
 pub data IsLimited (c : Invocation) (text : List ℕ) : Type 0 where
-  of_commits : (script : Script) (ran : Replayed) → Replays c script ran text → ran.end.died ≡ false → IsTrue ran.limited → IsLimited c text
+  of_commits : (outcome : Outcome) → DoesWork c outcome text → outcome.end.died ≡ false → IsTrue outcome.told.limited → IsLimited c text
   of_wals : LacksWal c text → IsLimited c text
 
 -- A side failed in recovery, and is named. No file was begun, and nothing is in flight.
@@ -126,10 +145,10 @@ pub record FailsRecovery (c : Invocation) (text : List ℕ) : Type 0 where
   pub only_synced : IsTrue c.tells → OnlySynced (files c.disk.before) (files c.disk.after)
   pub idle : NothingInFlight c.disk.after
 
--- The disk failed, and this is the text: in recovery, or so often that the journal of the script that was run died.
+-- The disk failed, and this is the text: in recovery, or so often that the journal died.
 pub data FailsDisk (c : Invocation) (text : List ℕ) : Type 0 where
   in_recovery : FailsRecovery c text → FailsDisk c text
-  dead : (script : Script) (ran : Replayed) → Replays c script ran text → IsTrue ran.end.died → FailsDisk c text
+  dead : (outcome : Outcome) → DoesWork c outcome text → IsTrue outcome.end.died → FailsDisk c text
 
 -- The directories are refused, with this text. Nothing was done to them.
 pub record RefusesDirectories (c : Invocation) (text : List ℕ) : Type 0 where

@@ -1,5 +1,5 @@
--- The texts that are said beside a store and the replies (docs/FORMATS.md, "Statuses", "The text of a dump", "Refused directories").
-use Rattle.std.specs.Prelude.{ℕ, List, [], ◌∷◌, ◌++◌, length, codes}
+-- The texts that are said (docs/FORMATS.md, "Statuses", "The text of a dump", "Refused directories", "The generated load").
+use Rattle.std.specs.Prelude.{ℕ, ◌-◌, Bool, true, false, List, [], ◌∷◌, ◌++◌, length, codes}
 use Rattle.std.specs.List.{flat_map}
 use Rattle.std.specs.Fmt.{decimal}
 use Rattle.disk_face.specs.declared.Side.{Side}
@@ -10,6 +10,12 @@ use Rattle.wal_recovery.specs.declared.reports.SegReport.{SegReport}
 use Rattle.wal_recovery.specs.declared.fault.RecoverFault.{RecoverFault}
 use Rattle.wal_recovery.specs.declared.fault.RecoverFault.TheVariants as faults
 use Rattle.wal_recovery.specs.Listing.{name_in}
+use Rattle.session_script.specs.declared.load_end.LoadEnd.{LoadEnd}
+use Rattle.session_script.specs.Replies.{end_line}
+use Rattle.session_script.specs.Load.{load_number, load_end_line}
+use Rattle.script_runner.specs.declared.run.Outcome.{Outcome}
+use Rattle.command_line.specs.declared.command.Command.{Command}
+use Rattle.command_line.specs.declared.command.Command.TheVariants as commands
 
 -- what is said of a segment and its batches
 abbrev pub report_lines : SegReport → List ℕ
@@ -54,3 +60,27 @@ limit_wal_text = codes "limit wal\n"
 -- the whole text where the line of this number is the first bad one
 unfoldable pub bad_line_text : ℕ → List ℕ
 bad_line_text number = codes "script line " ++ decimal number ++ 10 ∷ []
+
+-- ---- what is said of a run
+
+-- what is printed at the end of a load of this seed and so many batches
+abbrev pub load_end_of : ℕ → ℕ → Outcome → LoadEnd
+load_end_of seed batches outcome = record {
+  batches = outcome.end.batches;
+  visible = outcome.end.visible;
+  live = outcome.told.live;
+  acked = outcome.end.acked;
+  segments = outcome.end.segments;
+  last = load_number seed (batches - 1);
+}
+
+-- the whole text of a load: its journal died, or it reached a limit, or it has come to its end
+abbrev pub load_text : Bool → Bool → LoadEnd → List ℕ
+load_text true limited end = codes "load dead\n"
+load_text false true end = codes "load limit\n"
+load_text false false end = load_end_line end
+
+-- the whole text of a run, of a replay with its replies first
+abbrev pub run_text : Command → Outcome → List ℕ
+run_text (commands.Load seed batches) outcome = load_text outcome.end.died outcome.told.limited (load_end_of seed batches outcome)
+run_text command outcome = outcome.told.text ++ end_line outcome.end

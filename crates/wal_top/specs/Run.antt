@@ -19,12 +19,17 @@ use Rattle.wal_top.specs.declared.status.Status.{Status}
 use Rattle.wal_top.specs.declared.status.Status.TheVariants.{Done, Usage, Write, Refused, NoMemory, Limit}
 use Rattle.wal_top.specs.declared.status.Status.TheVariants as statuses
 use Rattle.wal_top.specs.Call.{Change, change_in, Invocation, Rises, Stays, HasCalmSource, HasCalmDisk}
-use Rattle.wal_top.specs.Words.{IsCommand, IsReplay, IsRecover, IsDump, RecoversIn, ReadsSource, HasJournal, StartsOperations}
+use Rattle.wal_top.specs.Words.{IsCommand, IsReplay, RecoversIn, ReadsSource, HasJournal, StartsOperations}
 use Rattle.wal_top.specs.Reading.{TookAtMost, ReadsScript, TellsScript, TellsNoScript}
+use Rattle.command_line.specs.Commands.{AsksToRecover, AsksToDump, AsksToLoad}
 use Rattle.session_script.specs.declared.script.Script.{Script}
+use Rattle.session_script.specs.Load.{load_rounds}
 use Rattle.session_script.specs.Script.{rounds_numbers, rounds_commits}
 use Rattle.session_script.specs.Theorems.{AsksTooMuch}
 use Rattle.commit_pipeline.specs.Holding.{WentOn}
+use Rattle.script_runner.specs.declared.work.Work.{Work}
+use Rattle.script_runner.specs.declared.work.Work.TheVariants as works
+use Rattle.script_runner.specs.Works.{work_rounds}
 use Rattle.script_runner.specs.Runs.{StallNone, PollsNeverRise}
 use Rattle.failover_writer.specs.Running.{OthersOnlySynced}
 use Rattle.wal_top.specs.Outcomes.{HasToSay}
@@ -85,20 +90,25 @@ YieldsTo status given = (given ≡ status) ⊎ ((given ≡ Write) ⊎ (given ≡
 abbrev pub IsDoneUnless : Change ℕ → Status → Type 0
 IsDoneUnless sink_faults given = (Rises sink_faults → ⊥) → (given ≡ Done) ⊎ (given ≡ NoMemory)
 
--- A replay may begin: its source tells an accepted script, and its disk files that recover to this base, with this WAL next.
+-- The work that words ask for: of a replay the accepted script that its source tells, of a load the generated one.
+pub data OffersWork (c : Invocation) : Work → Type 0 where
+  accepted : IsReplay c.words → (script : TellsScript c.left.before) → OffersWork c (works.Script script.script)
+  generated : (seed batches : ℕ) → AsksToLoad c.words seed batches → OffersWork c (works.Load (load_rounds seed batches))
+
+-- A run may begin: there is work, and the disk tells files that recover to this base, with this WAL next.
 pub record MayBegin (c : Invocation) : Type 0 where
-  pub words : IsReplay c.words
-  pub script : TellsScript c.left.before
+  pub work : Work
+  pub asks : OffersWork c work
   pub tells : IsTrue c.tells
   pub base : List Batch
   pub recovers : Recovers (directories c.disk.before) base
   pub next : ℕ
   pub next_is : IsNextWal (directories c.disk.before) next
 
--- The script asks for no more numbers than are left after the base, and for no more batches than a run may commit.
+-- The work asks for no more numbers than are left after the base, and for no more batches than a run may commit.
 pub record AsksEnough {c : Invocation} (begin : MayBegin c) : Type 0 where
-  pub numbers : end_after NUMBER_FIRST begin.base + rounds_numbers begin.script.script.rounds ≤ NUMBER_MAX
-  pub batches : rounds_commits begin.script.script.rounds ≤ BATCHES_MAX
+  pub numbers : end_after NUMBER_FIRST begin.base + rounds_numbers (work_rounds begin.work) ≤ NUMBER_MAX
+  pub batches : rounds_commits (work_rounds begin.work) ≤ BATCHES_MAX
 
 -- The exact causes: where one of these holds, its status comes.
 pub record ComesExactly (r : Run) (status : Status) : Type 0 where
@@ -107,13 +117,13 @@ pub record ComesExactly (r : Run) (status : Status) : Type 0 where
   pub refused : (mode : Mode) (fault : RecoverFault) → RecoversIn r.call.words mode
       → (ReadsSource r.call.words → TellsScript r.call.left.before) → IsTrue r.call.tells
       → IsRefusedBy mode (directories r.call.disk.before) fault → HasCalmSource r.call → HasCalmDisk r.call → YieldsTo Refused status
-  pub limited : (begin : MayBegin r.call) → (WAL_MAX < begin.next) ⊎ AsksTooMuch NUMBER_FIRST begin.base begin.script.script.rounds
+  pub limited : (begin : MayBegin r.call) → (WAL_MAX < begin.next) ⊎ AsksTooMuch NUMBER_FIRST begin.base (work_rounds begin.work)
       → HasCalmSource r.call → HasCalmDisk r.call → YieldsTo Limit status
-  pub replays : (begin : MayBegin r.call) → begin.next ≤ WAL_MAX → AsksEnough begin → HasCalmSource r.call → HasCalmDisk r.call
+  pub works : (begin : MayBegin r.call) → begin.next ≤ WAL_MAX → AsksEnough begin → HasCalmSource r.call → HasCalmDisk r.call
       → IsDoneUnless r.sink_faults status
-  pub shows_store : IsRecover r.call.words → IsTrue r.call.tells → (batches : List Batch)
+  pub shows_store : AsksToRecover r.call.words → IsTrue r.call.tells → (batches : List Batch)
       → Recovers (directories r.call.disk.before) batches → HasCalmDisk r.call → IsDoneUnless r.sink_faults status
-  pub shows_segments : IsDump r.call.words → IsTrue r.call.tells → (batches : List Batch)
+  pub shows_segments : AsksToDump r.call.words → IsTrue r.call.tells → (batches : List Batch)
       → RecoversLenient (directories r.call.disk.before) batches → HasCalmDisk r.call → IsDoneUnless r.sink_faults status
 
 -- ---- what is left, whatever the status
@@ -127,7 +137,7 @@ pub record WritesNoJournal (tells : Bool) (disk : Change DiskView) : Type 0 wher
 
 -- The words ask for no replay, or the script of the source stalls no poll.
 abbrev pub StallsNoPoll : Invocation → Type 0
-StallsNoPoll c = (script : Script) → HasJournal c.words → ReadsScript c.left.before script c.left.after → StallNone script.rounds
+StallsNoPoll c = (script : Script) → ReadsSource c.words → ReadsScript c.left.before script c.left.after → StallNone script.rounds
 
 -- What a run leaves: its source gave no more than one byte past the longest script, and no file but segments of the next WAL
 -- changes unless by a sync.

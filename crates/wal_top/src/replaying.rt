@@ -1,8 +1,9 @@
 //! A script, replayed over what the directories recover to.
 
 ghost use Rattle.disk_face.specs.Image.{directories};
-ghost use Rattle.std.specs.Prelude.{◌≡◌, ◌+◌, ◌≤◌, ℕ, length, Err, IfOk, IsOkAnd, IsTrue};
+ghost use Rattle.std.specs.Prelude.{◌≡◌, ◌+◌, ◌≤◌, ℕ, length, Err, IfOk, IsTrue};
 ghost use Rattle.disk_face.specs.View.{files, NothingInFlight};
+ghost use Rattle.stall_monitor.specs.declared.verdict.TheConstants.{THRESHOLD_MAX};
 ghost use Rattle.wal_recovery.specs.Listing.{IsNextWal};
 ghost use Rattle.wal_top.specs.declared.reading.TheConstants.{SCRIPT_MAX};
 ghost use Rattle.wal_top.specs.declared.status.Status.TheVariants as statuses;
@@ -12,94 +13,20 @@ ghost use Rattle.session_script.specs.declared.fault.ScriptFault.TheVariants as 
 ghost use Rattle.session_script.specs.Words.{lines_of};
 ghost use Rattle.session_script.specs.Script.{IsScript, IsFirstBad, NamesItsSessions, script_numbers};
 ghost use Rattle.commit_pipeline.specs.Holding.{WentOn};
-ghost use Rattle.script_runner.specs.Runs.{StallNone, PollsNeverRise};
+ghost use Rattle.script_runner.specs.Runs.{PollsNeverRise};
 ghost use Rattle.wal_top.specs.Call.{change_in};
-ghost use Rattle.wal_top.specs.Replay.{status_after, TellsRan};
-ghost use Rattle.wal_top.specs.Parts.{StallsNoneOf, SaysOfScript, SaysOfBytes};
+ghost use Rattle.wal_top.specs.Parts.{StallsNoneOf, SaysOfBytes};
 
-use crate::said::{Answered, Said, saying, unrecovered};
+use crate::said::{Answered, Said, saying};
 use crate::status::Status;
+use crate::working::work_said;
+use command_line::Command;
 use commit_pipeline::Gate;
-use disk_face::{Disk, WAL_MAX};
-use script_runner::{Replayed, Run, run_script};
+use disk_face::Disk;
+use script_runner::Work;
 use session_script::{Script, ScriptFault, read_script};
 use std::alloc::Global;
 use wal_base::{Buf, NoMemory};
-use wal_recovery::{Mode, recover};
-
-/// From how many pending polls in a row an operation hangs.
-pub const THRESHOLD: u32 = 3;
-
-/// The status of a run whose script was run.
-fn status_of(replayed: &Replayed) -> Status
-    ensures { result ≡ status_after replayed.now }
-{
-    if replayed.end.died {
-        Status::Disk
-    } else if replayed.limited {
-        Status::Limit
-    } else {
-        Status::Done
-    }
-}
-
-/// What is said of a run.
-fn run_said(replayed: Result<Replayed, NoMemory>) -> Result<Said, NoMemory>
-    ensures { IfOk result (λ said. IsOkAnd replayed (TellsRan said.status said.text)) }
-{
-    let replayed = replayed?;
-    let status = status_of(&replayed);
-    Ok(Said {
-        status,
-        text: replayed.text,
-    })
-}
-
-/// What a script comes to over a disk.
-fn script_said<D: Disk, G: Gate>(
-    alloc: Global,
-    script: Script,
-    mut disk: D,
-    gate: &G,
-) -> Answered<D>
-    requires idle { NothingInFlight (D.view disk) }
-    requires sessions { NamesItsSessions script }
-    ensures went_on { WentOn (D.view disk) (D.view result.disk) }
-    ensures polls { StallNone script.rounds → PollsNeverRise (D.view disk) (D.view result.disk) }
-    ensures others { IsTrue D.tells → (wal : _) → IsNextWal (directories (D.view disk)) wal
-        → OthersOnlySynced wal (files (D.view disk)) (files (D.view result.disk)) }
-    ensures says { let over = change_in D.view disk result.disk in
-        IfOk result.said (λ said. SaysOfScript script D.tells over said.status said.text) }
-{
-    match recover(alloc, &mut disk, Mode::Strict) {
-        Ok(found) => {
-            if found.next_wal > WAL_MAX {
-                return Answered {
-                    said: saying(alloc, Status::Limit, "limit wal\n"),
-                    disk,
-                };
-            }
-            let Run { replayed, disk } = run_script(
-                alloc,
-                found.batches,
-                found.next,
-                found.next_wal,
-                THRESHOLD,
-                script,
-                disk,
-                gate,
-            );
-            Answered {
-                said: run_said(replayed),
-                disk,
-            }
-        }
-        Err(fault) => Answered {
-            said: unrecovered(alloc, fault),
-            disk,
-        },
-    }
-}
 
 /// What is said of a script with a bad line.
 fn bad_line_said(alloc: Global, line: u64) -> Result<Said, NoMemory>
@@ -120,24 +47,29 @@ fn script_of(alloc: Global, bytes: Buf) -> Result<Script, ScriptFault>
     read_script(alloc, bytes.as_slice())
 }
 
-/// What the bytes of a script come to over a disk.
+/// What the bytes of a script come to over a disk. A segment hangs from `threshold` pending polls on.
 pub(crate) fn said_of<D: Disk, G: Gate>(
     alloc: Global,
     script: Buf,
+    threshold: u32,
     disk: D,
     gate: &G,
 ) -> Answered<D>
     requires within { length script ≤ SCRIPT_MAX }
+    requires threshold { (1 ≤ threshold) × (threshold ≤ THRESHOLD_MAX) }
     requires idle { NothingInFlight (D.view disk) }
     ensures went_on { WentOn (D.view disk) (D.view result.disk) }
     ensures polls { StallsNoneOf script → PollsNeverRise (D.view disk) (D.view result.disk) }
     ensures others { IsTrue D.tells → (wal : _) → IsNextWal (directories (D.view disk)) wal
         → OthersOnlySynced wal (files (D.view disk)) (files (D.view result.disk)) }
     ensures says { let over = change_in D.view disk result.disk in
-        IfOk result.said (λ said. SaysOfBytes script D.tells over said.status said.text) }
+        IfOk result.said (λ said. SaysOfBytes script threshold D.tells over said.status said.text) }
 {
     match script_of(alloc, script) {
-        Ok(script) => script_said(alloc, script, disk, gate),
+        Ok(script) => {
+            let command = Command::Replay { threshold };
+            work_said(alloc, command, Work::Script(script), threshold, disk, gate)
+        }
         Err(ScriptFault::BadLine { line }) => Answered {
             said: bad_line_said(alloc, line),
             disk,

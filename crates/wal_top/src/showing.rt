@@ -6,7 +6,7 @@ ghost use Rattle.disk_face.specs.Calls.{GoesOn, SameDisk};
 ghost use Rattle.text_lines.specs.Lines.{recovered_end};
 ghost use Rattle.text_lines.specs.Store.{IsStoreText};
 ghost use Rattle.wal_top.specs.Call.{change_in};
-ghost use Rattle.wal_top.specs.Words.{IsRecover, IsDump};
+ghost use Rattle.command_line.specs.Commands.{AsksToRecover, AsksToDump};
 ghost use Rattle.wal_top.specs.Printing.{report_lines, segments_text};
 ghost use Rattle.wal_top.specs.Run.{WritesNoJournal};
 ghost use Rattle.wal_top.specs.Parts.{SaysUnread};
@@ -37,7 +37,7 @@ pub(crate) fn store_said<D: Disk>(alloc: Global, disk: &mut D) -> Result<Said, N
     ensures goes_on { GoesOn (D.view disk.old) (D.view disk.new) }
     ensures no_journal { WritesNoJournal D.tells (change_in D.view disk.old disk.new) }
     ensures says { let over = change_in D.view disk.old disk.new in
-        IfOk result (λ said. SaysUnread IsRecover D.tells over said.status said.text) }
+        IfOk result (λ said. SaysUnread AsksToRecover D.tells over said.status said.text) }
 {
     match recover(alloc, disk, Mode::Strict) {
         Ok(found) => {
@@ -101,7 +101,7 @@ pub(crate) fn segments_said<D: Disk>(alloc: Global, disk: &mut D) -> Result<Said
     ensures no_journal { WritesNoJournal D.tells (change_in D.view disk.old disk.new) }
     ensures same { SameDisk (D.view disk.old) (D.view disk.new) }
     ensures says { let over = change_in D.view disk.old disk.new in
-        IfOk result (λ said. SaysUnread IsDump D.tells over said.status said.text) }
+        IfOk result (λ said. SaysUnread AsksToDump D.tells over said.status said.text) }
 {
     match recover(alloc, disk, Mode::Lenient) {
         Ok(found) => {

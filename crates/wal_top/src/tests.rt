@@ -1,6 +1,7 @@
 ghost use Rattle.std.specs.Prelude.{◌≤◌, length};
 
 mod bad_lines;
+mod commands;
 mod deaths;
 mod generated;
 mod halts;

@@ -1,10 +1,18 @@
 //! The top call, and the order in which a run meets what it may meet.
 
-ghost use Rattle.std.specs.Prelude.{◌≡◌, ℕ, List, map, IfOk};
+ghost use Rattle.std.specs.Prelude.{◌≡◌, ◌≤◌, ℕ, List, map, IfOk, IsTrue};
 ghost use Rattle.std.specs.String.{string_bytes};
-ghost use Rattle.disk_face.specs.View.{NothingInFlight};
-ghost use Rattle.wal_top.specs.Call.{Invocation, call_of};
-ghost use Rattle.wal_top.specs.Words.{IsReplay, ReadsSource};
+ghost use Rattle.disk_face.specs.Image.{directories};
+ghost use Rattle.disk_face.specs.View.{files, NothingInFlight};
+ghost use Rattle.stall_monitor.specs.declared.verdict.TheConstants.{THRESHOLD_MAX};
+ghost use Rattle.wal_recovery.specs.Listing.{IsNextWal};
+ghost use Rattle.failover_writer.specs.Running.{OthersOnlySynced};
+ghost use Rattle.commit_pipeline.specs.Holding.{WentOn};
+ghost use Rattle.script_runner.specs.Runs.{PollsNeverRise};
+ghost use Rattle.command_line.specs.Commands.{AsksToReplay};
+ghost use Rattle.wal_top.specs.Call.{Invocation, change_in, call_of};
+ghost use Rattle.wal_top.specs.Words.{ReadsSource};
+ghost use Rattle.wal_top.specs.Parts.{SaysOfLoad};
 ghost use Rattle.wal_top.specs.Outcomes.{HasToSay};
 ghost use Rattle.wal_top.specs.Run.{run_of, Says, YieldsTo, ComesExactly, Leaves};
 
@@ -13,10 +21,13 @@ use crate::replaying::said_of;
 use crate::said::{Answered, Said, saying};
 use crate::showing::{segments_said, store_said};
 use crate::status::{Ran, Status};
-use crate::words::{Command, command_of};
+use crate::working::work_said;
 use crate::writing::write_all;
+use command_line::{Command, THRESHOLD_DEFAULT, WordsFault, read_command};
 use commit_pipeline::Gate;
 use disk_face::Disk;
+use script_runner::Work;
+use session_script::Load;
 use std::alloc::Global;
 use std::sync::Wait;
 use std::thread::Threads;
@@ -24,25 +35,27 @@ use wal_base::{NoMemory, PutErr, Sink, Source};
 
 const USAGE: &str = "usage: replay [--threshold N] | recover | dump | load SEED COUNT\n";
 
-/// What a replay of the source's script has to say.
+/// What a replay of the source's script has to say. A segment hangs from `threshold` pending polls on.
 fn replayed<S: Source, D: Disk, G: Gate>(
     alloc: Global,
+    threshold: u32,
     src: &mut S,
     disk: D,
     gate: &G,
 ) -> Answered<D>
-    requires { NothingInFlight (D.view disk) }
-    ensures says { IfOk result.said (λ said. (words : List (List ℕ)) → IsReplay words →
+    requires threshold { (1 ≤ threshold) × (threshold ≤ THRESHOLD_MAX) }
+    requires idle { NothingInFlight (D.view disk) }
+    ensures says { IfOk result.said (λ said. (words : List (List ℕ)) → AsksToReplay words threshold →
         let call = call_of words S.left S.faults src.old src.new
         D.tells D.view disk result.disk in
         HasToSay call said.status said.text) }
-    ensures leaves { (words : List (List ℕ)) → IsReplay words →
+    ensures leaves { (words : List (List ℕ)) → AsksToReplay words threshold →
         let call = call_of words S.left S.faults src.old src.new
         D.tells D.view disk result.disk in
         Leaves call }
 {
     match read_script_bytes(alloc, src) {
-        Ok(script) => said_of(alloc, script, disk, gate),
+        Ok(script) => said_of(alloc, script, threshold, disk, gate),
         Err(ReadError::NoMemory) => Answered {
             said: Err(NoMemory),
             disk,
@@ -56,6 +69,34 @@ fn replayed<S: Source, D: Disk, G: Gate>(
             disk,
         },
     }
+}
+
+/// What a load has to say. It leaves the source alone.
+fn loaded<D: Disk, G: Gate>(
+    alloc: Global,
+    seed: u64,
+    batches: u32,
+    disk: D,
+    gate: &G,
+) -> Answered<D>
+    requires { NothingInFlight (D.view disk) }
+    ensures went_on { WentOn (D.view disk) (D.view result.disk) }
+    ensures polls { PollsNeverRise (D.view disk) (D.view result.disk) }
+    ensures others { IsTrue D.tells → (wal : _) → IsNextWal (directories (D.view disk)) wal
+        → OthersOnlySynced wal (files (D.view disk)) (files (D.view result.disk)) }
+    ensures says { let over = change_in D.view disk result.disk in
+        IfOk result.said (λ said. SaysOfLoad seed batches D.tells over said.status said.text) }
+{
+    let command = Command::Load { seed, batches };
+    let load = Load::new(seed, batches);
+    work_said(
+        alloc,
+        command,
+        Work::Load(load),
+        THRESHOLD_DEFAULT,
+        disk,
+        gate,
+    )
 }
 
 /// Everything of a run before its first byte is written. It waits for nobody.
@@ -75,18 +116,23 @@ fn answered<S: Source, D: Disk, G: Gate>(
         Leaves call }
     ensures unread { (ReadsSource (map string_bytes words.now) → ⊥) → src.new ≡ src.old }
 {
-    match command_of(words) {
-        Some(Command::Replay) => replayed(alloc, src, disk, gate),
-        Some(Command::Recover) => {
+    match read_command(alloc, words) {
+        Ok(Command::Replay { threshold }) => replayed(alloc, threshold, src, disk, gate),
+        Ok(Command::Recover) => {
             let said = store_said(alloc, &mut disk);
             Answered { said, disk }
         }
-        Some(Command::Dump) => {
+        Ok(Command::Dump) => {
             let said = segments_said(alloc, &mut disk);
             Answered { said, disk }
         }
-        None => Answered {
+        Ok(Command::Load { seed, batches }) => loaded(alloc, seed, batches, disk, gate),
+        Err(WordsFault::Usage) => Answered {
             said: saying(alloc, Status::Usage, USAGE),
+            disk,
+        },
+        Err(WordsFault::NoMemory) => Answered {
+            said: Err(NoMemory),
             disk,
         },
     }

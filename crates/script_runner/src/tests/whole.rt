@@ -1,34 +1,33 @@
 //! Whole runs.
 
+ghost use Rattle.script_runner.specs.Works.{NamesItsOwn};
+
 use super::{Fresh, script_of};
-use crate::{Replayed, Run, run_script};
+use crate::{Outcome, Run, Told, Work, run_work};
 use commit_pipeline::NoGate;
+use session_script::{Load, put_run_end};
 use std::alloc::Global;
 use std::process::Abort;
 use std::test::Fail;
 use wal_base::{ListOf, NoMemory};
 
-/// What a script comes to over a disk and no batches.
+/// What some work comes to over a disk and no batches.
 #[tactic(auto, unfolding(batch_repr::specs::Batches::IsContiguous, batch_repr::specs::Batches::end_after))]
-fn replayed(
-    rt: &impl Abort,
-    alloc: Global,
-    fresh: Fresh,
-    text: &[u8],
-) -> Result<Replayed, NoMemory> {
-    let script = script_of(rt, alloc, text)?;
+fn outcome_of(alloc: Global, fresh: Fresh, work: Work) -> Result<Outcome, NoMemory>
+    requires { NamesItsOwn work }
+{
     let Fresh { disk } = fresh;
-    let Run { replayed, disk: _ } = run_script(
+    let Run { outcome, disk: _ } = run_work(
         alloc,
         ListOf::new(alloc),
         10,
         1,
         3,
-        script,
+        work,
         disk,
         &NoGate,
     );
-    replayed
+    outcome
 }
 
 /// Asserts all that a script says over a disk.
@@ -39,10 +38,45 @@ fn check(
     script: &[u8],
     text: &str,
 ) -> Result<(), Fail> {
-    let replayed = replayed(rt, alloc, fresh, script)?;
-    assert!(rt; replayed.text.as_slice() == text.as_bytes());
-    assert!(rt; !replayed.limited);
+    let script = script_of(rt, alloc, script)?;
+    let Outcome { told, end } = outcome_of(alloc, fresh, Work::Script(script))?;
+    let Told {
+        text: mut said,
+        limited,
+        live: _,
+    } = told;
+    put_run_end(&mut said, &end)?;
+    assert!(rt; said.as_slice() == text.as_bytes());
+    assert!(rt; !limited);
     Ok(())
+}
+
+/// Asserts how a load of seed 7 and so many batches ends over an empty disk.
+fn check_load(
+    rt: &impl Abort,
+    alloc: Global,
+    batches: u32,
+    visible: u64,
+    live: u32,
+) -> Result<(), Fail> {
+    let load = Load::new(7, batches);
+    let outcome = outcome_of(alloc, Fresh::new(alloc)?, Work::Load(load))?;
+    assert!(rt; outcome.end.visible == visible);
+    assert!(rt; outcome.end.batches == u64::from(batches));
+    assert!(rt; outcome.end.acked == u64::from(batches));
+    assert!(rt; outcome.told.live == live);
+    assert!(rt; !outcome.told.limited);
+    Ok(())
+}
+
+#[test]
+fn a_load_of_one_batch_sets_one_key(rt: HostRuntime) -> Result<(), Fail> {
+    check_load(&rt, rt.alloc(), 1, 11, 1)
+}
+
+#[test]
+fn a_load_deletes_every_eighth_key_of_its_last_round(rt: HostRuntime) -> Result<(), Fail> {
+    check_load(&rt, rt.alloc(), 2_000, 2_260, 875)
 }
 
 #[test]

@@ -35,7 +35,7 @@ fn other_words_are_no_command(rt: HostRuntime) -> Result<(), Fail> {
         &["replay", "--threshold", "0"][..],
         &["replay", "replay"][..],
         &["recover", "dump"][..],
-        &["load", "7", "1"][..],
+        &["load", "7"][..],
         &["--help"][..],
         &[][..],
     ] {

@@ -1,7 +1,6 @@
 -- Each answer of a commit is said in its words.
 use Rattle.std.proofs.Common.{refl, subst, Err, arith}
 use Rattle.session_script.specs.declared.script.Act.TheVariants.{Commit}
-use Rattle.session_script.specs.declared.replies.Said.TheVariants.{Limit}
 use Rattle.commit_pipeline.specs.declared.fault.CommitFault.{CommitFault}
 use Rattle.commit_pipeline.specs.Holding.{pipe_stage}
 use Rattle.commit_pipeline.specs.Committing.{CommitsTo}

@@ -6,7 +6,7 @@ use Rattle.wal_top.specs.Printing.{segments_text}
 use Rattle.wal_top.specs.Outcomes.{unread}
 use Rattle.wal_top.proofs.Saying.{ok_map}
 use Rattle.wal_top.proofs.HasToSay.{says_unrecovered, says_segments}
-use Rattle.wal_top.proofs.ComesExactly.{dump_reads_nothing}
+use Rattle.wal_top.proofs.Asking.{dump_reads_nothing}
 use Rattle.wal_top.proofs.showing.segments_said.Goals as goal
 
 pub returns-in_ok-put_recovered_end-in-Ok-clause-says : goal.returns-in_ok-put_recovered_end-in-Ok-clause-says

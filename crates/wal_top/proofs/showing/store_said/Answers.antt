@@ -5,7 +5,7 @@ use Rattle.wal_top.specs.Call.{Invocation, change_in}
 use Rattle.wal_top.specs.Outcomes.{unread}
 use Rattle.wal_top.proofs.Saying.{ok_map}
 use Rattle.wal_top.proofs.HasToSay.{says_unrecovered, says_store}
-use Rattle.wal_top.proofs.ComesExactly.{recover_reads_nothing}
+use Rattle.wal_top.proofs.Asking.{recover_reads_nothing}
 use Rattle.wal_top.proofs.showing.store_said.Goals as goal
 
 pub returns-in_ok-store_text-in-Ok-clause-says : goal.returns-in_ok-store_text-in-Ok-clause-says

@@ -3,8 +3,8 @@ use Rattle.std.proofs.Common.{sym, subst}
 use Rattle.disk_face.specs.View.{segment}
 use Rattle.log_writer.specs.Fits.{IsUnsent}
 use Rattle.failover_writer.specs.Ranges.{side_at}
-use Rattle.script_runner.proofs.tests.whole.replayed.Goals as goal
+use Rattle.script_runner.proofs.tests.whole.outcome_of.Goals as goal
 
-pub run_script-replayed-requires-clause-absent : goal.run_script-replayed-requires-clause-absent
-run_script-replayed-requires-clause-absent g c told index low high = subst IsUnsent
+pub run_work-outcome-requires-clause-absent : goal.run_work-outcome-requires-clause-absent
+run_work-outcome-requires-clause-absent c told index low high = subst IsUnsent
     (sym (c.args.fresh.empty (segment (side_at index) (record { wal = 1; index = index })))) (tt, λ f is. cc)

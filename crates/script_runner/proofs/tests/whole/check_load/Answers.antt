@@ -1,0 +1,9 @@
+-- The lines of a load are of its four sessions.
+use Rattle.std.proofs.Common.{sym, subst}
+use Rattle.session_script.specs.declared.load.TheConstants.{LOAD_SESSIONS}
+use Rattle.session_script.proofs.Laws.{load_names_four}
+use Rattle.script_runner.specs.Rounds.{NameSessions}
+use Rattle.script_runner.proofs.tests.whole.check_load.Goals as goal
+
+pub outcome_of-requires : goal.outcome_of-requires
+outcome_of-requires g c = subst (NameSessions LOAD_SESSIONS) (sym c.new-load.ensures) (load_names_four 7 c.args.batches)
