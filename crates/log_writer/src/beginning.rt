@@ -95,8 +95,7 @@ impl LogWriter {
         ensures err { OnErr result ((self.new ≡ self.old) × (D.view disk.new ≡ D.view disk.old)) }
     {
         let mut framer = self.framer;
-        let mut frames = Buf::new(self.alloc)?;
-        frames.reserve(room_for(queue, self.sent, len))?;
+        let mut frames = Buf::with_capacity(self.alloc, room_for(queue, self.sent, len))?;
         frame_records(&mut framer, &mut frames, queue, self.sent, len)?;
         let id = disk.start(DiskOp::Write {
             side: self.side,

@@ -106,18 +106,15 @@ impl Buf {
     pub fn new(alloc: Global) -> Result<Buf, NoMemory>
         ensures { IfOk result (λ buf. buf ≡ []) }
     {
-        let bytes = Vec::with_capacity(alloc, FIRST_ROOM)?;
-        Ok(Buf { bytes })
+        Buf::with_capacity(alloc, FIRST_ROOM)
     }
 
-    /// Makes room for so many bytes more, so that adding them moves none of the others.
-    pub fn reserve(&mut self, more: usize) -> Result<(), NoMemory>
-        ensures { self.new ≡ self.old }
+    /// Holds nothing. Room for so many bytes is made now: adding them moves none of the others.
+    pub fn with_capacity(alloc: Global, capacity: usize) -> Result<Buf, NoMemory>
+        ensures { IfOk result (λ buf. buf ≡ []) }
     {
-        match self.bytes.reserve_exact(more) {
-            Ok(()) => Ok(()),
-            Err(_) => Err(NoMemory),
-        }
+        let bytes = Vec::with_capacity(alloc, capacity)?;
+        Ok(Buf { bytes })
     }
 
     /// Adds the bytes at the end.

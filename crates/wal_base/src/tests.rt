@@ -20,9 +20,8 @@ fn put_in<K: Sink>(sink: &mut K, bytes: &[u8]) -> Result<usize, PutErr> {
 fn bytes_are_kept_and_shown(rt: HostRuntime) -> Result<(), NoMemory> {
     let blob = Blob::copy_of(rt.alloc(), b"abc")?;
     assert_eq!(rt; blob.as_slice(), b"abc".as_slice());
-    let mut buf = Buf::new(rt.alloc())?;
+    let mut buf = Buf::with_capacity(rt.alloc(), 2)?;
     buf.append(b"ab")?;
-    buf.reserve(1_000)?;
     buf.append(b"c")?;
     assert_eq!(rt; buf.as_slice(), b"abc".as_slice());
     buf.truncate(2);
