@@ -1,3 +1,4 @@
 mod Polls
 mod Inserts
 mod Filled
+mod Absent

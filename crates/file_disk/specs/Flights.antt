@@ -1,16 +1,18 @@
 -- What the two directories of a disk over files mean (docs/FORMATS.md, "The disk").
-use Rattle.std.specs.Prelude.{◌≡◌, ◌≢◌, ℕ, List, Option, Some, None}
+use Rattle.std.specs.Prelude.{◌≡◌, ◌≢◌, ℕ, List, [], Option, Some, None, nat_eq, if◌then◌else◌}
 use Rattle.std.specs.Ordering.{nat_cmp}
 use Rattle.std.specs.BTreeMap.{get}
 use Rattle.disk_face.specs.declared.Side.{Side}
 use Rattle.disk_face.specs.declared.Side.TheVariants.{Primary, Secondary}
 use Rattle.disk_face.specs.declared.DiskOp.{DiskOp}
-use Rattle.disk_face.specs.Calls.{flight_of, side_of}
+use Rattle.disk_face.specs.Calls.{flight_of, side_of, bytes_sent_by}
 use Rattle.disk_face.specs.View.{segment, Act, creating, writing, syncing, Flight, Call, DiskView, by_side}
 use Rattle.file_disk.specs.declared.directory.Task.{Task}
 use Rattle.file_disk.specs.declared.directory.Task.TheVariants.{Create, Append, Sync}
 use Rattle.file_disk.specs.declared.directory.Started.{Started}
 use Rattle.file_disk.specs.declared.directory.Directory.{Directory}
+use Rattle.file_disk.specs.declared.flights.Numbered.{Numbered}
+use Rattle.file_disk.specs.declared.flights.Flights.{Flights}
 
 -- what a task does to its file
 abbrev pub act_of_task : {F : Type 0} → Task F → Act
@@ -23,13 +25,32 @@ abbrev pub flight_at : {F : Type 0} → Side → Option (Started F) → Option F
 flight_at side None = None
 flight_at side (Some op) = Some (record { place = segment side op.name; act = act_of_task op.task })
 
+-- the one that stands in place, where it has that number, and else another
+abbrev pub first_or : {T : Type 0} → Option (Numbered T) → ℕ → Option T → Option T
+first_or None number other = other
+first_or (Some first) number other = if nat_eq first.number number then Some first.op else other
+
+-- the operation of that number in flight
+abbrev pub in_flight : {T : Type 0} → Flights T → ℕ → Option T
+in_flight flights number = first_or flights.first number (get nat_cmp flights.others number)
+
 -- the operation of that number in flight in a directory
 abbrev pub flight_on_side : {F : Type 0} → Side → Directory F → ℕ → Option Flight
-flight_on_side side directory number = flight_at side (get nat_cmp directory.flights number)
+flight_on_side side directory number = flight_at side (in_flight directory.flights number)
 
 -- the task is that of the operation
 abbrev pub IsTaskOf : {F : Type 0} → DiskOp → Started F → Type 0
 IsTaskOf op started = flight_at (side_of op) (Some started) ≡ Some (flight_of op)
+
+-- the bytes that a task puts at the end of its file
+abbrev pub bytes_of_task : {F : Type 0} → Task F → List ℕ
+bytes_of_task (Create path) = []
+bytes_of_task (Append target bytes) = bytes.items
+bytes_of_task (Sync target) = []
+
+-- the task puts the bytes of the operation at the end of its file
+abbrev pub HasBytesOf : {F : Type 0} → DiskOp → Started F → Type 0
+HasBytesOf op started = bytes_of_task started.task ≡ bytes_sent_by op
 
 -- the operation is in flight in the directory, by that number
 abbrev pub HasInFlight : {F : Type 0} → DiskOp → Directory F → ℕ → Type 0

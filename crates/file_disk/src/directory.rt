@@ -4,19 +4,23 @@ ghost use Rattle.std.specs.Prelude.{◌≡◌, ◌↔◌, ◌≤◌, ◌^◌, �
 ghost use Rattle.wal_base.specs.Faults.{Rose, counted};
 ghost use Rattle.disk_face.specs.declared.Side.{Side};
 ghost use Rattle.disk_face.specs.Calls.{side_of};
-ghost use Rattle.file_disk.specs.Flights.{flight_on_side, flight_at, IsTaskOf, HasInFlight, HasNoFlight, SameFlights, OtherFlightsStay};
+ghost use Rattle.file_disk.specs.Flights.{flight_on_side, flight_at, IsTaskOf, HasBytesOf, HasInFlight, HasNoFlight};
+ghost use Rattle.file_disk.specs.Flights.{SameFlights, OtherFlightsStay};
 ghost use Rattle.file_disk.specs.Held.{IsHeld, HoldsOpen, HoldsTheSame, HoldsAfter, IsOpen, LeadsTo, FindsItsFile};
 
+use crate::flights::Flights;
 use crate::paths::{PARENT, directory_of, path_of};
 use crate::system;
 use disk_face::{DiskOp, SegName, Side};
 use std::alloc::Global;
-use std::collections::BTreeMap;
 use std::fs::OpenFile;
-use std::io;
 use std::io::Write;
 use std::rt::Files;
-use wal_base::{Blob, Buf, NoMemory};
+use std::{io, mem};
+use wal_base::{Buf, NoMemory};
+
+/// The longest room that is kept for the bytes of the next write, in bytes.
+const SPARE_ROOM: usize = 1 << 16;
 
 /// How an operation comes to a file that is there.
 #[derive(Drop)]
@@ -61,7 +65,7 @@ pub enum Task<F> {
     /// Makes it, at this path.
     Create(Buf),
     /// Puts these bytes at its end.
-    Append(Target<F>, Blob),
+    Append(Target<F>, Vec<u8>),
     /// Makes it last.
     Sync(Target<F>),
 }
@@ -91,10 +95,13 @@ pub struct Handle<F> {
 /// its own file in place of that: the next operation on the newer segment then opens anew, and that is all.
 #[derive(Drop)]
 pub struct Directory<F> {
+    alloc: Global,
     faults: u64,
     next: u64,
-    flights: BTreeMap<u64, Started<F>>,
+    flights: Flights<Started<F>>,
     held: Option<Handle<F>>,
+    /// Room for the bytes of the next write.
+    spare: Vec<u8>,
     /// Whether its own name was made to last, in this run.
     is_named: bool,
 }
@@ -106,10 +113,12 @@ impl<F: Write + OpenFile + Drop> Directory<F> {
         ensures idle { (side : Side) (number : ℕ) → flight_on_side side result number ≡ None }
     {
         Directory {
+            alloc,
             faults: 0,
             next: 0,
-            flights: BTreeMap::new(alloc),
+            flights: Flights::new(alloc),
             held: None,
+            spare: Vec::new(alloc),
             is_named: false,
         }
     }
@@ -141,38 +150,63 @@ impl<F: Write + OpenFile + Drop> Directory<F> {
     }
 
     /// How an operation comes to the file of that segment. The path is built where the file is not held open.
-    fn target(&mut self, alloc: Global, side: Side, name: SegName) -> Result<Target<F>, NoMemory>
+    fn target(&mut self, side: Side, name: SegName) -> Result<Target<F>, NoMemory>
         ensures leads { IfOk result (λ target. LeadsTo self.old side name target) }
         ensures faults { self.new.faults ≡ self.old.faults }
         ensures flights { SameFlights self.old self.new }
     {
         match self.take(name) {
             Some(file) => Ok(Target::Open(file)),
-            None => Ok(Target::Path(path_of(alloc, side, name)?)),
+            None => Ok(Target::Path(path_of(self.alloc, side, name)?)),
+        }
+    }
+
+    /// A copy of the bytes of a write. An earlier write left room for it.
+    fn copy_of(&mut self, bytes: &[u8]) -> Result<Vec<u8>, NoMemory>
+        ensures copied { IfOk result (λ copy. copy.items ≡ bytes.now) }
+        ensures held { HoldsTheSame self.old self.new }
+        ensures faults { self.new.faults ≡ self.old.faults }
+        ensures flights { SameFlights self.old self.new }
+    {
+        let mut copy = mem::replace(&mut self.spare, Vec::new(self.alloc));
+        copy.clear();
+        copy.extend_from_slice(bytes)?;
+        Ok(copy)
+    }
+
+    /// Keeps the room of bytes that were written, where it is not too long.
+    fn keep_room(&mut self, bytes: Vec<u8>)
+        ensures held { HoldsTheSame self.old self.new }
+        ensures faults { self.new.faults ≡ self.old.faults }
+        ensures flights { SameFlights self.old self.new }
+    {
+        if bytes.capacity() <= SPARE_ROOM {
+            self.spare = bytes;
         }
     }
 
     /// What an operation is to do, with a copy of the bytes of a write.
-    fn task(&mut self, alloc: Global, op: DiskOp<'_>) -> Result<Started<F>, NoMemory>
+    fn task(&mut self, op: DiskOp<'_>) -> Result<Started<F>, NoMemory>
         ensures flight { IfOk result (IsTaskOf op.entry) }
+        ensures bytes { IfOk result (HasBytesOf op.entry) }
         ensures leads { IfOk result (λ started. FindsItsFile self.old (side_of op.entry) started) }
         ensures faults { self.new.faults ≡ self.old.faults }
         ensures flights { SameFlights self.old self.new }
     {
         let (name, task) = match op {
-            DiskOp::Create { side, name } => (name, Task::Create(path_of(alloc, side, name)?)),
+            DiskOp::Create { side, name } => (name, Task::Create(path_of(self.alloc, side, name)?)),
             DiskOp::Write { side, name, bytes } => {
-                let bytes = Blob::copy_of(alloc, bytes)?;
-                (name, Task::Append(self.target(alloc, side, name)?, bytes))
+                let bytes = self.copy_of(bytes)?;
+                (name, Task::Append(self.target(side, name)?, bytes))
             }
-            DiskOp::Sync { side, name } => (name, Task::Sync(self.target(alloc, side, name)?)),
+            DiskOp::Sync { side, name } => (name, Task::Sync(self.target(side, name)?)),
         };
         Ok(Started { name, task })
     }
 
     /// Puts an operation in flight, and answers its number. After 2^64 operations numbers come again, and one
     /// that is still in flight is refused. After an error nothing was started, and maybe no file is held open.
-    pub fn begin(&mut self, alloc: Global, op: DiskOp<'_>) -> Result<u64, NoMemory>
+    pub fn begin(&mut self, op: DiskOp<'_>) -> Result<u64, NoMemory>
         ensures fresh { IfOk result (HasNoFlight self.old) }
         ensures here { IfOk result (HasInFlight op.entry self.new) }
         ensures others { IfOk result (λ number. OtherFlightsStay number self.old self.new) }
@@ -180,10 +214,10 @@ impl<F: Write + OpenFile + Drop> Directory<F> {
         ensures err { OnErr result (SameFlights self.old self.new) }
     {
         let number = self.next;
-        if self.flights.contains_key(&number) {
+        if self.flights.has(number) {
             return Err(NoMemory);
         }
-        let started = self.task(alloc, op)?;
+        let started = self.task(op)?;
         self.flights.insert(number, started)?;
         self.next = number.wrapping_add(1);
         Ok(number)
@@ -196,7 +230,7 @@ impl<F: Write + OpenFile + Drop> Directory<F> {
         ensures others { OtherFlightsStay number self.old self.new }
         ensures faults { self.new.faults ≡ self.old.faults }
     {
-        self.flights.remove(&number)
+        self.flights.remove(number)
     }
 
     /// Runs an operation. Once it is done its file is held open; one that was refused has let go of its file.
@@ -209,7 +243,11 @@ impl<F: Write + OpenFile + Drop> Directory<F> {
         let Started { name, task } = op;
         let file = match task {
             Task::Create(path) => Some(self.create(rt, side, &path)?),
-            Task::Append(target, bytes) => Some(target.append(rt, bytes.as_slice())?),
+            Task::Append(target, bytes) => {
+                let file = target.append(rt, bytes.as_slice())?;
+                self.keep_room(bytes);
+                Some(file)
+            }
             Task::Sync(target) => target.sync(rt)?,
         };
         if let Some(file) = file {

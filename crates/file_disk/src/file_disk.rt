@@ -158,11 +158,10 @@ impl<R: Files + AllocGlobal + Clone + Drop> Disk for FileDisk<R> {
     }
 
     fn start(&mut self, op: DiskOp<'_>) -> Result<OpId, NoMemory> {
-        let alloc = self.runtime.alloc();
         let side = side_of(op);
         let number = match side {
-            Side::Primary => self.primary.begin(alloc, op)?,
-            Side::Secondary => self.secondary.begin(alloc, op)?,
+            Side::Primary => self.primary.begin(op)?,
+            Side::Secondary => self.secondary.begin(op)?,
         };
         let id = OpId { side, number };
         self.log.note_start(id);

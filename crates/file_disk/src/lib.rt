@@ -11,6 +11,7 @@
 
 mod directory;
 mod file_disk;
+mod flights;
 mod order;
 mod paths;
 mod system;

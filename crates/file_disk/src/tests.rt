@@ -126,12 +126,12 @@ fn segments_are_kept_in_files(rt: HostRuntime) -> Result<(), Fail> {
 }
 
 /// Does an operation in a directory, and answers whether the system did it.
-fn operate<R: Files + AllocGlobal>(
+fn operate<R: Files>(
     rt: &R,
     directory: &mut Directory<R::File>,
     op: DiskOp<'_>,
 ) -> Result<bool, NoMemory> {
-    let number = directory.begin(rt.alloc(), op)?;
+    let number = directory.begin(op)?;
     match directory.end(number) {
         Some(started) => Ok(directory.run(rt, Side::Primary, started).is_ok()),
         None => Ok(false),
