@@ -3,7 +3,7 @@ use Rattle.std.proofs.Common.{◌≡◌, ℕ, ◌+◌, ◌-◌, ◌<◌, ◌≤�
 use Rattle.std.proofs.Common.{length-take, length-drop}
 use Rattle.std.specs.List.{slice_split, onto_first}
 use Rattle.std.proofs.lemmas.Bool.{false_from_ne_true}
-use Rattle.std.proofs.lemmas.List.{get_or-take, get_or_default, take-append-drop, drop_more, drop-drop, take_rest}
+use Rattle.std.proofs.lemmas.List.{get_or-take, get_or_default, take-append-drop, drop_more, drop-drop}
 use Rattle.std.proofs.lemmas.List.Splits.{slice_split_at, slice_split_none, slice_split-cons_yes, slice_split-cons_no}
 use Rattle.memchr.specs.Find.{Nowhere, NoneBefore, Passes}
 use Rattle.session_script.specs.declared.pieces.Cut.{Cut}

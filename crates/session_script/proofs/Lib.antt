@@ -12,6 +12,7 @@ mod Limits
 mod LoadEntries
 mod LoadMade
 mod LoadRounds
+mod LoadTexts
 mod LinesSoFar
 mod Naming
 mod Numerals

@@ -1,11 +1,11 @@
--- What is made of a load step by step: digits, a key and a value, the entries of a batch, the lines of a round.
-use Rattle.std.proofs.Common.{◌≡◌, ℕ, zero, suc, ◌+◌, ◌-◌, ◌/◌, ◌%◌, ◌<◌, ◌≤◌, min, ◌*◌, ◌==◌, Bool, true, false, List, [], ◌∷◌, ◌++◌, length, take, drop, Option, Some, None, refl, sym, ap, ◌∙◌, arith, subst, append_assoc, append-nil, add-one}
-use Rattle.std.specs.Prelude.{IfNone, IfSome, slice_set, slice_range}
+-- What is made of a load step by step: digits, a value, the entries of a batch, the lines of a round.
+use Rattle.std.proofs.Common.{◌≡◌, ℕ, zero, suc, ◌+◌, ◌-◌, ◌/◌, ◌%◌, ◌<◌, ◌≤◌, min, ◌*◌, ◌==◌, false, List, [], ◌∷◌, ◌++◌, length, drop, Option, Some, None, refl, sym, ap, ◌∙◌, arith, subst, append_assoc, append-nil, add-one}
+use Rattle.std.specs.Prelude.{IfNone, IfSome, slice_set}
 use Rattle.std.specs.Option.{IsSome}
 use Rattle.std.specs.Fmt.{digit_glyph}
-use Rattle.std.specs.List.{repeat, range_with_len}
+use Rattle.std.specs.List.{repeat}
 use Rattle.std.proofs.lemmas.Bool.{eq-eqb, ne_eqb}
-use Rattle.std.proofs.lemmas.List.{drop-set, length-append, take_all, take_at, drop_at}
+use Rattle.std.proofs.lemmas.List.{drop-set}
 use Rattle.std.proofs.lemmas.List.FromFn.{map-range_with_len_more}
 use Rattle.wal_base.specs.declared.entry.Entry.{Entry}
 use Rattle.wal_base.specs.declared.entry.Entry.TheVariants.{Set, Delete}
@@ -14,7 +14,6 @@ use Rattle.session_script.specs.declared.script.Act.TheVariants.{Commit}
 use Rattle.session_script.specs.declared.script.Line.{Line}
 use Rattle.session_script.specs.declared.script.Round.{Round}
 use Rattle.session_script.specs.declared.script.StallLine.{StallLine}
-use Rattle.session_script.proofs.LoadEntries.{length-load_key, length-load_value}
 use Rattle.session_script.specs.Load.{last_digits, load_key, load_value, load_entries, load_line, load_lines, load_round}
 
 -- ---- digits
@@ -50,21 +49,6 @@ pub repeat_more : (k : ℕ) (front xs ys zs : List ℕ) → ys ≡ front ++ repe
 repeat_more k front xs ys zs h is =
     is ∙ ap (λ (t : List ℕ). t ++ xs) h ∙ append_assoc front (repeat k xs) xs ∙ ap (λ (t : List ℕ). front ++ t) (repeat_turned k xs)
     ∙ ap (λ (n : ℕ). front ++ repeat n xs) (sym (add-one k))
-
--- The parts of a text are the key and the value of which it is made.
-pub set_of_parts : (seed i : ℕ) (text key value : List ℕ) → text ≡ load_key i ++ load_value seed i → key ≡ slice_range text 0 5
-    → value ≡ slice_range text 5 69 → Set key value ≡ Set (load_key i) (load_value seed i)
-set_of_parts seed i text key value is k v =
-    let key_is : key ≡ load_key i = k ∙ ap (λ (t : List ℕ). take 5 t) is ∙ take_at (load_key i) (load_value seed i) 5 (length-load_key i) in
-    let value_is : value ≡ load_value seed i =
-    v ∙ ap (λ (t : List ℕ). take 64 (drop 5 t)) is
-    ∙ ap (λ (t : List ℕ). take 64 t) (drop_at (load_key i) (load_value seed i) 5 (length-load_key i))
-    ∙ take_all 64 (load_value seed i) (omega (arith, length-load_value seed i)) in
-    ap (λ (t : List ℕ). Set t value) key_is ∙ ap (λ (t : List ℕ). Set (load_key i) t) value_is
-
-pub text_holds : (seed i : ℕ) (text : List ℕ) → text ≡ load_key i ++ load_value seed i → length text ≡ 69
-text_holds seed i text is =
-    omega (arith, ap length is, length-append (load_key i) (load_value seed i), length-load_key i, length-load_value seed i)
 
 -- ---- the entries of a batch
 

@@ -1,6 +1,6 @@
 -- The rounds of a load one after another, and what they ask for.
-use Rattle.std.proofs.Common.{◌≡◌, inl, inr, ℕ, zero, suc, ◌+◌, ◌-◌, ◌*◌, ◌/◌, ◌%◌, ◌<◌, ◌≤◌, min, Bool, true, false, cond, List, [], ◌∷◌, length, map, drop, refl, sym, ap, ◌∙◌, arith, add-one}
-use Rattle.std.specs.Prelude.{sum_by, count_by}
+use Rattle.std.proofs.Common.{◌≡◌, inl, inr, ℕ, zero, suc, ◌+◌, ◌-◌, ◌*◌, ◌/◌, ◌%◌, ◌<◌, ◌≤◌, min, cond, [], ◌∷◌, map, drop, refl, sym, ap, ◌∙◌, arith, add-one}
+use Rattle.std.specs.Prelude.{sum_by}
 use Rattle.std.specs.Int.{div_ceil}
 use Rattle.std.specs.List.{AllByRecursion, range_with_len}
 use Rattle.std.proofs.Math.Seq.{drop-cons}
@@ -12,8 +12,8 @@ use Rattle.std.proofs.lemmas.Nat.{mod_below}
 use Rattle.session_script.specs.declared.load.TheConstants.{LOAD_ROUND, LOAD_SESSIONS}
 use Rattle.session_script.specs.declared.script.Line.{Line}
 use Rattle.session_script.specs.declared.script.Round.{Round}
-use Rattle.session_script.specs.Script.{is_commit, numbers_taken, round_commits, round_numbers, rounds_commits, rounds_numbers, NamesItsSessions}
-use Rattle.session_script.specs.Load.{load_line, load_lines, load_round, load_rounds, load_script_of}
+use Rattle.session_script.specs.Script.{is_commit, numbers_taken, rounds_commits, rounds_numbers, NamesItsSessions}
+use Rattle.session_script.specs.Load.{load_line, load_round, load_rounds, load_script_of}
 use Rattle.session_script.proofs.LoadEntries.{counts_of}
 
 -- ---- the rounds that are left

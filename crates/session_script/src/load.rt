@@ -1,9 +1,10 @@
 //! The generated load: batches that a seed and their own numbers fix.
 
-ghost use Rattle.std.specs.Prelude.{◌≡◌, ◌<◌, ◌≤◌, ◌+◌, ◌*◌, ◌^◌, ◌-◌, ◌∷◌, [], ◌++◌, min, IfOk, IfSome, IfNone, OnErr, length};
+ghost use Rattle.std.specs.Prelude.{◌≡◌, ◌<◌, ◌≤◌, ◌+◌, ◌*◌, ◌%◌, ◌^◌, ◌-◌, ◌∷◌, [], ◌++◌, min, IfOk, IfSome, IfNone, OnOk, OnErr, length};
 ghost use Rattle.wal_base.specs.declared.entry.Entry.TheVariants.{Set};
 ghost use Rattle.session_script.specs.Load.{load_number, load_key, load_value, load_entries, load_line};
 ghost use Rattle.session_script.specs.Load.{load_lines, load_round, load_rounds, load_script_of};
+ghost use Rattle.session_script.specs.Load.{key_and_value, keys_and_values, IsAmong};
 
 use crate::digits::put_digits;
 use crate::script::{Act, Line, Lines, Round, Rounds, Script, Stalls};
@@ -57,71 +58,117 @@ pub fn load_key(alloc: Global, index: u32) -> Result<Blob, NoMemory>
     Blob::copy_of(alloc, &key_bytes(index))
 }
 
-/// The key that a batch sets, and then the value, as one text.
-fn load_text(alloc: Global, seed: u64, index: u32) -> Result<Blob, NoMemory>
-    ensures { IfOk result (λ text. text ≡ load_key index ++ load_value seed index) }
+/// Adds the key that a batch sets, and then the value.
+fn put_text(text: &mut Vec<u8>, seed: u64, index: u32) -> Result<(), NoMemory>
+    ensures { OnOk result (text.new.items ≡ text.old.items ++ key_and_value seed index) }
 {
     let mut word = [0; 16];
     put_digits(&mut word, 16, load_number(seed, index));
-    let mut text = Vec::with_capacity(alloc, TEXT_LEN)?;
     text.extend_from_slice(&key_bytes(index))?;
     for _ in 0..4u32 {
         text.extend_from_slice(&word)?;
     }
+    Ok(())
+}
+
+/// The keys and values of so many batches, one after the other.
+fn load_texts(alloc: Global, seed: u64, from: u32, count: u32) -> Result<Blob, NoMemory>
+    requires { from + count < 2 ^ 32 }
+    ensures { IfOk result (λ text. text ≡ keys_and_values seed from count) }
+{
+    let mut text = Vec::with_capacity(alloc, TEXT_LEN * count as usize)?;
+    for index in from..from + count {
+        put_text(&mut text, seed, index)?;
+    }
     Blob::of_vec(alloc, text)
 }
 
-/// The entry that sets the key of a batch. Its key and its value are parts of one text, which saves a block of memory each.
-fn load_set(alloc: Global, seed: u64, index: u32) -> Result<Entry, NoMemory>
-    ensures { IfOk result (λ entry. entry ≡ Set (load_key index) (load_value seed index)) }
-{
-    let text = load_text(alloc, seed, index)?;
-    Ok(Entry::Set {
-        key: text.part(0, KEY_LEN)?,
-        value: text.part(KEY_LEN, TEXT_LEN)?,
-    })
+/// The batches of a round, whose keys and values are parts of one text. A block of memory for each would take longer to make
+/// and to free.
+#[derive(Drop)]
+struct RoundTexts {
+    seed: u64,
+    from: u32,
+    count: u32,
+    texts: Blob,
+    ghost fits: { from + count < 2 ^ 32 },
+    /// So the key that a batch deletes is set in the same round.
+    ghost eighth: { from % 8 ≡ 0 },
+    ghost are: { texts ≡ keys_and_values seed from count },
 }
 
-/// The entries of a batch.
-fn load_entries(alloc: Global, seed: u64, index: u32) -> Result<Entries, NoMemory>
-    ensures { IfOk result (λ entries. entries ≡ load_entries seed index) }
-{
-    let deletes = index % 8 == 7;
-    let mut entries = Entries::with_capacity(alloc, 1 + usize::from(deletes))?;
-    let set = load_set(alloc, seed, index)?;
-    entries.push(set).map_err(|_| NoMemory)?;
-    if deletes {
-        let key = load_key(alloc, index - 4)?;
-        entries.push(Entry::Delete { key }).map_err(|_| NoMemory)?;
+impl RoundTexts {
+    /// The key that a batch sets.
+    fn key(&self, index: u32) -> Result<Blob, NoMemory>
+        requires { IsAmong self.now.from self.now.count index }
+        ensures { IfOk result (λ key. key ≡ load_key index) }
+    {
+        let place = TEXT_LEN * (index - self.from) as usize;
+        self.texts.part(place, place + KEY_LEN)
     }
-    Ok(entries)
-}
 
-/// The line that commits a batch.
-fn load_line(alloc: Global, seed: u64, index: u32) -> Result<Line, NoMemory>
-    ensures { IfOk result (λ line. line ≡ load_line seed index) }
-{
-    let entries = load_entries(alloc, seed, index)?;
-    Ok(Line {
-        session: index % LOAD_SESSIONS,
-        act: Act::Commit {
-            sync: index % 16 == 15,
-            batch: Unwritten::of(entries).unwrap(),
-        },
-    })
-}
-
-/// The lines that commit so many batches.
-fn load_lines(alloc: Global, seed: u64, from: u32, count: u32) -> Result<Lines, NoMemory>
-    requires { from + count < 2 ^ 32 }
-    ensures { IfOk result (λ lines. lines ≡ load_lines seed from count) }
-{
-    let mut lines = Lines::with_capacity(alloc, count as usize)?;
-    for index in from..from + count {
-        let line = load_line(alloc, seed, index)?;
-        lines.push(line).map_err(|_| NoMemory)?;
+    /// What it sets its key to.
+    fn value(&self, index: u32) -> Result<Blob, NoMemory>
+        requires { IsAmong self.now.from self.now.count index }
+        ensures { IfOk result (λ value. value ≡ load_value self.now.seed index) }
+    {
+        let place = TEXT_LEN * (index - self.from) as usize;
+        self.texts.part(place + KEY_LEN, place + TEXT_LEN)
     }
-    Ok(lines)
+
+    /// The entry that sets the key of a batch.
+    fn set(&self, index: u32) -> Result<Entry, NoMemory>
+        requires { IsAmong self.now.from self.now.count index }
+        ensures { IfOk result (λ set. set ≡ Set (load_key index) (load_value self.now.seed index)) }
+    {
+        Ok(Entry::Set {
+            key: self.key(index)?,
+            value: self.value(index)?,
+        })
+    }
+
+    /// The entries of a batch.
+    fn entries(&self, alloc: Global, index: u32) -> Result<Entries, NoMemory>
+        requires { IsAmong self.now.from self.now.count index }
+        ensures { IfOk result (λ entries. entries ≡ load_entries self.now.seed index) }
+    {
+        let deletes = index % 8 == 7;
+        let mut entries = Entries::with_capacity(alloc, 1 + usize::from(deletes))?;
+        let set = self.set(index)?;
+        entries.push(set).map_err(|_| NoMemory)?;
+        if deletes {
+            let key = self.key(index - 4)?;
+            entries.push(Entry::Delete { key }).map_err(|_| NoMemory)?;
+        }
+        Ok(entries)
+    }
+
+    /// The line that commits a batch.
+    fn line(&self, alloc: Global, index: u32) -> Result<Line, NoMemory>
+        requires { IsAmong self.now.from self.now.count index }
+        ensures { IfOk result (λ line. line ≡ load_line self.now.seed index) }
+    {
+        let entries = self.entries(alloc, index)?;
+        Ok(Line {
+            session: index % LOAD_SESSIONS,
+            act: Act::Commit {
+                sync: index % 16 == 15,
+                batch: Unwritten::of(entries).unwrap(),
+            },
+        })
+    }
+
+    /// The lines that commit the batches.
+    fn lines(&self, alloc: Global) -> Result<Lines, NoMemory>
+        ensures { IfOk result (λ all. all ≡ load_lines self.now.seed self.now.from self.now.count) }
+    {
+        let mut lines = Lines::with_capacity(alloc, self.count as usize)?;
+        for index in self.from..self.from + self.count {
+            let line = self.line(alloc, index)?;
+            lines.push(line).map_err(|_| NoMemory)?;
+        }
+        Ok(lines)
+    }
 }
 
 /// A generated load, of which rounds are still to be made. Contracts see those that are left.
@@ -181,9 +228,15 @@ fn load_round(alloc: Global, seed: u64, batches: u32, round: u32) -> Result<Roun
 {
     let from = LOAD_ROUND * round;
     let count = LOAD_ROUND.min(batches - from);
+    let texts = RoundTexts {
+        seed,
+        from,
+        count,
+        texts: load_texts(alloc, seed, from, count)?,
+    };
     Ok(Round {
         stalls: Stalls::new(alloc),
-        lines: load_lines(alloc, seed, from, count)?,
+        lines: texts.lines(alloc)?,
     })
 }
 

@@ -1,4 +1,4 @@
-use Rattle.std.proofs.Common.{List, ◌+◌, ◌∷◌, drop, arith, sym, ap, ◌∙◌}
+use Rattle.std.proofs.Common.{◌+◌, ◌∷◌, drop, arith, sym, ap, ◌∙◌}
 use Rattle.session_script.specs.declared.script.Round.{Round}
 use Rattle.session_script.specs.Load.{load_rounds}
 use Rattle.session_script.proofs.LoadRounds.{left_more, left_none}
