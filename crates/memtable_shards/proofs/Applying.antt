@@ -82,7 +82,7 @@ next_is_new start shards batches batch pieces index piece shard row amid next at
     apart (inr given) = absurd (omega (arith, given.1, next.on))
 
 -- what stands at a place after a change
-changed : (shards : List (List Version)) (index : ℕ) (old new : List Version) (place : ℕ) (shard : List Version) → slice_get shards index ≡ Some old
+pub changed : (shards : List (List Version)) (index : ℕ) (old new : List Version) (place : ℕ) (shard : List Version) → slice_get shards index ≡ Some old
     → slice_get (set shards index new) place ≡ Some shard
     → ((place ≡ index) × (shard ≡ new)) ⊎ ((place ≢ index) × (slice_get shards place ≡ Some shard))
 changed shards index old new place shard was at = go (eqb place index) refl

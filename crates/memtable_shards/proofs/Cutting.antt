@@ -1,5 +1,5 @@
--- Versions by shard: filtered, renumbered, and cut into pieces.
-use Rattle.std.proofs.Common.{◌≡◌, ◌≢◌, ◌⊎◌, inl, inr, ℕ, zero, suc, ◌+◌, ◌≤◌, ◌<◌, Bool, true, false, cond, List, [], ◌∷◌, ◌++◌, length, take, Option, Some, None, refl, sym, ap, ◌∙◌, subst, arith, get_or, eqb, length-set, length-append}
+-- Versions by shard: filtered, renumbered, and sorted into lists.
+use Rattle.std.proofs.Common.{◌≡◌, ◌≢◌, ◌⊎◌, inl, inr, ℕ, zero, suc, ◌+◌, ◌<◌, Bool, true, false, cond, List, [], ◌∷◌, ◌++◌, length, take, Option, Some, None, refl, sym, ap, ◌∙◌, subst, arith, get_or, eqb, length-set, length-append}
 use Rattle.std.specs.Prelude.{Contains, slice_get}
 use Rattle.std.specs.List.{AllByRecursion}
 use Rattle.std.proofs.lemmas.Bool.Decides.{nat_tests}
@@ -12,11 +12,9 @@ use Rattle.std.proofs.lemmas.List.Elements.{filter-append}
 use Rattle.wal_base.proofs.Laws.{none_within, within_head, within_tail, within_cases}
 use Rattle.wal_base.specs.declared.entry.Entry.{Entry}
 use Rattle.wal_base.specs.declared.entry.Entry.TheVariants.{Set, Delete, Note}
-use Rattle.memtable_shards.specs.declared.sharding.TheConstants.{SHARDS}
 use Rattle.memtable_shards.specs.declared.version.Version.{Version}
-use Rattle.memtable_shards.specs.declared.part.Piece.{Piece}
 use Rattle.memtable_shards.specs.Versions.{versions_from, shard_of, of_shard}
-use Rattle.memtable_shards.specs.Parts.{counted_from, HaveOwnNumbers, ArePiecesFrom, AreByShard}
+use Rattle.memtable_shards.specs.Parts.{counted_from, HaveOwnNumbers, AreByShard}
 use Rattle.memtable_shards.proofs.Numbers.{number_within, versions-append, count-append, count_is_length}
 use Rattle.memtable_shards.proofs.Counting.{moved}
 
@@ -190,64 +188,6 @@ by_shard_more versions v lists lists' list by within is set_to shard found at = 
         by shard found (slice_get-get_or lists shard found inside ∙ ap Some (sym there ∙ new)) ∙ sym (append-nil (of_shard shard versions))
         ∙ sym (whole false e)
 
--- the last list
-pub by_shard_last : (versions : List Version) (lists : List (List Version)) (last : List Version) → AreByShard versions (lists ++ last ∷ [])
-    → last ≡ of_shard (length lists) versions
-by_shard_last versions lists last by = by (length lists) last (at_end lists)
-  where
-    at_end : (l : List (List Version)) → slice_get (l ++ last ∷ []) (length l) ≡ Some last
-    at_end [] = refl
-    at_end (x ∷ l) = at_end l
-
-pub by_shard_first : (versions : List Version) (lists : List (List Version)) (last : List Version) → AreByShard versions (lists ++ last ∷ [])
-    → AreByShard versions lists
-by_shard_first versions lists last by shard list at = by shard list (before lists shard at)
-  where
-    before : (l : List (List Version)) (n : ℕ) → slice_get l n ≡ Some list → slice_get (l ++ last ∷ []) n ≡ Some list
-    before [] n at = absurd cc
-    before (x ∷ l) zero at = at
-    before (x ∷ l) (suc n) at = before l n at
-
--- ---- pieces
-
-pub no_pieces : (versions : List Version) → ArePiecesFrom versions SHARDS []
-unfolding ArePiecesFrom
-no_pieces versions = λ v h. omega arith
-
--- one shard more that has no version
-pub pieces_skip : (versions : List Version) (from : ℕ) (pieces : List Piece) → of_shard from versions ≡ [] → ArePiecesFrom versions (from + 1) pieces
-    → ArePiecesFrom versions from pieces
-unfolding ArePiecesFrom
-pieces_skip versions from [] none are = λ v h. let apart : shard_of v.key ≢ from = none_kept from versions v none h in omega (arith, are v h, apart)
-pieces_skip versions from (piece ∷ pieces) none are = (
-  omega (arith, are.0),
-  are.1,
-  λ v h on. let apart : shard_of v.key ≢ from = none_kept from versions v none h in are.2 v h (omega (arith, on, apart)),
-  are.3,
-  are.4,
-  are.5,
-)
-
--- one shard more that has versions
-pub pieces_more : (versions : List Version) (from : ℕ) (piece : Piece) (pieces more : List Piece) → more ≡ piece ∷ pieces → piece.shard ≡ from → from < SHARDS
-    → piece.nodes ≡ of_shard from versions → of_shard from versions ≢ [] → ArePiecesFrom versions (from + 1) pieces
-    → ArePiecesFrom versions from more
-unfolding ArePiecesFrom
-pieces_more versions from piece pieces more put is within own some are =
-    subst (ArePiecesFrom versions from) (sym put)
-    (subst (λ (s : ℕ). (from ≤ s) × (s < SHARDS) × ((version : Version) → Contains versions version → from ≤ shard_of version.key → s ≤ shard_of version.key)
-    × (piece.nodes ≡ of_shard s versions) × (of_shard s versions ≢ []) × ArePiecesFrom versions (s + 1) pieces) (sym is)
-    (omega arith, within, λ v h on. on, own, some, are))
-
--- lists that are all empty, of which one more is
-pub empty_more : (xs ys : List (List Version)) (x : List Version) → ys ≡ xs ++ x ∷ [] → x ≡ [] → AllByRecursion (λ (l : List Version). l ≡ []) xs
-    → AllByRecursion (λ (l : List Version). l ≡ []) ys
-empty_more xs ys x is none all = subst (AllByRecursion (λ (l : List Version). l ≡ [])) (sym is) (go xs all)
-  where
-    go : (xs : List (List Version)) → AllByRecursion (λ (l : List Version). l ≡ []) xs → AllByRecursion (λ (l : List Version). l ≡ []) (xs ++ x ∷ [])
-    go [] all = (none, tt)
-    go (y ∷ xs) all = (all.0, go xs all.1)
-
 -- the same where the shard is known by its number
 pub by_shard_added : (versions : List Version) (v : Version) (lists : List (List Version)) (shard : ℕ) (was now : List Version) → AreByShard versions lists
     → shard ≡ shard_of v.key → shard < length lists → was ≡ get_or lists shard was → now ≡ was ++ v ∷ []
@@ -257,24 +197,10 @@ by_shard_added versions v lists shard was now by own within is more =
     (subst (λ (n : ℕ). was ≡ get_or lists n was) own is)
     (ap (λ (n : ℕ). set lists n now) own ∙ ap (λ (l : List Version). set lists (shard_of v.key) l) more)
 
-pub taken_last : (old new : List (List Version)) (last : List Version) → old ≡ new ++ last ∷ [] → (versions : List Version) → AreByShard versions old
-    → AreByShard versions new × (last ≡ of_shard (length new) versions)
-taken_last old new last is versions by =
-    let both : AreByShard versions (new ++ last ∷ []) = subst (AreByShard versions) is by in
-    (by_shard_first versions new last both, by_shard_last versions new last both)
-
 pub one_less : {X : Type 0} (old new : List X) (x : X) → old ≡ new ++ x ∷ [] → length old ≡ length new + 1
 one_less {X = X} old new x is = omega (arith, ap (λ (l : List X). length l) is, length-append new (x ∷ []))
 
--- lists that were asked whether they are empty
+-- a list that was asked whether it is empty
 pub tested_empty : {X : Type 0} (xs : List X) → true ≡ eqb (length xs) 0 → xs ≡ []
 tested_empty [] test = refl
 tested_empty (x ∷ xs) test = absurd (grind (arith, nat_tests, test))
-
-pub tested_some : {X : Type 0} (xs : List X) → false ≡ eqb (length xs) 0 → xs ≢ []
-tested_some [] test none = grind (arith, nat_tests, test)
-tested_some (x ∷ xs) test none = absurd cc
-
-pub no_items : {X : Type 0} (xs : List X) → length xs ≡ 0 → xs ≡ []
-no_items [] none = refl
-no_items (x ∷ xs) none = absurd cc

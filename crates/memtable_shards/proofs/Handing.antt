@@ -1,55 +1,99 @@
--- The next piece, as it is handed out under its numbers.
-use Rattle.std.proofs.Common.{◌≡◌, ℕ, ◌+◌, ◌≤◌, ◌<◌, List, [], ◌∷◌, Some, refl, sym, ap, ◌∙◌, subst, arith}
+-- The next piece: the first list that is not empty, as it is handed out under its numbers.
+use Rattle.std.proofs.Common.{◌≡◌, inl, inr, ℕ, ◌+◌, ◌≤◌, ◌<◌, List, [], ◌∷◌, Option, Some, refl, sym, ap, ◌∙◌, subst, arith, get_or, length, length-set}
+use Rattle.std.specs.Prelude.{Contains, slice_get}
+use Rattle.std.proofs.Math.ListN.{set}
+use Rattle.std.proofs.lemmas.Bool.{cases_lt}
+use Rattle.std.proofs.lemmas.Option.{slice_get-get_or}
 use Rattle.wal_base.specs.declared.entry.Entry.{Entry}
-use Rattle.batch_repr.specs.declared.limits.TheConstants.{NUMBER_MAX}
-use Rattle.batch_repr.specs.Batches.{count_of}
+use Rattle.memtable_shards.specs.declared.sharding.TheConstants.{SHARDS}
 use Rattle.memtable_shards.specs.declared.version.Version.{Version}
-use Rattle.memtable_shards.specs.declared.part.Piece.{Piece}
 use Rattle.memtable_shards.specs.Versions.{versions_from, shard_of, of_shard}
 use Rattle.memtable_shards.specs.Pieces.{IsNextPiece, NoPieceIsLeft}
-use Rattle.memtable_shards.specs.Parts.{counted_from, MayWait, ArePiecesFrom}
+use Rattle.memtable_shards.specs.Parts.{counted_from, MayWait, AreEmptyBetween, IsFirstWithAny, AreCut}
 use Rattle.memtable_shards.proofs.Numbers.{number_within}
-use Rattle.memtable_shards.proofs.Cutting.{moved_piece, own_piece, kept_from, before_numbered}
+use Rattle.memtable_shards.proofs.Cutting.{moved_piece, own_piece, none_kept, kept_from, before_numbered}
+use Rattle.memtable_shards.proofs.Applying.{changed}
 
-pub piece_waits : (first from : ℕ) (entries : List Entry) (piece : Piece) (rest : List Piece)
-    → ArePiecesFrom (versions_from 0 entries) from (piece ∷ rest) → first + count_of entries ≤ NUMBER_MAX → MayWait (counted_from first piece.nodes)
-unfolding ArePiecesFrom
-piece_waits first from entries piece rest are within =
-    subst MayWait (sym (ap (counted_from first) are.3 ∙ moved_piece piece.shard first entries)) (record {
-      numbers = λ v h. omega (arith, (number_within first entries v (kept_from piece.shard (versions_from first entries) v h).0).1, within);
-      apart = own_piece piece.shard first entries;
+-- one list more that is empty
+pub empty_more : (lists : List (List Version)) (from shard : ℕ) (list : List Version) → AreEmptyBetween lists from shard
+    → slice_get lists shard ≡ Some list → list ≡ [] → AreEmptyBetween lists from (shard + 1)
+empty_more lists from shard list empty at none s l on within found = elim (cases_lt s shard) [
+  | inl before ↦ empty s l on before found
+  | inr here ↦
+      let same : s ≡ shard = omega (arith, within, here) in
+      let is : Some l ≡ Some list = sym found ∙ ap (λ (n : ℕ). slice_get lists n) same ∙ at in
+      let it : l ≡ list = cc in
+      it ∙ none
+]
+
+-- the list that was looked for
+found_at : (lists : List (List Version)) (from shard : ℕ) (list other : List Version) → length lists ≡ SHARDS → IsFirstWithAny lists from shard
+    → list ≡ get_or lists shard other → slice_get lists shard ≡ Some list
+found_at lists from shard list other eight next is = slice_get-get_or lists shard other (omega (arith, next.within, eight)) ∙ ap Some (sym is)
+
+pub piece_waits : (entries : List Entry) (first from shard : ℕ) (lists : List (List Version)) (list other : List Version)
+    → AreCut entries (Some first) from lists → IsFirstWithAny lists from shard → list ≡ get_or lists shard other → MayWait (counted_from first list)
+piece_waits entries first from shard lists list other cut next is =
+    subst MayWait (sym (ap (counted_from first) own ∙ moved_piece shard first entries)) (record {
+      numbers = λ v h. omega (arith, (number_within first entries v (kept_from shard (versions_from first entries) v h).0).1, cut.within);
+      apart = own_piece shard first entries;
     })
-
-pub next_piece : (entries : List Entry) (first from : ℕ) (piece : Piece) (rest : List Piece) (nodes : List Version)
-    → ArePiecesFrom (versions_from 0 entries) from (piece ∷ rest) → nodes ≡ counted_from first piece.nodes
-    → IsNextPiece (record { entries = entries; first = Some first; from = from }) piece.shard nodes
-unfolding ArePiecesFrom
-next_piece entries first from piece rest nodes are is =
-    let versions : nodes ≡ of_shard piece.shard (versions_from first entries) = is ∙ ap (counted_from first) are.3 ∙ moved_piece piece.shard first entries in
-    record {
-      on = are.0;
-      within = are.1;
-      next = λ v h on. let was = before_numbered first entries v h in subst (λ (key : List ℕ). piece.shard ≤ shard_of key) was.2
-          (are.2 was.0 was.1 (subst (λ (key : List ℕ). from ≤ shard_of key) (sym was.2) on));
-      own = versions;
-      some = λ (none : nodes ≡ []). are.4 (none_moved first (of_shard piece.shard (versions_from 0 entries))
-          (moved_piece piece.shard first entries ∙ sym versions ∙ none));
-    }
   where
-    none_moved : (n : ℕ) (xs : List Version) → counted_from n xs ≡ [] → xs ≡ []
-    none_moved n [] none = refl
-    none_moved n (x ∷ xs) none = absurd cc
+    own : list ≡ of_shard shard (versions_from 0 entries)
+    own = cut.left shard list next.on (found_at lists from shard list other cut.eight next is)
 
-pub pieces_rest : (versions : List Version) (from : ℕ) (piece : Piece) (rest : List Piece) → ArePiecesFrom versions from (piece ∷ rest)
-    → ArePiecesFrom versions (piece.shard + 1) rest
-unfolding ArePiecesFrom
-pieces_rest versions from piece rest are = are.5
+-- Where lists are empty up to a shard, so are the versions' shards not before it.
+none_before : (entries : List Entry) (numbered : Option ℕ) (from shard : ℕ) (lists : List (List Version)) → AreCut entries numbered from lists
+    → AreEmptyBetween lists from shard → shard ≤ SHARDS → (v : Version) → Contains (versions_from 0 entries) v → from ≤ shard_of v.key
+    → shard ≤ shard_of v.key
+none_before entries numbered from shard lists cut empty within v h on = elim (cases_lt (shard_of v.key) shard) [
+  | inl low ↦
+      let own : ℕ = shard_of v.key in
+      let at : slice_get lists own ≡ Some (get_or lists own []) = slice_get-get_or lists own [] (omega (arith, low, within, cut.eight)) in
+      absurd (none_kept own (versions_from 0 entries) v (sym (cut.left own (get_or lists own []) on at) ∙ empty own (get_or lists own []) on low at) h refl)
+  | inr high ↦ high
+]
 
-pub shard_within : (versions : List Version) (from : ℕ) (piece : Piece) (rest : List Piece) → ArePiecesFrom versions from (piece ∷ rest) → piece.shard < 8
-unfolding ArePiecesFrom
-shard_within versions from piece rest are = are.1
+pub next_piece : (entries : List Entry) (first from shard : ℕ) (lists : List (List Version)) (list other nodes : List Version)
+    → AreCut entries (Some first) from lists → IsFirstWithAny lists from shard → list ≡ get_or lists shard other → nodes ≡ counted_from first list
+    → IsNextPiece (record { entries = entries; first = Some first; from = from }) shard nodes
+next_piece entries first from shard lists list other nodes cut next is numbered = record {
+  on = next.on;
+  within = next.within;
+  next = λ v h on. let was = before_numbered first entries v h in subst (λ (key : List ℕ). shard ≤ shard_of key) was.2
+      (none_before entries (Some first) from shard lists cut next.before (omega (arith, next.within)) was.0 was.1
+      (subst (λ (key : List ℕ). from ≤ shard_of key) (sym was.2) on));
+  own = numbered ∙ ap (counted_from first) (cut.left shard list next.on at) ∙ moved_piece shard first entries;
+  some = λ (none : nodes ≡ []). next.some list at (none_moved list (sym numbered ∙ none));
+}
+  where
+    at : slice_get lists shard ≡ Some list
+    at = found_at lists from shard list other cut.eight next is
 
-pub none_left : (entries : List Entry) (first from : ℕ) → ArePiecesFrom (versions_from 0 entries) from []
-    → NoPieceIsLeft (record { entries = entries; first = Some first; from = from })
-unfolding ArePiecesFrom
-none_left entries first from are = λ v h. let was = before_numbered first entries v h in subst (λ (key : List ℕ). shard_of key < from) was.2 (are was.0 was.1)
+    none_moved : (xs : List Version) → counted_from first xs ≡ [] → xs ≡ []
+    none_moved [] none = refl
+    none_moved (x ∷ xs) none = absurd cc
+
+-- The lists after the one that was taken are as they were.
+pub cut_rest : (entries : List Entry) (numbered : Option ℕ) (from shard : ℕ) (lists : List (List Version)) → AreCut entries numbered from lists
+    → IsFirstWithAny lists from shard → AreCut entries numbered (shard + 1) (set lists shard [])
+cut_rest entries numbered from shard lists cut next = record {
+  eight = length-set lists shard [] ∙ cut.eight;
+  left = λ s l on at. elim (changed lists shard (get_or lists shard []) [] s l there at) [
+    | inl same ↦ absurd (omega (arith, on, same.0))
+    | inr other ↦ cut.left s l (omega (arith, next.on, on)) other.1
+  ];
+  within = cut.within;
+}
+  where
+    there : slice_get lists shard ≡ Some (get_or lists shard [])
+    there = slice_get-get_or lists shard [] (omega (arith, next.within, cut.eight))
+
+pub none_left : (entries : List Entry) (first from : ℕ) (lists : List (List Version)) → AreCut entries (Some first) from lists
+    → AreEmptyBetween lists from SHARDS → NoPieceIsLeft (record { entries = entries; first = Some first; from = from })
+none_left entries first from lists cut empty v h =
+    let was = before_numbered first entries v h in
+    subst (λ (key : List ℕ). shard_of key < from) was.2 (elim (cases_lt (shard_of was.0.key) from) [
+      | inl low ↦ low
+      | inr on ↦ absurd (omega (arith, none_before entries (Some first) from SHARDS lists cut empty (omega arith) was.0 was.1 on))
+    ])

@@ -1,12 +1,11 @@
 -- Versions that are linked, and not in the index yet. Nothing of it is seen from outside.
-use Rattle.std.specs.Prelude.{◌≡◌, ◌≢◌, ℕ, ◌+◌, ◌<◌, ◌≤◌, List, [], ◌∷◌, ◌++◌, Option, Some, Contains, map, slice_get, MatchOption, ⊤}
+use Rattle.std.specs.Prelude.{◌≡◌, ◌≢◌, ℕ, ◌+◌, ◌<◌, ◌≤◌, List, [], ◌∷◌, ◌++◌, length, Option, Some, Contains, map, slice_get, MatchOption, ⊤}
 use Rattle.wal_base.specs.declared.entry.Entry.{Entry}
 use Rattle.batch_repr.specs.declared.limits.TheConstants.{NUMBER_MAX}
 use Rattle.batch_repr.specs.Batches.{count_of}
 use Rattle.memtable_shards.specs.declared.sharding.TheConstants.{SHARDS}
 use Rattle.memtable_shards.specs.declared.version.Version.{Version}
-use Rattle.memtable_shards.specs.declared.part.Piece.{Piece}
-use Rattle.memtable_shards.specs.Versions.{versions_from, shard_of, of_shard}
+use Rattle.memtable_shards.specs.Versions.{versions_from, of_shard}
 
 -- versions whose numbers were counted from this one on
 abbrev pub counted_from : ℕ → List Version → List Version
@@ -26,19 +25,6 @@ pub record MayWait (waiting : List Version) : Type 0 where
   pub numbers : HaveNumbers waiting
   pub apart : HaveOwnNumbers waiting
 
--- There is a piece for each shard from there on that has a version, in order.
-unfoldable pub ArePiecesFrom : List Version → ℕ → List Piece → Type 0
-ArePiecesFrom versions from [] = (version : Version) → Contains versions version → shard_of version.key < from
-ArePiecesFrom versions from (piece ∷ pieces) =
-    (from ≤ piece.shard) × (piece.shard < SHARDS) × ((version : Version) → Contains versions version → from ≤ shard_of version.key
-    → piece.shard ≤ shard_of version.key)
-    × (piece.nodes ≡ of_shard piece.shard versions) × (of_shard piece.shard versions ≢ []) × ArePiecesFrom versions (piece.shard + 1) pieces
-
--- The pieces are those of the entries, and the numbers that they have, if any, are within the limit.
-pub record AreCut (entries : List Entry) (first : Option ℕ) (from : ℕ) (pieces : List Piece) : Type 0 where
-  pub left : ArePiecesFrom (versions_from 0 entries) from pieces
-  pub within : MatchOption first ⊤ (λ number. number + count_of entries ≤ NUMBER_MAX)
-
 -- Each of the lists has the versions of the shard at its place.
 abbrev pub AreByShard : List Version → List (List Version) → Type 0
 AreByShard versions lists = (shard : ℕ) (list : List Version) → slice_get lists shard ≡ Some list → list ≡ of_shard shard versions
@@ -47,6 +33,19 @@ AreByShard versions lists = (shard : ℕ) (list : List Version) → slice_get li
 abbrev pub AddsByShard : Version → List (List Version) → List (List Version) → Type 0
 AddsByShard version old new = (versions : List Version) → AreByShard versions old → AreByShard (versions ++ version ∷ []) new
 
--- The pieces are made of the lists.
-abbrev pub ArePiecesOfLists : List (List Version) → List Piece → Type 0
-ArePiecesOfLists lists pieces = (versions : List Version) → AreByShard versions lists → ArePiecesFrom versions 0 pieces
+-- The lists between two places are empty.
+abbrev pub AreEmptyBetween : List (List Version) → ℕ → ℕ → Type 0
+AreEmptyBetween lists from end = (shard : ℕ) (list : List Version) → from ≤ shard → shard < end → slice_get lists shard ≡ Some list → list ≡ []
+
+-- The shard is the first one from there on whose list is not empty.
+pub record IsFirstWithAny (lists : List (List Version)) (from shard : ℕ) : Type 0 where
+  pub on : from ≤ shard
+  pub within : shard < SHARDS
+  pub before : AreEmptyBetween lists from shard
+  pub some : (list : List Version) → slice_get lists shard ≡ Some list → list ≢ []
+
+-- The lists from there on have the versions of the entries, and the numbers that these have, if any, are within the limit.
+pub record AreCut (entries : List Entry) (first : Option ℕ) (from : ℕ) (lists : List (List Version)) : Type 0 where
+  pub eight : length lists ≡ SHARDS
+  pub left : (shard : ℕ) (list : List Version) → from ≤ shard → slice_get lists shard ≡ Some list → list ≡ of_shard shard (versions_from 0 entries)
+  pub within : MatchOption first ⊤ (λ number. number + count_of entries ≤ NUMBER_MAX)

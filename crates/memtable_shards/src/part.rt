@@ -1,4 +1,4 @@
-//! The versions of one batch that belong to one shard, each in a node of a list.
+//! What is found of a key in versions that are linked.
 
 ghost use Rattle.std.specs.Prelude.{◌∷◌, []};
 ghost use Rattle.memtable_shards.specs.Newest.{FindsNewest};
@@ -6,13 +6,6 @@ ghost use Rattle.memtable_shards.specs.Newest.{FindsNewest};
 use crate::found::Found;
 use crate::version::Version;
 use std::collections::LinkedList;
-
-/// Versions, and the shard that they are for.
-#[derive(Drop)]
-pub(crate) struct Piece {
-    pub(crate) shard: usize,
-    pub(crate) nodes: LinkedList<Version>,
-}
 
 /// What is found of a key in one version.
 fn find_in_one<'a>(version: &'a Version, key: &[u8], below: u64) -> Found<'a>

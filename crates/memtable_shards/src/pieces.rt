@@ -7,18 +7,22 @@ ghost use Rattle.batch_repr.specs.declared.limits.TheConstants.{NUMBER_MAX};
 ghost use Rattle.batch_repr.specs.Batches.{count_of};
 ghost use Rattle.memtable_shards.specs.Versions.{versions_from};
 ghost use Rattle.memtable_shards.specs.Parts.{counted_from, MayWait};
-ghost use Rattle.memtable_shards.specs.Parts.{AreByShard, AddsByShard, ArePiecesOfLists};
+ghost use Rattle.memtable_shards.specs.Parts.{AreByShard, AddsByShard};
+ghost use Rattle.memtable_shards.specs.Parts.{AreEmptyBetween, IsFirstWithAny};
 ghost use Rattle.memtable_shards.specs.Pieces.{whole_pieces, IsNextPiece, NoPieceIsLeft};
 
-use crate::part::Piece;
 use crate::sharding::{SHARDS, shard_index};
 use crate::version::Version;
 use batch_repr::Unnumbered;
 use std::alloc::Global;
-use std::collections::{LinkedList, VecDeque};
+use std::collections::LinkedList;
 use std::marker::Model;
 use std::snapshot::Snapshot;
+use std::{array, mem};
 use wal_base::{Entries, Entry, NoMemory};
+
+/// The versions for each shard, at its place.
+type Lists = [LinkedList<Version>; SHARDS];
 
 /// The versions that a batch has for one shard, in nodes that are linked without memory.
 /// Contracts see the list of them.
@@ -46,7 +50,8 @@ pub struct Pieces {
     entries: Snapshot<Entries>,
     first: Option<u64>,
     from: usize,
-    left: VecDeque<Piece>,
+    /// Those before `from` were handed out.
+    lists: Lists,
 }
 
 impl Model for Pieces {
@@ -57,7 +62,7 @@ impl Model for Pieces {
 
     ghost view = { λ a. record { entries = a.entries.value; first = a.first; from = a.from } };
 
-    ghost invariant = { λ a. AreCut a.entries.value a.first a.from a.left.items };
+    ghost invariant = { λ a. AreCut a.entries.value a.first a.from a.lists };
 }
 
 impl Pieces {
@@ -82,11 +87,34 @@ impl Pieces {
         let Some(first) = self.first else {
             unreachable!();
         };
-        let Piece { shard, nodes } = self.left.pop_front()?;
-        let nodes = number_nodes(nodes, first);
+        let shard = first_with_any(&self.lists, self.from)?;
+        let nodes = number_nodes(take_list(&mut self.lists[shard]), first);
         self.from = shard + 1;
         Some((shard, PieceNode { nodes }))
     }
+}
+
+/// The first shard from this one on that has a version.
+fn first_with_any(lists: &Lists, from: usize) -> Option<usize>
+    requires { length lists.now ≡ SHARDS }
+    ensures some { IfSome result (IsFirstWithAny lists.now from) }
+    ensures none { IfNone result (AreEmptyBetween lists.now from SHARDS) }
+{
+    for shard in from..SHARDS {
+        if !lists[shard].is_empty() {
+            return Some(shard);
+        }
+    }
+    None
+}
+
+/// Takes a list, and leaves an empty one. It takes no memory.
+fn take_list(list: &mut LinkedList<Version>) -> LinkedList<Version>
+    ensures taken { result ≡ list.old }
+    ensures left { list.new ≡ [] }
+{
+    let empty = LinkedList::new(*list.allocator());
+    mem::replace(list, empty)
 }
 
 /// Adds a first number to that of each version, and links the nodes anew. It takes no memory.
@@ -119,26 +147,20 @@ pub fn split(alloc: Global, batch: &Unnumbered) -> Result<Pieces, NoMemory>
 pub fn split_entries(alloc: Global, entries: &Entries) -> Result<Pieces, NoMemory>
     ensures { IfOk result (λ pieces. pieces ≡ whole_pieces entries.now) }
 {
-    let parts = sort_versions(alloc, entries.as_slice())?;
-    let left = make_pieces(alloc, parts)?;
     Ok(Pieces {
         entries: Snapshot::of(entries),
         first: None,
         from: 0,
-        left,
+        lists: sort_versions(alloc, entries.as_slice())?,
     })
 }
 
-/// A list of no version for each shard.
-fn empty_parts(alloc: Global) -> Result<Vec<LinkedList<Version>>, NoMemory>
-    ensures eight { IfOk result (λ parts. length parts.items ≡ SHARDS) }
-    ensures own { IfOk result (λ parts. AreByShard [] parts.items) }
+/// A list of no version for each shard. It takes no memory.
+fn empty_lists(alloc: Global) -> Lists
+    ensures eight { length result ≡ SHARDS }
+    ensures own { AreByShard [] result }
 {
-    let mut parts = Vec::with_capacity(alloc, SHARDS)?;
-    for _ in 0..SHARDS {
-        parts.push(LinkedList::new(alloc))?;
-    }
-    Ok(parts)
+    array::from_fn(|_| LinkedList::new(alloc))
 }
 
 /// The version that an entry leaves under a number: none where it is a note.
@@ -161,48 +183,28 @@ fn version_of(entry: &Entry, number: u64) -> Result<Option<Version>, NoMemory>
 }
 
 /// Adds a version at the end of its shard's list.
-fn add_version(parts: &mut Vec<LinkedList<Version>>, version: Version) -> Result<(), NoMemory>
-    requires eight { length parts.old.items ≡ SHARDS }
-    ensures eight { length parts.new.items ≡ SHARDS }
-    ensures added { OnOk result (AddsByShard version parts.old.items parts.new.items) }
+fn add_version(lists: &mut Lists, version: Version) -> Result<(), NoMemory>
+    requires eight { length lists.old ≡ SHARDS }
+    ensures eight { length lists.new ≡ SHARDS }
+    ensures added { OnOk result (AddsByShard version lists.old lists.new) }
 {
     let shard = shard_index(version.key.as_slice());
-    parts[shard].push_back(version)?;
+    lists[shard].push_back(version)?;
     Ok(())
 }
 
 /// The versions of the entries, numbered from 0 on, by their shards.
-fn sort_versions(alloc: Global, entries: &[Entry]) -> Result<Vec<LinkedList<Version>>, NoMemory>
-    ensures eight { IfOk result (λ parts. length parts.items ≡ SHARDS) }
-    ensures own { IfOk result (λ parts. AreByShard (versions_from 0 entries.now) parts.items) }
+fn sort_versions(alloc: Global, entries: &[Entry]) -> Result<Lists, NoMemory>
+    ensures eight { IfOk result (λ lists. length lists ≡ SHARDS) }
+    ensures own { IfOk result (λ lists. AreByShard (versions_from 0 entries.now) lists) }
 {
-    let mut parts = empty_parts(alloc)?;
+    let mut lists = empty_lists(alloc);
     let mut number = 0;
     for entry in entries {
         if let Some(version) = version_of(entry, number)? {
-            add_version(&mut parts, version)?;
+            add_version(&mut lists, version)?;
             number += 1;
         }
     }
-    Ok(parts)
-}
-
-/// A piece of each list that has a version, in order.
-fn make_pieces(
-    alloc: Global,
-    mut parts: Vec<LinkedList<Version>>,
-) -> Result<VecDeque<Piece>, NoMemory>
-    requires eight { length parts.items ≡ SHARDS }
-    ensures { IfOk result (λ pieces. ArePiecesOfLists parts.items pieces.items) }
-{
-    let mut pieces = VecDeque::new(alloc);
-    while let Some(nodes) = parts.pop() {
-        if !nodes.is_empty() {
-            pieces.push_front(Piece {
-                shard: parts.len(),
-                nodes,
-            })?;
-        }
-    }
-    Ok(pieces)
+    Ok(lists)
 }
