@@ -16,6 +16,9 @@ use std::alloc::Global;
 use std::marker::Model;
 use wal_base::{Blob, NoMemory};
 
+/// How many versions of a shard wait before a commit moves them into its index together.
+const MANY: usize = 32;
+
 /// The versions of the keys, in shards. Contracts see the versions of each.
 #[derive(Drop)]
 pub(crate) struct Shards {
@@ -83,8 +86,8 @@ impl Shards {
         }
     }
 
-    /// Adds the versions of a batch, whose first number is the next one, and moves them into the indexes. What memory does
-    /// not allow waits where it was linked, and is found there.
+    /// Adds the versions of a batch, whose first number is the next one, and moves them into the indexes once many wait
+    /// there. What memory does not allow waits where it was linked, and is found there.
     pub(crate) fn add(&mut self, pieces: Pieces, first: u64)
         requires whole { pieces ≡ whole_pieces pieces.entries }
         requires some { 0 < count_of pieces.entries }
@@ -93,26 +96,26 @@ impl Shards {
         ensures { GainBatch (record { first = first; entries = pieces.entries }) self.old self.new }
     {
         self.apply(pieces, first);
-        self.settle_all();
+        self.settle_many();
     }
 
-    /// Moves what was applied into the indexes, as far as memory allows.
-    fn settle_all(&mut self)
+    /// Moves what was applied into the indexes where many wait, as far as memory allows.
+    fn settle_many(&mut self)
         ensures { KeepBatches self.old self.new }
     {
         for shard in 0..SHARDS {
-            if self.settle(shard).is_err() {
+            if self.settle(shard, MANY).is_err() {
                 return;
             }
         }
     }
 
-    /// Moves what was applied to a shard into its index.
-    fn settle(&mut self, shard: usize) -> Result<(), NoMemory>
+    /// Moves what was applied to a shard into its index, where at least so many versions wait.
+    fn settle(&mut self, shard: usize, least: usize) -> Result<(), NoMemory>
         requires { shard < SHARDS }
         ensures { KeepBatches self.old self.new }
     {
-        self.shards[shard].settle()
+        self.shards[shard].settle_from(least)
     }
 
     /// What is read of a key below this number. Its shard is settled first.
@@ -121,7 +124,7 @@ impl Shards {
         ensures read { IfOk result (ReadsOwnShard self.new key.now below) }
     {
         let shard = shard_index(key);
-        self.settle(shard)?;
+        self.settle(shard, 1)?;
         match self.shards[shard].newest(key, below) {
             Found::Nothing | Found::Gone { .. } => Ok(None),
             Found::Value { bytes, .. } => Ok(Some(Blob::copy_of(self.alloc, bytes)?)),

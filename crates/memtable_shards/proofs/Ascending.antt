@@ -1,8 +1,9 @@
 -- Stamps that ascend, with one more at its place, and where the newest one below a number stands.
-use Rattle.std.proofs.Common.{◌≡◌, inl, inr, ℕ, zero, suc, ◌-◌, ◌≤◌, ◌<◌, List, [], ◌∷◌, ◌++◌, None, Some, length, take, drop, refl, sym, ap, ◌∙◌, subst, arith, get_or}
+use Rattle.std.proofs.Common.{◌≡◌, inl, inr, ℕ, zero, suc, ◌-◌, ◌≤◌, ◌<◌, List, [], ◌∷◌, ◌++◌, None, Some, length, take, drop, refl, sym, ap, ◌∙◌, subst, arith, get_or, set}
 use Rattle.std.specs.Prelude.{Contains}
 use Rattle.std.specs.List.{AllByRecursion}
-use Rattle.std.proofs.lemmas.List.{take-append-drop, map-append, take_more}
+use Rattle.std.proofs.lemmas.List.{take-append-drop, map-append, take_more, length-take-le}
+use Rattle.std.proofs.Math.Seq.{set-append_seam}
 use Rattle.std.proofs.lemmas.List.Elements.{Contains-append_right, Contains-append_cases}
 use Rattle.wal_base.proofs.Laws.{none_within, within_head, within_cases}
 use Rattle.memtable_shards.specs.declared.index.Stamp.{Stamp}
@@ -86,6 +87,15 @@ up_to_none stamps (suc at) n none = absurd (omega (arith, none))
 
 pub put_at : (stamps : List Stamp) (at : ℕ) (stamp : Stamp) → IsPutIn stamps stamp (take at stamps ++ stamp ∷ drop at stamps)
 put_at stamps at stamp = record { before = take at stamps; after = drop at stamps; was = sym (take-append-drop at stamps); is = refl }
+
+-- A stamp that was put in is written over.
+pub written_over : (stamps put : List Stamp) (at : ℕ) (first stamp other : Stamp) → at ≤ length stamps
+    → put ≡ take at stamps ++ first ∷ drop at stamps → other ≡ stamp → set put at other ≡ take at stamps ++ stamp ∷ drop at stamps
+written_over stamps put at first stamp other within is same =
+    ap (λ (l : List Stamp). set l at other) is
+    ∙ ap (λ (i : ℕ). set (take at stamps ++ first ∷ drop at stamps) i other) (sym (length-take-le at stamps within))
+    ∙ set-append_seam (take at stamps) first (drop at stamps) other
+    ∙ ap (λ (s : Stamp). take at stamps ++ s ∷ drop at stamps) same
 
 pub ascend_at : (stamps : List Stamp) (at : ℕ) (stamp : Stamp) → AscendStamps stamps → AllUpTo stamp.number (take at stamps)
     → AllFrom stamp.number (drop at stamps) → AscendStamps (take at stamps ++ stamp ∷ drop at stamps)

@@ -1,5 +1,6 @@
 -- A shard's versions, as they are linked and moved into the index.
-use Rattle.std.proofs.Common.{◌≡◌, ◌⊎◌, inl, inr, ◌<◌, List, [], ◌∷◌, ◌++◌, length, drop, sym, ap, ◌∙◌, subst, arith, append_assoc, get_or}
+use Rattle.std.proofs.Common.{◌≡◌, ◌⊎◌, inl, inr, ℕ, ◌+◌, ◌<◌, ◌≤◌, List, [], ◌∷◌, ◌++◌, length, drop, take, set, refl, sym, ap, ◌∙◌, subst, arith}
+use Rattle.std.proofs.Common.{append_assoc, get_or, length-append}
 use Rattle.std.specs.Prelude.{Contains, ◌↔◌}
 use Rattle.std.proofs.lemmas.List.Elements.{Contains-append_left, Contains-append_right, Contains-append_cases}
 use Rattle.wal_base.proofs.Laws.{within_head, within_tail, within_cases}
@@ -66,3 +67,37 @@ pub one_settled : (was old new waiting rest : List Version) (version : Version) 
 one_settled was old new waiting rest version some is off adds wait same =
     let whole : waiting ≡ version ∷ rest = first_waits waiting version some is ∙ ap (λ (l : List Version). version ∷ l) (sym off) in
     (rest_waits waiting rest version whole wait, λ v. both (moved_in old new waiting rest version whole adds v) (same v))
+
+-- the rest of versions whose first one was written
+rest_written : (waiting : List Version) (version : Version) → drop 1 (set waiting 0 version) ≡ drop 1 waiting
+rest_written [] version = refl
+rest_written (v ∷ waiting) version = refl
+
+pub rest_moves : (waiting rest : List Version) (version : Version) → rest ≡ drop 1 (set waiting 0 version) → rest ≡ drop 1 waiting
+rest_moves waiting rest version off = off ∙ rest_written waiting version
+
+-- a first version that is as it was
+pub first_kept : (waiting : List Version) (version kept : Version) → 0 < length waiting → version ≡ get_or waiting 0 version → kept ≡ version
+    → set waiting 0 kept ≡ waiting
+first_kept [] version kept some is same = absurd (omega (arith, some))
+first_kept (v ∷ waiting) version kept some is same = ap (λ (w : Version). w ∷ waiting) (same ∙ is)
+
+-- those that were moved, with one more, are not more than waited
+pub few_moved : (moved waiting one : List Version) (version : Version) (most : ℕ) → one ≡ take 1 (set waiting 0 version)
+    → length moved + length waiting ≤ most → length moved + length one ≤ most
+few_moved moved [] one version most off few = rw off few
+few_moved moved (v ∷ waiting) one version most off few = rw off (omega (arith, few))
+
+pub count_moved : (moved all waiting one rest : List Version) (version : Version) (most : ℕ) → 0 < length waiting
+    → one ≡ take 1 (set waiting 0 version) → rest ≡ drop 1 (set waiting 0 version) → all ≡ moved ++ one
+    → length moved + length waiting ≤ most → length all + length rest ≤ most
+count_moved moved all [] one rest version most some off on is few = absurd (omega (arith, some))
+count_moved moved all (v ∷ waiting) one rest version most some off on is few =
+    omega (
+      arith,
+      few,
+      ap (λ (l : List Version). length l) is,
+      length-append moved one,
+      ap (λ (l : List Version). length l) off,
+      ap (λ (l : List Version). length l) on,
+    )

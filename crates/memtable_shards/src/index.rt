@@ -23,19 +23,29 @@ pub(crate) struct Stamp {
 /// The stamps of each key, ascending by number.
 pub(crate) type Index = BTreeMap<Vec<u8>, Vec<Stamp>, Global>;
 
-/// Adds a stamp after those with no greater number. Numbers mostly come in order, so the place is looked for
-/// from the end.
-fn push_stamp(stamps: &mut Vec<Stamp>, stamp: Stamp) -> Result<(), NoMemory>
+/// Adds a stamp after those with no greater number, and takes its value over once it is there. Numbers mostly come
+/// in order, so the place is looked for from the end.
+fn push_stamp(
+    stamps: &mut Vec<Stamp>,
+    number: u64,
+    value: &mut Option<Blob>,
+) -> Result<(), NoMemory>
     requires ascending { AscendStamps stamps.old.items }
     ensures ascending { AscendStamps stamps.new.items }
-    ensures ok { OnOk result (IsPutIn stamps.old.items stamp stamps.new.items) }
+    ensures ok { OnOk result (IsPutIn stamps.old.items (record { number = number; value = value.old }) stamps.new.items) }
     ensures err { OnErr result (stamps.new.items ≡ stamps.old.items) }
+    ensures kept { OnErr result (value.new ≡ value.old) }
 {
     let mut at = stamps.len();
-    while at > 0 && stamp.number < stamps[at - 1].number {
+    while at > 0 && number < stamps[at - 1].number {
         at -= 1;
     }
+    let stamp = Stamp {
+        number,
+        value: None,
+    };
     stamps.insert(at, stamp)?;
+    stamps[at].value = value.take();
     Ok(())
 }
 
@@ -64,22 +74,22 @@ fn share_value(value: &Option<Blob>) -> Result<Option<Blob>, NoMemory>
     }
 }
 
-/// Adds a version. Its key is copied where it is new, and its value is shared.
-pub(crate) fn put(alloc: Global, index: &mut Index, version: &Version) -> Result<(), NoMemory>
+/// Adds a version, and takes its value over. Its key is copied where it is new. After an error the version is as it was.
+pub(crate) fn put(alloc: Global, index: &mut Index, version: &mut Version) -> Result<(), NoMemory>
     requires ascending { AllAscend index.old.entries }
     ensures ascending { AllAscend index.new.entries }
-    ensures added { OnOk result (Adds (indexed index.old) version.now (indexed index.new)) }
+    ensures added { OnOk result (Adds (indexed index.old) version.old (indexed index.new)) }
     ensures same { OnErr result (indexed index.new ≡ indexed index.old) }
+    ensures kept { OnErr result (version.new ≡ version.old) }
 {
-    let value = share_value(&version.value)?;
-    let stamp = Stamp {
-        number: version.number,
-        value,
-    };
+    let number = version.number;
     let key = version.key.as_slice();
     match index.get_mut(key) {
-        Some(stamps) => push_stamp(stamps, stamp),
-        None => insert_key(alloc, index, key, stamp),
+        Some(stamps) => push_stamp(stamps, number, &mut version.value),
+        None => {
+            let value = share_value(&version.value)?;
+            insert_key(alloc, index, key, Stamp { number, value })
+        }
     }
 }
 

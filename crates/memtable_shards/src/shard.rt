@@ -62,11 +62,30 @@ impl Shard {
     pub fn settle(&mut self) -> Result<(), NoMemory>
         ensures { HasSameVersions self.old self.new }
     {
-        while let Some(version) = self.waiting.front() {
+        // What was moved is let go after all: each count of who shares bytes waits for all that was written before.
+        let mut moved = LinkedList::new(self.alloc);
+        while let Some(version) = self.waiting.front_mut() {
             put(self.alloc, &mut self.index, version)?;
-            self.waiting.pop_front();
+            let Ok(rest) = self.waiting.split_off(1) else {
+                unreachable!();
+            };
+            let Ok(()) = moved.append(&mut self.waiting) else {
+                unreachable!();
+            };
+            self.waiting = rest;
         }
         Ok(())
+    }
+
+    /// Moves what was applied into the index, where at least so many versions wait. The versions are the same afterwards,
+    /// on `Err` too.
+    pub fn settle_from(&mut self, least: usize) -> Result<(), NoMemory>
+        ensures { HasSameVersions self.old self.new }
+    {
+        if self.waiting.len() < least {
+            return Ok(());
+        }
+        self.settle()
     }
 
     /// The newest version of the key below a number. It looks at what is not settled, too.

@@ -4,7 +4,7 @@ use Rattle.memtable_shards.proofs.Ascending.{AllFrom}
 use Rattle.memtable_shards.proofs.index.push_stamp.Given as goal
 
 abbrev pub invariant-loop-at : goal.invariant-loop-at
-invariant-loop-at l = (l.at ≤ length l.stamps.items) × AllFrom l.stamp.number (drop l.at l.stamps.items)
+invariant-loop-at l = (l.at ≤ length l.stamps.items) × AllFrom l.number (drop l.at l.stamps.items)
 
 abbrev pub decreases-loop-at : goal.decreases-loop-at
 decreases-loop-at l = l.at

@@ -1,5 +1,5 @@
 -- A version more, at a key that is there or a new one.
-use Rattle.std.proofs.Common.{subst}
+use Rattle.std.proofs.Common.{refl, subst}
 use Rattle.std.specs.Prelude.{ℕ}
 use Rattle.std.specs.Global.{Vec}
 use Rattle.std.specs.BTreeMap.{BTreeMap}
@@ -22,8 +22,8 @@ returns-in-Some-clause-ascending c =
 pub returns-in-Some-clause-added : goal.returns-in-Some-clause-added
 returns-in-Some-clause-added c =
     on_ok_map c.push_stamp.result c.push_stamp.ensures.ok
-    (λ put. as_version _ _ c.as_slice-key.result.now c.args.version.now.key c.args.version.now.number c.args.version.now.value c.in_ok-value.value
-    c.as_slice-key.ensures c.in_ok-value.ensures
+    (λ put. as_version _ _ c.as_slice-key.result.now c.args.version.now.key c.args.version.now.number c.args.version.now.value
+    c.args.version.now.value c.as_slice-key.ensures refl
     (pushed_more c.as_slice-key.result.now c.args.index.now.entries
     (c.get_mut.follows.lender c.push_stamp.new.stamps).entries c.in-Some.stamps.now c.push_stamp.new.stamps _ c.in-Some.ensures.value
     (c.get_mut.follows.holds c.push_stamp.new.stamps).0 put))
@@ -35,11 +35,11 @@ returns-in-Some-clause-same c =
     (c.get_mut.follows.lender c.push_stamp.new.stamps).entries c.in-Some.stamps.now c.push_stamp.new.stamps c.in-Some.ensures.value
     (c.get_mut.follows.holds c.push_stamp.new.stamps).0 is)
 
-pub returns-in-None-clause-added : goal.returns-in-None-clause-added
-returns-in-None-clause-added c =
+pub returns-in_ok-value-in-None-clause-added : goal.returns-in_ok-value-in-None-clause-added
+returns-in_ok-value-in-None-clause-added c =
     on_ok_map c.insert_key.result c.insert_key.ensures.added
     (λ adds. subst (λ (map : BTreeMap (Vec ℕ) (Vec Stamp)). Adds (indexed map)
     c.args.version.now (indexed c.insert_key.new.index))
     c.get_mut.follows.holds-at-none
-    (as_version _ _ c.as_slice-key.result.now c.args.version.now.key c.args.version.now.number c.args.version.now.value c.in_ok-value.value
-    c.as_slice-key.ensures c.in_ok-value.ensures adds))
+    (as_version _ _ c.as_slice-key.result.now c.args.version.now.key c.args.version.now.number c.args.version.now.value c.in_ok-value-in-None.value
+    c.as_slice-key.ensures c.in_ok-value-in-None.ensures adds))

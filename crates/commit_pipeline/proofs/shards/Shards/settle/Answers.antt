@@ -13,5 +13,5 @@ returns c batches are =
     let was = get_or shards c.args.shard c.index-self-shard.result in
     let here : slice_get shards c.args.shard ≡ Some was =
     slice_get-get_or shards c.args.shard c.index-self-shard.result (omega (arith, c.requires, c.self.invariant)) in
-    shards_settled shards batches c.args.shard was c.settle.new.self (subst (λ (s : List (List Version)). AreShardsOf s batches) (sym c.self.view_is) are)
-    here c.settle.ensures
+    shards_settled shards batches c.args.shard was c.settle_from.new.self (subst (λ (s : List (List Version)). AreShardsOf s batches) (sym c.self.view_is) are)
+    here c.settle_from.ensures

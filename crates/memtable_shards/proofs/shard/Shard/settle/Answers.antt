@@ -1,37 +1,53 @@
--- Version by version, from the first.
-use Rattle.std.proofs.Common.{List, ◌++◌, refl, ap, subst}
+-- Version by version, from the first. Those that were moved are not too many to be linked.
+use Rattle.std.proofs.Common.{◌≡◌, true, false, List, ◌++◌, refl, ap, ◌∙◌, subst, arith, length, set}
 use Rattle.std.specs.Prelude.{Contains, ◌↔◌}
 use Rattle.memtable_shards.specs.declared.version.Version.{Version}
 use Rattle.memtable_shards.specs.Indexed.{indexed}
-use Rattle.memtable_shards.proofs.Settling.{same_set, one_settled}
+use Rattle.memtable_shards.proofs.Waiting.{few_versions}
+use Rattle.memtable_shards.proofs.Settling.{same_set, one_settled, rest_moves, first_kept, few_moved, count_moved}
 use Rattle.memtable_shards.proofs.shard.Shard.settle.Goals as goal
 
 pub loop-version-init : goal.loop-version-init
-loop-version-init c = (c.self.invariant, λ v. (λ h. h, λ h. h))
+loop-version-init c = (
+  c.self.invariant,
+  λ v. (λ h. h, λ h. h),
+  omega (arith, ap (λ (l : List Version). length l) c.new-moved.ensures),
+)
 
 pub returns-in_err-put : goal.returns-in_err-put
 returns-in_err-put c v =
     let waiting : List Version = c.loop-version.self-inside.waiting in
-    subst (λ (old : List Version). Contains (indexed c.put.new.index ++ waiting) v ↔ Contains old v) c.self.view_is
-    (same_set (indexed c.put.new.index ++ waiting) (indexed c.loop-version.self-inside.index ++ waiting)
-    (indexed c.self.inside.index ++ c.self.inside.waiting) v (ap (λ (l : List Version). l ++ waiting) c.in_err-put.ensures.same)
+    let left : List Version = set waiting 0 c.put.new.version in
+    let same : left ≡ waiting =
+    first_kept waiting c.in-Some.version.now c.put.new.version (c.in-Some.ensures.variant.0 refl) c.in-Some.ensures.value c.in_err-put.ensures.kept in
+    subst (λ (old : List Version). Contains (indexed c.put.new.index ++ left) v ↔ Contains old v) c.self.view_is
+    (same_set (indexed c.put.new.index ++ left) (indexed c.loop-version.self-inside.index ++ waiting)
+    (indexed c.self.inside.index ++ c.self.inside.waiting) v
+    (ap (λ (l : List Version). indexed c.put.new.index ++ l) same
+    ∙ ap (λ (l : List Version). l ++ waiting) c.in_err-put.ensures.same)
     (c.loop-version.invariant.1 v))
 
-pub loop-version-preserved-in_ok-put : goal.loop-version-preserved-in_ok-put
-loop-version-preserved-in_ok-put c =
-    let moves =
-    one_settled (indexed c.self.inside.index ++ c.self.inside.waiting) (indexed c.loop-version.self-inside.index) (indexed c.put.new.index)
-    c.loop-version.self-inside.waiting c.pop_front.new.self c.in-Some.version.now (c.in-Some.ensures.variant.0 refl) c.in-Some.ensures.lookup
-    c.pop_front.ensures.rest c.in_ok-put.ensures.added c.loop-version.invariant.0.ready c.loop-version.invariant.1 in
-    (record { ascending = c.put.ensures.ascending; ready = moves.0 }, moves.1)
+pub unreachable-requires-in_default-append : goal.unreachable-requires-in_default-append
+unreachable-requires-in_default-append c =
+    let fails : false ≡ true = c.in_default-append.ensures.succeeds (omega (
+      arith,
+      few_versions c.self.inside.waiting c.self.invariant.ready,
+      few_moved c.loop-version.moved c.loop-version.self-inside.waiting c.split_off.new.self c.put.new.version (length c.self.inside.waiting)
+          c.in-Ok.ensures.items c.loop-version.invariant.2,
+    )) in cc
 
-pub loop-version-preserved-in_ok-put-2 : goal.loop-version-preserved-in_ok-put-2
-loop-version-preserved-in_ok-put-2 c =
+pub loop-version-preserved : goal.loop-version-preserved
+loop-version-preserved c =
     let moves =
     one_settled (indexed c.self.inside.index ++ c.self.inside.waiting) (indexed c.loop-version.self-inside.index) (indexed c.put.new.index)
-    c.loop-version.self-inside.waiting c.pop_front.new.self c.in-Some.version.now (c.in-Some.ensures.variant.0 refl) c.in-Some.ensures.lookup
-    c.pop_front.ensures.rest c.in_ok-put.ensures.added c.loop-version.invariant.0.ready c.loop-version.invariant.1 in
-    (record { ascending = c.put.ensures.ascending; ready = moves.0 }, moves.1)
+    c.loop-version.self-inside.waiting c.in-Ok.rest c.in-Some.version.now (c.in-Some.ensures.variant.0 refl) c.in-Some.ensures.value
+    (rest_moves c.loop-version.self-inside.waiting c.in-Ok.rest c.put.new.version c.in-Ok.ensures.tail) c.in_ok-put.ensures.added
+    c.loop-version.invariant.0.ready c.loop-version.invariant.1 in (
+      record { ascending = c.put.ensures.ascending; ready = moves.0 },
+      moves.1,
+      count_moved c.loop-version.moved c.append.new.self c.loop-version.self-inside.waiting c.split_off.new.self c.in-Ok.rest c.put.new.version _
+          (c.in-Some.ensures.variant.0 refl) c.in-Ok.ensures.items c.in-Ok.ensures.tail c.in-Ok-append.ensures.items c.loop-version.invariant.2,
+    )
 
 pub returns : goal.returns
 returns c v = subst (λ (old : List Version). Contains (indexed c.loop-version.self-inside.index ++ c.loop-version.self-inside.waiting) v ↔ Contains old v)
