@@ -1,18 +1,18 @@
--- The rounds of a load so far, and those that are left. Its replies are noted as if a transcript kept them all.
-use Rattle.std.proofs.Common.{◌≡◌, ◌∙◌, ◌||◌, ◌++◌, Bool, false, List, [], ◌∷◌, refl, ap}
+-- The rounds of a load so far, and those that are left. Its replies are noted as if in one transcript, which keeps no line.
+use Rattle.std.proofs.Common.{◌≡◌, ◌∙◌, ◌||◌, Bool, false, List, [], ◌∷◌, None, refl, ap}
 use Rattle.session_script.specs.declared.script.Round.{Round}
 use Rattle.commit_pipeline.specs.Holding.{PipeStage}
 use Rattle.script_runner.specs.declared.transcript.Transcript.{Transcript}
 use Rattle.script_runner.specs.Acts.{HoldsMore}
-use Rattle.script_runner.specs.Transcripts.{any_limit, lines_text, IsEmptyTranscript}
+use Rattle.script_runner.specs.Transcripts.{any_limit, lines_text, with_lines, IsSilentTranscript}
 use Rattle.script_runner.specs.Turns.{AnswersRound}
 use Rattle.script_runner.specs.Rounds.{NameSessions, StallsPolls, HoldsAllowed}
 use Rattle.script_runner.specs.Works.{AnswersLoad}
 use Rattle.script_runner.proofs.RoundsSoFar.{RoundsSoFar, no_round_yet, holds_round, round_more, all_run}
 
--- a transcript of nothing
+-- a transcript of nothing, without its lines
 abbrev pub unsaid : Transcript
-unsaid = record { text = []; limited = false }
+unsaid = record { text = None; limited = false }
 
 pub record LoadSoFar (tells : Bool) (sessions : _) (all rest : List Round) (old new : PipeStage) (limited : Bool) : Type 0 where
   pub noted : Transcript
@@ -25,12 +25,12 @@ no_load_yet tells sessions all stage named = record { noted = unsaid; so = no_ro
 
 pub load_more : (tells : Bool) (sessions : _) (all old_rest rest : List Round) (round : Round) (old mid start new : PipeStage) (before now : Bool)
     (empty said : Transcript) → LoadSoFar tells sessions all old_rest old mid before → old_rest ≡ round ∷ rest → StallsPolls tells round.stalls mid start
-    → HoldsMore tells start new → IsEmptyTranscript empty → AnswersRound tells round.lines start new empty said → now ≡ (before || said.limited)
+    → HoldsMore tells start new → IsSilentTranscript empty → AnswersRound tells round.lines start new empty said → now ≡ (before || said.limited)
     → LoadSoFar tells sessions all rest old new now
 load_more tells sessions all old_rest rest round old mid start new before now empty said loaded e stalled on none answers now_is =
     let between : Transcript = loaded.noted in
     let after : Transcript = record {
-      text = between.text ++ lines_text answers.replies;
+      text = with_lines between.text (lines_text answers.replies);
       limited = between.limited || any_limit answers.replies;
     } in record {
       noted = after;

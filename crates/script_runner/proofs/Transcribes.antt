@@ -1,12 +1,12 @@
 -- Reply by reply, and round by round, a transcript is added to.
-use Rattle.std.proofs.Common.{◌≡◌, ℕ, Bool, true, false, ◌||◌, List, [], ◌∷◌, ◌++◌, refl, sym, ap, ◌∙◌, append_assoc}
+use Rattle.std.proofs.Common.{◌≡◌, ℕ, Bool, true, false, ◌||◌, List, [], ◌∷◌, ◌++◌, Option, Some, None, refl, sym, ap, ◌∙◌, append_assoc}
 use Rattle.std.specs.List.{flat_map, list_any}
 use Rattle.std.proofs.lemmas.List.{append-nil}
 use Rattle.std.proofs.lemmas.Grind.{flat_map-append}
 use Rattle.session_script.specs.Legal.{Replied}
 use Rattle.session_script.specs.Theorems.{tells_limit}
 use Rattle.script_runner.specs.declared.transcript.Transcript.{Transcript}
-use Rattle.script_runner.specs.Transcripts.{any_limit, lines_text, NotesReply, NotesReplies, NotesRounds}
+use Rattle.script_runner.specs.Transcripts.{any_limit, lines_text, with_lines, NotesReply, NotesReplies, NotesRounds}
 
 pub or_none : (a : Bool) → (a || false) ≡ a
 or_none true = refl
@@ -20,22 +20,32 @@ any-append : {X : Type 0} (test : X → Bool) (xs ys : List X) → list_any test
 any-append test [] ys = refl
 any-append test (x ∷ xs) ys = ap (λ (b : Bool). test x || b) (any-append test xs ys) ∙ sym (or_assoc (test x) (list_any test xs) (list_any test ys))
 
+-- ---- lines
+
+with_none : (text : Option (List ℕ)) → text ≡ with_lines text []
+with_none None = refl
+with_none (Some text) = ap Some (sym (append-nil text))
+
+with_both : (text : Option (List ℕ)) (xs ys : List ℕ) → with_lines (with_lines text xs) ys ≡ with_lines text (xs ++ ys)
+with_both None xs ys = refl
+with_both (Some text) xs ys = ap Some (append_assoc text xs ys)
+
 -- ---- replies
 
 pub notes_none : (transcript : Transcript) → NotesReplies [] transcript transcript
-notes_none transcript = record { text = sym (append-nil transcript.text); limited = sym (or_none transcript.limited) }
+notes_none transcript = record { text = with_none transcript.text; limited = sym (or_none transcript.limited) }
 
 pub notes_then : (xs ys : List Replied) (old mid new : Transcript) → NotesReplies xs old mid → NotesReplies ys mid new → NotesReplies (xs ++ ys) old new
 notes_then xs ys old mid new one two = record {
-  text = two.text ∙ ap (λ (t : List ℕ). t ++ lines_text ys) one.text ∙ append_assoc old.text (lines_text xs) (lines_text ys)
-      ∙ ap (λ (t : List ℕ). old.text ++ t) (sym (flat_map-append _ xs ys));
+  text = two.text ∙ ap (λ (t : Option (List ℕ)). with_lines t (lines_text ys)) one.text ∙ with_both old.text (lines_text xs) (lines_text ys)
+      ∙ ap (with_lines old.text) (sym (flat_map-append _ xs ys));
   limited = two.limited ∙ ap (λ (b : Bool). b || any_limit ys) one.limited ∙ or_assoc old.limited (any_limit xs) (any_limit ys)
       ∙ ap (λ (b : Bool). old.limited || b) (sym (any-append _ xs ys));
 }
 
 pub notes_one : (reply : Replied) (old new : Transcript) → NotesReply reply.line.session reply.said old new → NotesReplies (reply ∷ []) old new
 notes_one reply old new noted = record {
-  text = noted.text ∙ ap (λ (t : List ℕ). old.text ++ t) (sym (append-nil _));
+  text = noted.text ∙ ap (with_lines old.text) (sym (append-nil _));
   limited = noted.limited ∙ ap (λ (b : Bool). old.limited || b) (sym (or_none (tells_limit reply.said)));
 }
 
@@ -46,13 +56,14 @@ notes_push replies reply old mid new one noted = notes_then replies (reply ∷ [
 -- ---- rounds
 
 pub rounds_none : (transcript : Transcript) → NotesRounds [] transcript transcript
-rounds_none transcript = record { text = sym (append-nil transcript.text); limited = sym (or_none transcript.limited) }
+rounds_none transcript = record { text = with_none transcript.text; limited = sym (or_none transcript.limited) }
 
 pub rounds_push : (rounds : List (List Replied)) (replies : List Replied) (old mid new : Transcript) → NotesRounds rounds old mid
     → NotesReplies replies mid new → NotesRounds (rounds ++ replies ∷ []) old new
 rounds_push rounds replies old mid new one two = record {
-  text = two.text ∙ ap (λ (t : List ℕ). t ++ lines_text replies) one.text ∙ append_assoc old.text (flat_map lines_text rounds) (lines_text replies)
-      ∙ ap (λ (t : List ℕ). old.text ++ t) (ap (λ (t : List ℕ). flat_map lines_text rounds ++ t) (sym (append-nil (lines_text replies)))
+  text = two.text ∙ ap (λ (t : Option (List ℕ)). with_lines t (lines_text replies)) one.text
+      ∙ with_both old.text (flat_map lines_text rounds) (lines_text replies)
+      ∙ ap (with_lines old.text) (ap (λ (t : List ℕ). flat_map lines_text rounds ++ t) (sym (append-nil (lines_text replies)))
       ∙ sym (flat_map-append lines_text rounds (replies ∷ [])));
   limited = two.limited ∙ ap (λ (b : Bool). b || any_limit replies) one.limited ∙ or_assoc old.limited (list_any any_limit rounds) (any_limit replies)
       ∙ ap (λ (b : Bool). old.limited || b) (ap (λ (b : Bool). list_any any_limit rounds || b) (sym (or_none (any_limit replies)))

@@ -1,5 +1,5 @@
 -- What a run has said so far (docs/FORMATS.md, "The replies").
-use Rattle.std.specs.Prelude.{◌≡◌, ◌++◌, ◌||◌, ℕ, Bool, false, List, []}
+use Rattle.std.specs.Prelude.{◌≡◌, ◌++◌, ◌||◌, ℕ, Bool, false, List, [], Option, Some, None}
 use Rattle.std.specs.List.{flat_map, list_any}
 use Rattle.session_script.specs.declared.replies.Said.{Said}
 use Rattle.session_script.specs.Replies.{reply_line}
@@ -15,22 +15,32 @@ any_limit replies = list_any (λ (r : Replied). tells_limit r.said) replies
 abbrev pub lines_text : List Replied → List ℕ
 lines_text replies = flat_map (λ (r : Replied). reply_line r.line.session r.said) replies
 
+-- a text with more lines, where it is kept
+abbrev pub with_lines : Option (List ℕ) → List ℕ → Option (List ℕ)
+with_lines None lines = None
+with_lines (Some text) lines = Some (text ++ lines)
+
 -- Nothing was said.
 pub record IsEmptyTranscript (transcript : Transcript) : Type 0 where
-  pub text : transcript.text ≡ []
+  pub text : transcript.text ≡ Some []
+  pub limited : transcript.limited ≡ false
+
+-- Nothing was said, and no line is kept.
+pub record IsSilentTranscript (transcript : Transcript) : Type 0 where
+  pub text : transcript.text ≡ None
   pub limited : transcript.limited ≡ false
 
 -- A reply is added to it.
 pub record NotesReply (session : ℕ) (said : Said) (old new : Transcript) : Type 0 where
-  pub text : new.text ≡ old.text ++ reply_line session said
+  pub text : new.text ≡ with_lines old.text (reply_line session said)
   pub limited : new.limited ≡ (old.limited || tells_limit said)
 
 -- These replies are added to it.
 pub record NotesReplies (replies : List Replied) (old new : Transcript) : Type 0 where
-  pub text : new.text ≡ old.text ++ lines_text replies
+  pub text : new.text ≡ with_lines old.text (lines_text replies)
   pub limited : new.limited ≡ (old.limited || any_limit replies)
 
 -- The replies of these rounds are added to it.
 pub record NotesRounds (rounds : List (List Replied)) (old new : Transcript) : Type 0 where
-  pub text : new.text ≡ old.text ++ replies_text rounds
+  pub text : new.text ≡ with_lines old.text (replies_text rounds)
   pub limited : new.limited ≡ (old.limited || limit_told rounds)

@@ -14,7 +14,7 @@ use session_script::{LOAD_KEYS, Load, Round, load_key};
 use std::alloc::Global;
 use wal_base::NoMemory;
 
-/// Runs the rounds of a load, each made once the one before has been run, and its replies let go once they are noted.
+/// Runs the rounds of a load, each made once the one before has been run. Of its replies no line is kept.
 /// Answers whether one of them told a limit.
 pub(crate) fn run_load<D: StallDisk, G: Gate>(
     alloc: Global,
@@ -30,7 +30,7 @@ pub(crate) fn run_load<D: StallDisk, G: Gate>(
     let mut limited = false;
     while let Some(round) = load.next_round(alloc)? {
         let Round { stalls, lines } = round;
-        let mut transcript = Transcript::new(alloc)?;
+        let mut transcript = Transcript::silent();
         run_stalls(pipeline, stalls);
         run_turns(alloc, pipeline, sessions, lines, &mut transcript)?;
         limited = limited || transcript.limited;

@@ -39,6 +39,9 @@ fn perform_script<D: StallDisk, G: Gate>(
     let mut transcript = Transcript::new(alloc)?;
     run_rounds(alloc, pipeline, sessions, rounds, &mut transcript)?;
     let Transcript { text, limited } = transcript;
+    let Some(text) = text else {
+        unreachable!();
+    };
     Ok(Told {
         text,
         live: 0,

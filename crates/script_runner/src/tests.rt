@@ -102,7 +102,11 @@ fn check(
     text: &str,
 ) -> Result<(), Fail> {
     let Ran { transcript, .. } = run_text(rt, alloc, fresh, 3, script)?;
-    assert!(rt; transcript.text.as_slice() == text.as_bytes());
+    assert!(rt;
+        transcript
+            .text
+            .map_or(false, |lines| lines.as_slice() == text.as_bytes())
+    );
     assert!(rt; !transcript.limited);
     Ok(())
 }

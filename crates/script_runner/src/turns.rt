@@ -14,13 +14,13 @@ use std::alloc::Global;
 use std::collections::VecDeque;
 use wal_base::NoMemory;
 
-/// No line for each of so many sessions.
-fn empty_turns(alloc: Global, sessions: usize) -> Result<Vec<Lines>, NoMemory>
+/// No line for each of so many sessions, and room for so many lines of each.
+fn empty_turns(alloc: Global, sessions: usize, room: usize) -> Result<Vec<Lines>, NoMemory>
     ensures { IfOk result (λ turns. AreTurnsOf sessions [] turns.items) }
 {
     let mut turns = Vec::new(alloc);
     for _ in 0..sessions {
-        match turns.push(Lines::new(alloc)) {
+        match turns.push(Lines::with_capacity(alloc, room)?) {
             Ok(()) => {}
             Err(_) => return Err(NoMemory),
         }
@@ -33,7 +33,9 @@ fn deal(alloc: Global, lines: Lines, sessions: usize) -> Result<VecDeque<Lines>,
     requires named { AreOfSessions sessions lines }
     ensures { IfOk result (λ turns. AreTurnsOf sessions lines turns.items) }
 {
-    let mut turns = empty_turns(alloc, sessions)?;
+    // Where the sessions have as many lines each, none is moved as more come.
+    let room = lines.len() / sessions.max(1) + 1;
+    let mut turns = empty_turns(alloc, sessions, room)?;
     let mut left = Left::of(lines);
     while let Some(line) = left.take() {
         let session = line.session as usize;

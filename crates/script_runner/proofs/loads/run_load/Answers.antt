@@ -33,8 +33,8 @@ loop-round-preserved g c =
       load_more g.D.Disk.tells (length c.args.sessions.now.items) c.args.load c.loop-round.load c.next_round.new.self c.in-Some.round
           (pipe_stage g.D.Disk.view c.args.pipeline.now) (pipe_stage g.D.Disk.view c.loop-round.pipeline)
           (pipe_stage g.D.Disk.view c.run_stalls.new.pipeline) (pipe_stage g.D.Disk.view c.run_turns.new.pipeline)
-          c.loop-round.limited c.if-limited.limited c.in_ok-transcript.transcript c.run_turns.new.transcript
+          c.loop-round.limited c.if-limited.limited c.silent-transcript.result c.run_turns.new.transcript
           c.loop-round.invariant.1
-          (taken c.loop-round.load c.next_round.new.self c.in_ok-round.field-0 c.in-Some.round c.in_ok-round.ensures.some c.in-Some.is) c.run_stalls.ensures c.run_turns.ensures.on c.in_ok-transcript.ensures
+          (taken c.loop-round.load c.next_round.new.self c.in_ok-round.field-0 c.in-Some.round c.in_ok-round.ensures.some c.in-Some.is) c.run_stalls.ensures c.run_turns.ensures.on c.silent-transcript.ensures
           c.in_ok-run_turns.ensures.ran limited_is,
     )
