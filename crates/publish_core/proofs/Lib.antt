@@ -1,0 +1,19 @@
+pub mod Laws
+mod Put
+mod Frame
+mod Alone
+mod Steps
+mod Marking
+mod Front
+mod Joining
+mod Both
+mod Turns
+mod Kept
+mod Stored
+mod Lent
+mod Seated
+mod Answered
+mod Whose
+mod Rises
+mod Soundness
+mod Knows

@@ -1,0 +1,9 @@
+pub mod Machine
+pub mod Sound
+pub mod Schedule
+pub mod Parts
+pub mod Kept
+pub mod Answers
+pub mod Events
+pub mod Lent
+pub mod Seated
