@@ -1,0 +1,251 @@
+-- How a sound step of the ring's machine becomes a step that keeps the rule of the table.
+use Rattle.std.proofs.Common.{◌≡◌, ◌≢◌, ℕ, zero, suc, ◌+◌, ◌*◌, ◌^◌, ◌<◌, ◌≤◌, List, [], ◌∷◌, length, get_or, set, Some, sym, refl, ap, ◌∙◌, subst, ap₂, inl, inr, ⊎_elim, arith, length-set, get_or-set_other, get_or-set_same}
+use mathlib.Core.Option.{some}
+use lib.ListN.{get_elem?}
+use lib.Seq.{set-get_or}
+use Rattle.atomic_table.specs.Table.{Act, keeps, Valid, carried_after, stepped}
+use Rattle.atomic_table.proofs.Lists.{at_set}
+use Rattle.batch_repr.specs.declared.batch.Batch.{Batch}
+use Rattle.memtable_shards.specs.declared.version.Version.{Version}
+use Rattle.publish_core.specs.declared.seat.Kind.TheVariants.{Producer, Worker, Spent}
+use Rattle.publish_core.specs.declared.seat.SeatState.{SeatState}
+use Rattle.publish_core.specs.Machine.{updated, ends, visible, Acts}
+use Rattle.publish_core.proofs.Laws.{put_here, put_else, at_put}
+use Rattle.commit_queue.specs.declared.pipe_table.TableOpening.{TableOpening}
+use Rattle.commit_queue.specs.declared.view.AckedKnown.{AckedKnown}
+use Rattle.commit_queue.specs.declared.view.View.{View}
+use Rattle.commit_queue.specs.Shards.{HasVersions}
+use Rattle.commit_queue.specs.Rule.{RingState, Slot, TableState, numbers, IsSoundRing, turn_word, Shows, IsPrefix, ViewOk, AckedKnownOk, Linked}
+use Rattle.commit_queue.specs.Tells.{Seated}
+
+-- a seat that acts was not taken in
+pub acts_live : (d : SeatState) → Acts d → d.kind ≢ Spent
+acts_live d acts e = ⊎_elim (λ (a : d.kind ≡ Producer). let k : Spent ≡ Producer = sym e ∙ a in cc)
+    (λ (a : d.kind ≡ Worker). let k : Spent ≡ Worker = sym e ∙ a in cc) acts
+
+-- what a step of the seat id to the machine's state c' and the view w owes
+pub record Becomes (o : TableOpening) (s : TableState) (r : Linked o s) (id : ℕ) (words : List ℕ) (w : View) : Type 0 where
+  pub core : RingState
+  pub sound : IsSoundRing core
+  pub same_base : core.base ≡ r.core.base
+  pub same_made : core.made ≡ r.core.made
+  pub seats : core.seats ≡ updated r.core.seats id w.seat
+  pub longer : IsPrefix r.core.batches core.batches
+  pub others : id ≢ 0 → (core.batches ≡ r.core.batches) × (core.head ≡ r.core.head)
+  pub few : length core.batches ≤ 1048576
+  pub small : (i : ℕ) → i < length core.batches → ends numbers core.base core.batches (suc i) < 2 ^ 56
+  pub first : (i : ℕ) (b : Batch) → get_elem? core.batches i ≡ some b → b.first ≡ ends numbers core.base core.batches i
+  pub shows : Shows core words
+  pub base_is : w.seat.kind ≢ Spent → (w.base ≡ r.core.base) × (w.absorbed_base ≡ r.core.base)
+  pub known : IsPrefix w.history core.batches
+  pub absorbed : IsPrefix w.absorbed core.batches
+  pub seen : w.absorbed ≡ [] → w.seat.seen ≤ length w.history
+  pub producer : w.seat.kind ≡ Producer → id ≡ 0
+  pub whole : id ≡ 0 → w.history ≡ core.batches
+  pub head : id ≡ 0 → w.head ≡ core.head
+  pub dones : core.done ≡ r.core.done
+  pub turns : core.turn ≡ r.core.turn
+  pub hand : (k : ℕ) → w.seat.turn ≡ Some k → HasVersions o.shards.value r.core.batches (r.core.done k) k w.taken
+  pub acked_known : AckedKnownOk core.acked core.made id w.seat.acked w.acked_known
+  pub acked_others : (j a : ℕ) (k : AckedKnown) → j ≢ id → AckedKnownOk r.core.acked r.core.made j a k
+      → AckedKnownOk core.acked core.made j a k
+
+-- a batch that stands at its place in the longer list, and whose place is within the shorter one, stands there too
+pub prefix_at : (xs ys : List Batch) → IsPrefix xs ys → (i : ℕ) → i < length xs → (b : Batch) → get_elem? ys i ≡ some b
+    → get_elem? xs i ≡ some b
+prefix_at xs ys pre i l b e = let x = at_some xs i l in x.1 ∙ sym (pre i x.0 x.1) ∙ e
+  where
+    at_some : (xs : List Batch) (i : ℕ) → i < length xs → (x : Batch) × (get_elem? xs i ≡ some x)
+    at_some [] i l = absurd (omega arith)
+    at_some (x ∷ xs) zero l = (x, refl)
+    at_some (x ∷ xs) (suc i) l = at_some xs i (omega arith)
+
+-- a shard's versions stay those of the opening and of what is applied, as batches are appended
+keeps_versions : (o : TableOpening) (s : TableState) (r : Linked o s) (c : RingState) → IsPrefix r.core.batches c.batches
+    → c.done ≡ r.core.done → (k : ℕ) (x : List Version)
+    → HasVersions o.shards.value r.core.batches (r.core.done k) k x → HasVersions o.shards.value c.batches (c.done k) k x
+keeps_versions o s r c longer dones k x h = subst (λ (d : List ℕ). HasVersions o.shards.value c.batches d k x)
+    (ap (λ (f : ℕ → List ℕ). f k) (sym dones)) (
+      h.0,
+      h.1,
+      λ v. (
+        (λ has. ⊎_elim (λ old. inl old) (λ new. inr (new.0, new.1, new.2, longer new.0 new.1 new.3, new.4)) ((h.2 v).0 has)),
+        (λ has. ⊎_elim (λ old. (h.2 v).1 (inl old))
+            (λ new. (h.2 v).1 (inr
+            (new.0, new.1, new.2, prefix_at r.core.batches c.batches longer new.0 (r.sound.known new.0 k new.2) new.1 new.3, new.4))) has),
+      ),
+    )
+
+pub linked : (o : TableOpening) (s : TableState) (r : Linked o s) (id : ℕ) (words : List ℕ) (w : View) → Becomes o s r id words w
+    → Linked o record {
+      words = words;
+      homes = s.homes;
+      views = set s.views id w;
+    }
+linked o s r id words w b = record {
+  core = b.core;
+  sound = b.sound;
+  base_is = b.same_base ∙ r.base_is;
+  below = r.below;
+  few = b.few;
+  small = b.small;
+  first = b.first;
+  shows = b.shows;
+  made = length-set s.views id w ∙ r.made ∙ sym b.same_made;
+  each_view = λ j v at. ⊎_elim
+      (λ (t : (j ≡ id) × (w ≡ v)). subst (λ (x : ℕ × View). ViewOk o.shards.value b.core x.0 x.1) (λ k. (sym t.0 k, t.1 k)) record {
+        seat = ap (λ (f : ℕ → SeatState). f id) b.seats ∙ put_here r.core.seats id w.seat;
+        base = λ live. let e = b.base_is live in (e.0 ∙ sym b.same_base, e.1 ∙ sym b.same_base);
+        known = b.known;
+        absorbed = b.absorbed;
+        seen = b.seen;
+        producer = b.producer;
+        whole = b.whole;
+        head = b.head;
+        turn = λ k e. keeps_versions o s r b.core b.longer b.dones k w.taken (b.hand k e);
+        acked_known = b.acked_known;
+      })
+      (λ (t : (j ≢ id) × (get_elem? s.views j ≡ some v)). let ok = r.each_view j v t.1 in
+      let away : j ≡ 0 → id ≢ 0 = λ z e. t.0 (z ∙ sym e) in record {
+        seat = ap (λ (f : ℕ → SeatState). f j) b.seats ∙ put_else r.core.seats id w.seat j t.0 ∙ ok.seat;
+        base = λ live. let e = ok.base live in (e.0 ∙ sym b.same_base, e.1 ∙ sym b.same_base);
+        known = λ k y e. b.longer k y (ok.known k y e);
+        absorbed = λ k y e. b.longer k y (ok.absorbed k y e);
+        seen = ok.seen;
+        producer = ok.producer;
+        whole = λ z. ok.whole z ∙ sym (b.others (away z)).0;
+        head = λ z. ok.head z ∙ sym (b.others (away z)).1;
+        turn = λ k e. keeps_versions o s r b.core b.longer b.dones k v.taken (ok.turn k e);
+        acked_known = b.acked_others j v.seat.acked v.acked_known t.0 ok.acked_known;
+      })
+      (at_set s.views id j w v at);
+  homes = λ k l z. let h = r.homes k l (ap (λ (f : ℕ → ℕ). f k) (sym b.turns) ∙ z) in
+      (h.0, h.1, keeps_versions o s r b.core b.longer b.dones k h.0 h.2);
+}
+
+pub same_desk : (a a' m m' j s s' : ℕ) (k k' : AckedKnown) → a' ≡ a → m' ≡ m → s' ≡ s → k' ≡ k → AckedKnownOk a m j s k
+    → AckedKnownOk a' m' j s' k'
+same_desk a a' m m' j s s' k k' ea em es ek h = subst (λ (x : ℕ × ℕ × ℕ × AckedKnown). AckedKnownOk x.0 x.1 j x.2 x.3)
+    (λ i. (sym ea i, sym em i, sym es i, sym ek i)) h
+
+-- The same at a step that changes no batch, nor what the producer alone changes
+pub record Turns (o : TableOpening) (s : TableState) (r : Linked o s) (id : ℕ) (words : List ℕ) (w v : View) : Type 0 where
+  pub core : RingState
+  pub sound : IsSoundRing core
+  pub same_base : core.base ≡ r.core.base
+  pub same_made : core.made ≡ r.core.made
+  pub seats : core.seats ≡ updated r.core.seats id w.seat
+  pub batches : core.batches ≡ r.core.batches
+  pub heads : core.head ≡ r.core.head
+  pub shows : Shows core words
+  pub base_is : (w.base ≡ v.base) × (w.absorbed_base ≡ v.absorbed_base)
+  pub same_kind : w.seat.kind ≡ v.seat.kind
+  pub known : IsPrefix w.history r.core.batches
+  pub absorbed : IsPrefix w.absorbed r.core.batches
+  pub seen : w.absorbed ≡ [] → w.seat.seen ≤ length w.history
+  pub whole : id ≡ 0 → w.history ≡ r.core.batches
+  pub head_is : w.head ≡ v.head
+  pub taken_is : w.taken ≡ v.taken
+  pub acked_is : (w.acked_known ≡ v.acked_known) × (w.seat.acked ≡ v.seat.acked) × (core.acked ≡ r.core.acked)
+  pub same_hand : w.seat.turn ≡ v.seat.turn
+  pub dones : core.done ≡ r.core.done
+  pub turns : core.turn ≡ r.core.turn
+
+pub turned : (o : TableOpening) (s : TableState) (r : Linked o s) (id : ℕ) (words : List ℕ) (w v : View) → get_elem? s.views id ≡ some v
+    → Turns o s r id words w v → Linked o record {
+      words = words;
+      homes = s.homes;
+      views = set s.views id w;
+    }
+turned o s r id words w v at t = let ok = r.each_view id v at in linked o s r id words w record {
+  core = t.core;
+  sound = t.sound;
+  same_base = t.same_base;
+  same_made = t.same_made;
+  seats = t.seats;
+  longer = λ k b e. ap (λ (l : List Batch). get_elem? l k) t.batches ∙ e;
+  others = λ _. (t.batches, t.heads);
+  few = subst (λ (l : List Batch). length l ≤ 1048576) (sym t.batches) r.few;
+  small = subst (λ (x : ℕ × List Batch). (i : ℕ) → i < length x.1 → ends numbers x.0 x.1 (suc i) < 2 ^ 56)
+      (λ k. (sym t.same_base k, sym t.batches k)) r.small;
+  first = subst (λ (x : ℕ × List Batch). (i : ℕ) (b : Batch) → get_elem? x.1 i ≡ some b → b.first ≡ ends numbers x.0 x.1 i)
+      (λ k. (sym t.same_base k, sym t.batches k)) r.first;
+  shows = t.shows;
+  base_is = λ live. let e = ok.base (λ q. live (t.same_kind ∙ q)) in (t.base_is.0 ∙ e.0, t.base_is.1 ∙ e.1);
+  known = subst (IsPrefix w.history) (sym t.batches) t.known;
+  absorbed = subst (IsPrefix w.absorbed) (sym t.batches) t.absorbed;
+  seen = t.seen;
+  producer = λ q. ok.producer (sym t.same_kind ∙ q);
+  whole = λ z. t.whole z ∙ sym t.batches;
+  head = λ z. t.head_is ∙ ok.head z ∙ sym t.heads;
+  dones = t.dones;
+  turns = t.turns;
+  hand = λ k e. subst (HasVersions o.shards.value r.core.batches (r.core.done k) k) (sym t.taken_is) (ok.turn k (sym t.same_hand ∙ e));
+  acked_known = same_desk r.core.acked t.core.acked r.core.made t.core.made id v.seat.acked w.seat.acked v.acked_known w.acked_known t.acked_is.2 t.same_made t.acked_is.1 t.acked_is.0 ok.acked_known;
+  acked_others = λ j a k _ h. same_desk r.core.acked t.core.acked r.core.made t.core.made j a a k k t.acked_is.2 t.same_made refl refl h;
+}
+
+-- writing what is there changes nothing
+pub put_again : (f : ℕ → SeatState) (i : ℕ) (d : SeatState) → f i ≡ d → f ≡ updated f i d
+put_again f i d e = λ k j. at_put (λ (q : ℕ) (x : SeatState). f q ≡ x) f i d j e (λ _. refl) k
+
+-- a load keeps the rule, with a new view
+abbrev pub Goes : TableOpening → TableState → ℕ → ℕ → Seated → (ℕ → Seated → Type 0) → ℕ → Type 0
+Goes o s k id me then x = (w : View) × (a : Act Slot) × Valid s.homes me.1 a × Linked o (stepped s k x id me.1 w a) × then
+    (get_or s.words k 0) (w, carried_after me.1 a)
+
+pub shows_seats : (c : RingState) (seats : ℕ → SeatState) (words : List ℕ) → Shows c words → Shows (record c { seats = seats }) words
+shows_seats c seats words h = record {
+  wide = h.wide;
+  ends_word = h.ends_word;
+  visible_word = h.visible_word;
+  acked_word = h.acked_word;
+  ring_word = h.ring_word;
+  shard_word = h.shard_word;
+}
+
+pub stays : (o : TableOpening) (s : TableState) (k id : ℕ) (me : Seated) (then : ℕ → Seated → Type 0) (w : View)
+    → Linked o record {
+      words = s.words;
+      homes = s.homes;
+      views = set s.views id w;
+    } → then (get_or s.words k 0) (w, me.1) → Goes o s k id me then (get_or s.words k 0)
+stays o s k id me then w l told = (
+  w,
+  keeps,
+  tt,
+  subst (λ (ws : List ℕ). Linked o record { words = ws; homes = s.homes; views = set s.views id w })
+      (sym (set-get_or s.words k 0)) l,
+  told,
+)
+
+-- a step that writes x into the ring slot k
+pub shows_ring : (c c' : RingState) (words : List ℕ) (k x : ℕ) → k < 64 → Shows c words → c'.head ≡ c.head → c'.tail ≡ c.tail
+    → visible numbers c' ≡ visible numbers c → c'.acked ≡ c.acked → c'.turn ≡ c.turn → c'.ring ≡ updated c.ring k x → Shows c'
+    (set words (k + 3) x)
+shows_ring c c' words k x small h hd tl vis ack trn ring = let wide : length words ≡ 75 = h.wide in record {
+  wide = length-set words (k + 3) x ∙ h.wide;
+  ends_word = get_or-set_other words (k + 3) 0 x 0 (λ e. omega arith) ∙ h.ends_word
+      ∙ ap₂ (λ (a b : ℕ). a * 4294967296 + b) (sym hd) (sym tl);
+  visible_word = get_or-set_other words (k + 3) 1 x 0 (λ e. omega arith) ∙ h.visible_word ∙ sym vis;
+  acked_word = get_or-set_other words (k + 3) 2 x 0 (λ e. omega arith) ∙ h.acked_word ∙ sym ack;
+  ring_word = λ j l. subst (λ (f : ℕ → ℕ). get_or (set words (k + 3) x) (j + 3) 0 ≡ f j) (sym ring)
+      (at_put (λ (q y : ℕ). q < 64 → get_or (set words (k + 3) x) (q + 3) 0 ≡ y) c.ring k x j
+      (λ _. get_or-set_same words (k + 3) x 0 (omega arith))
+      (λ n l'. get_or-set_other words (k + 3) (j + 3) x 0 (λ e. n (omega arith)) ∙ h.ring_word j l') l);
+  shard_word = λ j l. get_or-set_other words (k + 3) (j + 67) x 0 (λ e. omega arith) ∙ h.shard_word j l
+      ∙ ap (λ (f : ℕ → ℕ). turn_word (f j)) (sym trn);
+}
+
+-- a step that writes x into word 0
+pub shows_ends : (c c' : RingState) (words : List ℕ) (x : ℕ) → Shows c words → x ≡ c'.head * 4294967296 + c'.tail
+    → visible numbers c' ≡ visible numbers c → c'.acked ≡ c.acked → c'.turn ≡ c.turn → c'.ring ≡ c.ring → Shows c' (set words 0 x)
+shows_ends c c' words x h is vis ack trn ring = let wide : length words ≡ 75 = h.wide in record {
+  wide = length-set words 0 x ∙ h.wide;
+  ends_word = get_or-set_same words 0 x 0 (omega arith) ∙ is;
+  visible_word = get_or-set_other words 0 1 x 0 (λ e. omega arith) ∙ h.visible_word ∙ sym vis;
+  acked_word = get_or-set_other words 0 2 x 0 (λ e. omega arith) ∙ h.acked_word ∙ sym ack;
+  ring_word = λ j l. get_or-set_other words 0 (j + 3) x 0 (λ e. omega arith) ∙ h.ring_word j l ∙ ap (λ (f : ℕ → ℕ). f j) (sym ring);
+  shard_word = λ j l. get_or-set_other words 0 (j + 67) x 0 (λ e. omega arith) ∙ h.shard_word j l
+      ∙ ap (λ (f : ℕ → ℕ). turn_word (f j)) (sym trn);
+}

@@ -1,0 +1,435 @@
+-- Marking and publishing keep the rule of the table.
+use Rattle.std.proofs.Common.{◌≡◌, ℕ, zero, suc, ◌+◌, ◌*◌, ◌%◌, ◌<◌, ◌≤◌, max, eqb, IsTrue, lt_of_not-le, List, [], ◌∷◌, length, get_or, set, Some, None, sym, refl, ap, ◌∙◌, subst, ap₂, ⊎_elim, arith, length-set, get_or-set_other, get_or-set_same}
+use mathlib.Core.Logic.{dite}
+use mathlib.Core.Option.{none, some, some-injective}
+use native.Mathlib.Decide.{ℕ_discrete, dec_le}
+use lib.ListN.{get_elem?}
+use prog.Atomic.{either}
+use Rattle.atomic_table.specs.Table.{step, keeps, Allows}
+use Rattle.atomic_table.proofs.Lists.{exchanged}
+use Rattle.batch_repr.specs.declared.batch.Batch.{Batch}
+use Rattle.publish_core.specs.declared.seat.Kind.TheVariants.{Producer}
+use Rattle.publish_core.specs.declared.seat.Claim.TheVariants.{Free, Taken, Emptied}
+use Rattle.publish_core.specs.declared.seat.Stage.TheVariants.{Held, Marked}
+use Rattle.publish_core.specs.declared.seat.SeatState.{SeatState}
+use Rattle.publish_core.specs.Machine.{updated, ends, visible, Acts, one_more, Among, end_of, after_load_ends, after_load_visible, after_claim_won, after_claim_lost, won, lost}
+use Rattle.publish_core.proofs.Laws.{at_below, ends_mono, ends_less}
+use Rattle.publish_core.proofs.Laws.{word_at, at_stage}
+use Rattle.publish_core.proofs.Laws.{marked_state, marking}
+use Rattle.publish_core.proofs.Laws.{kept_claim_won, emptied_state, emptying, raised_state, raising}
+use Rattle.publish_core.proofs.Laws.{kept_load_ends, kept_load_visible, kept_claim_lost}
+use Rattle.commit_queue.specs.declared.pipe_table.TableOpening.{TableOpening}
+use Rattle.commit_queue.specs.declared.view.View.{View}
+use Rattle.commit_queue.specs.Rule.{RingState, TableState, numbers, touches, turn_word, Shows, IsPrefix, Linked}
+use Rattle.commit_queue.specs.Views.{marked_view, ends_view, lost_view, won_view, emptied_view, raised_view, visible_view, settled_view}
+use Rattle.commit_queue.specs.Tells.{Seated, high, low, TellsMarked, TellsEnds, TellsClaim, TellsEmptied, TellsRaised, TellsVisible, TellsSettled}
+use Rattle.commit_queue.specs.Calls.{KnowsApplied}
+use Rattle.commit_queue.proofs.Becomes.{acts_live, turned, Goes, stays, shows_seats, shows_ring, shows_ends, prefix_at}
+
+pub at_end_of : (xs ys : List Batch) → IsPrefix xs ys → (v n : ℕ) → n ≤ length xs → ends numbers v xs n ≡ ends numbers v ys n
+at_end_of xs ys pre v zero l = refl
+at_end_of [] ys pre v (suc n) l = absurd (omega arith)
+at_end_of (x ∷ xs) [] pre v (suc n) l = let e : get_elem? {A = Batch} [] 0 ≡ some x = pre 0 x refl in absurd
+    (let h = at_below {A = Batch} [] 0 x e in omega arith)
+at_end_of (x ∷ xs) (y ∷ ys) pre v (suc n) l = let e : y ≡ x = some-injective y x (pre 0 x refl) in
+    at_end_of xs ys (λ k b e. pre (suc k) b e) (v + numbers x) n (omega arith)
+    ∙ ap (λ (z : Batch). ends numbers (v + numbers z) ys n) (sym e)
+
+-- a word of two halves, each below 2^32, has these halves
+pub halves : (r h t : ℕ) → r ≡ h * 4294967296 + t → t < 4294967296 → (h ≡ high r) × (t ≡ low r)
+halves r h t e l = (omega arith, omega arith)
+
+module _ (o : TableOpening) where
+  -- the seat acts, so its view has the table's first number
+  base_of : (s : TableState) (r : Linked o s) (id : ℕ) (v : View) → get_elem? s.views id ≡ some v → Acts v.seat → v.base ≡ r.core.base
+  base_of s r id v has acts = ((r.each_view id v has).base (acts_live v.seat acts)).0
+
+  pub marks : (n id : ℕ) (me : Seated) (at new i : ℕ) → at ≡ i % 64 → Acts me.0.seat → me.0.seat.held ≡ Some i
+      → (me.0.seat.kind ≡ Producer → i < me.0.head)
+      → me.0.absorbed ≡ [] → KnowsApplied me.0 i → new ≡ 2 * ends numbers me.0.base me.0.history (suc i) + 1
+      → Allows (Linked o) n id me (at + 3) (λ _. new) (λ _. TellsMarked (step n (at + 3) new 0 none) me new)
+  marks n id me at new i at_is acts holds admitted calm applied new_is s r wide has _ =
+      let c : RingState = r.core in let v : View = me.0 in let ok = r.each_view id v has in let w : View = marked_view v i in
+      let sound = r.sound in let seat : c.seats id ≡ v.seat = ok.seat in
+      let holds' : (c.seats id).held ≡ Some i = ap (λ (d : SeatState). d.held) seat ∙ holds in
+      let acts' : Acts (c.seats id) = subst Acts (sym seat) acts in
+      let h = (sound.each_seat id).held i holds' in let sn : v.seat.seen ≤ length v.history = ok.seen calm in
+      let g : i < (c.seats id).seen = h.2 in let g' : i < v.seat.seen = subst (λ (d : SeatState). i < d.seen) seat g in
+      let near : i < length v.history = omega arith in
+      let below : i < c.head = dite (ℕ_discrete id 0)
+      (λ z. let a : i < v.head = admitted (sym (ap (λ (d : SeatState). d.kind) seat) ∙ ap (λ (j : ℕ). (c.seats j).kind) z ∙ sound.producer)
+      in let b : v.head ≡ c.head = ok.head z in omega arith) (λ nz. (sound.each_seat id).admitted i nz holds') in
+      let knows : (b : Batch) (k : ℕ) → get_elem? c.batches i ≡ some b → IsTrue (touches b k) → Among (record { batch = i; shard = k })
+      (c.seats id).knows =
+      λ b k e t. subst (λ (d : SeatState). Among (record { batch = i; shard = k }) d.knows) (sym seat)
+      (let there = prefix_at v.history c.batches ok.known i near b e in applied b k there t) in
+      let word = (word_at numbers touches c sound i (Held id) h.0 h.1 tt).0 in let r0 : ℕ = c.ring (i % 64) in
+      let end_is : ends numbers v.base v.history (suc i) ≡ end_of numbers c i = at_end_of v.history c.batches ok.known v.base (suc i) near
+      ∙ ap (λ (y : ℕ). ends numbers y c.batches (suc i)) (base_of s r id v has acts) in
+      let is : r0 + 1 ≡ new = omega arith in (
+        w,
+        keeps,
+        tt,
+        turned o s r id (set s.words (at + 3) new) w v has record {
+          core = marked_state numbers touches c id i;
+          sound = marking numbers touches c sound id i acts' holds' below knows;
+          same_base = refl;
+          same_made = refl;
+          seats = ap (λ (d : SeatState). updated c.seats id (record d { held = None; own = i ∷ d.own })) seat;
+          batches = refl;
+          heads = refl;
+          shows = shows_ring c (marked_state numbers touches c id i) s.words at new (omega arith) r.shows refl refl refl refl refl
+              (ap₂ (updated c.ring) (sym at_is) is);
+          base_is = (refl, refl);
+          same_kind = refl;
+          known = ok.known;
+          absorbed = ok.absorbed;
+          seen = ok.seen;
+          whole = ok.whole;
+          head_is = refl;
+          taken_is = refl;
+          acked_is = (refl, refl, refl);
+          same_hand = refl;
+          dones = refl;
+          turns = refl;
+        },
+        (refl, λ j q. let same : i ≡ j = cc in ap (marked_view v) same),
+      )
+
+  pub sees_ends : (n id : ℕ) (me : Seated) → Acts me.0.seat → Allows (Linked o) n id me 0 (λ x. x) (TellsEnds (step n 0 0 0 none) me)
+  sees_ends n id me acts s r wide has _ =
+      let c : RingState = r.core in let v : View = me.0 in let ok = r.each_view id v has in let x : ℕ = get_or s.words 0 0 in
+      let few = r.few in let th = r.sound.tail_head in let hl = r.sound.head_length in
+      let hv = halves x c.head c.tail r.shows.ends_word (omega arith) in let w : View = ends_view v (high x) (low x) in
+      stays o s 0 id me (TellsEnds (step n 0 0 0 none) me) w
+      (turned o s r id s.words w v has record {
+        core = after_load_ends numbers touches c id;
+        sound = kept_load_ends numbers touches c r.sound id (subst Acts (sym ok.seat) acts);
+        same_base = refl;
+        same_made = refl;
+        seats = λ k. updated c.seats id (let d : SeatState = ok.seat k in
+            record d {
+              loaded = Some record { head = hv.0 k; tail = hv.1 k };
+              reading = None;
+              counts = record d.counts { ends = one_more d.counts.ends };
+            });
+        batches = refl;
+        heads = refl;
+        shows = shows_seats c _ s.words r.shows;
+        base_is = (refl, refl);
+        same_kind = refl;
+        known = ok.known;
+        absorbed = ok.absorbed;
+        seen = ok.seen;
+        whole = ok.whole;
+        head_is = refl;
+        taken_is = refl;
+        acked_is = (refl, refl, refl);
+        same_hand = refl;
+        dones = refl;
+        turns = refl;
+      })
+      (refl, refl, omega arith)
+
+  pub settles : (n id : ℕ) (me : Seated) → Acts me.0.seat → Allows (Linked o) n id me 0 (λ x. x) (TellsSettled (step n 0 0 0 none) me)
+  settles n id me acts s r wide has _ =
+      let c : RingState = r.core in let v : View = me.0 in let ok = r.each_view id v has in let x : ℕ = get_or s.words 0 0 in
+      let few = r.few in let th = r.sound.tail_head in let hl = r.sound.head_length in let pt = r.sound.published_tail in
+      let hv = halves x c.head c.tail r.shows.ends_word (omega arith) in
+      let w : View = settled_view (ends_view v (high x) (low x)) c.batches in let seat : c.seats id ≡ v.seat = ok.seat in
+      let sn : v.seat.seen ≤ length c.batches = subst (λ (d : SeatState). d.seen ≤ length c.batches) seat (r.sound.each_seat id).seen in
+      let pb : v.seat.published ≤ c.published = subst (λ (d : SeatState). d.published ≤ c.published) seat
+      (r.sound.each_seat id).published.0 in
+      stays o s 0 id me (TellsSettled (step n 0 0 0 none) me) w
+      (turned o s r id s.words w v has record {
+        core = after_load_ends numbers touches c id;
+        sound = kept_load_ends numbers touches c r.sound id (subst Acts (sym ok.seat) acts);
+        same_base = refl;
+        same_made = refl;
+        seats = λ k. updated c.seats id (let d : SeatState = ok.seat k in
+            record d {
+              loaded = Some record { head = hv.0 k; tail = hv.1 k };
+              reading = None;
+              counts = record d.counts { ends = one_more d.counts.ends };
+            });
+        batches = refl;
+        heads = refl;
+        shows = shows_seats c _ s.words r.shows;
+        base_is = (refl, refl);
+        same_kind = refl;
+        known = λ k b q. q;
+        absorbed = λ k b q. let l = at_below {A = Batch} [] k b q in absurd (omega arith);
+        seen = λ _. sn;
+        whole = λ z. refl;
+        head_is = refl;
+        taken_is = refl;
+        acked_is = (refl, refl, refl);
+        same_hand = refl;
+        dones = refl;
+        turns = refl;
+      }) (
+        refl,
+        (
+          c.batches,
+          refl,
+          record {
+            goes_on = ok.known;
+            has_absorbed = ok.absorbed;
+            same_base = let e = ok.base (acts_live v.seat acts) in e.1 ∙ sym e.0;
+            within = sn;
+            published_within = omega arith;
+            behind = λ i e. let h = (r.sound.each_seat id).held i (ap (λ (d : SeatState). d.held) seat ∙ e) in
+                let b : c.tail ≤ i = (at_stage numbers touches c r.sound i (Held id) h.0 h.1).0 in omega arith;
+            retired = ok.acked_known.retired;
+            whole = λ k. sym (ok.whole (ok.producer k));
+          },
+        ),
+      )
+
+  pub claims : (n id : ℕ) (me : Seated) (old new h t w : ℕ)
+      → old ≡ h * 4294967296 + t → new ≡ old + 1 → t < 4294967296 → h < 4294967296 → Acts me.0.seat → me.0.seat.claim ≡ Free → me.0.seat.loaded ≡ Some record { head = h; tail = t } → t < h
+      → me.0.seat.reading ≡ Some record {
+        at = t % 64;
+        word = w;
+      } → w % 2 ≡ 1 → Allows (Linked o) n id me 0 (λ x. either (eqb x old) new x) (TellsClaim (step n 0 old new none) me)
+  claims n id me old new h t w old_is new_is tl hl acts free loaded lt read odd s r wide has _ =
+      let c : RingState = r.core in let v : View = me.0 in let ok = r.each_view id v has in let x : ℕ = get_or s.words 0 0 in
+      let sound = r.sound in let few = r.few in let th = sound.tail_head in let hh = sound.head_length in
+      let seat : c.seats id ≡ v.seat = ok.seat in
+      let shows : x ≡ c.head * 4294967296 + c.tail = r.shows.ends_word in let acts' : Acts (c.seats id) = subst Acts (sym seat) acts in
+      let then = TellsClaim (step n 0 old new none) me in let hx = halves x c.head c.tail shows (omega arith) in
+      exchanged x old new (Goes o s 0 id me then)
+      (λ hit. let hd : c.head ≡ h = omega arith in let tt' : c.tail ≡ t = omega arith in
+      let free' : (c.seats id).claim ≡ Free = ap (λ (d : SeatState). d.claim) seat ∙ free in
+      let front = (sound.each_seat id).front record { head = h; tail = t } record {
+        at = t % 64;
+        word = w;
+      } (ap (λ (d : SeatState). d.loaded) seat ∙ loaded) (ap (λ (d : SeatState). d.reading) seat ∙ read) lt refl odd in
+      let marked' : (c.stage c.tail ≡ Marked) × (w ≡ 2 * end_of numbers c c.tail + 1) = ⊎_elim (λ (a : t < c.tail). absurd (omega arith))
+      (λ (a : (c.stage t ≡ Marked) × (w ≡ 2 * end_of numbers c t + 1)). subst
+      (λ (y : ℕ). (c.stage y ≡ Marked) × (w ≡ 2 * end_of numbers c y + 1)) (sym tt') a) front in
+      let w' : View = won_view v (low x) c.batches in let low_is : c.tail ≡ low x = hx.1 in
+      let near : c.tail < length c.batches = omega arith in
+      let sn : v.seat.seen ≤ length c.batches = subst (λ (d : SeatState). d.seen ≤ length c.batches) seat (sound.each_seat id).seen in (
+        w',
+        keeps,
+        tt,
+        turned o s r id (set s.words 0 new) w' v has record {
+          core = after_claim_won numbers touches c id;
+          sound = kept_claim_won numbers touches c sound id acts' free' (omega arith) marked'.0;
+          same_base = refl;
+          same_made = refl;
+          seats = ap₂ (λ (d : SeatState) (y : ℕ). updated c.seats id (won numbers touches d y)) seat low_is;
+          batches = refl;
+          heads = refl;
+          shows = shows_ends c (after_claim_won numbers touches c id) s.words new r.shows (omega arith) refl refl refl refl;
+          base_is = (refl, refl);
+          same_kind = refl;
+          known = λ k b e. e;
+          absorbed = ok.absorbed;
+          seen = λ _. let q : low x ≡ c.tail = sym low_is in omega arith;
+          whole = λ z. refl;
+          head_is = refl;
+          taken_is = refl;
+          acked_is = (refl, refl, refl);
+          same_hand = refl;
+          dones = refl;
+          turns = refl;
+        },
+        (
+          refl,
+          (λ _. (
+            c.batches,
+            refl,
+            (ok.known, (let q : low x ≡ c.tail = sym low_is in omega arith), λ k. sym (ok.whole (ok.producer k))),
+            λ y z. let same : w ≡ y.word = cc in sym same ∙ marked'.1
+                ∙ (λ k. 2 * ends numbers (sym (base_of s r id v has acts) k) c.batches (suc (low_is k)) + 1),
+          )),
+          λ miss. absurd (miss hit),
+        ),
+      ))
+      (λ miss. let w' : View = lost_view v (high x) (low x) in
+      stays o s 0 id me then w'
+      (turned o s r id s.words w' v has record {
+        core = after_claim_lost numbers touches c id;
+        sound = kept_claim_lost numbers touches c sound id acts';
+        same_base = refl;
+        same_made = refl;
+        seats = λ k. updated c.seats id (lost numbers touches (seat k) (hx.0 k) (hx.1 k));
+        batches = refl;
+        heads = refl;
+        shows = shows_seats c _ s.words r.shows;
+        base_is = (refl, refl);
+        same_kind = refl;
+        known = ok.known;
+        absorbed = ok.absorbed;
+        seen = ok.seen;
+        whole = ok.whole;
+        head_is = refl;
+        taken_is = refl;
+        acked_is = (refl, refl, refl);
+        same_hand = refl;
+        dones = refl;
+        turns = refl;
+      })
+      (refl, (λ hit. absurd (miss hit)), λ _. refl))
+
+  pub empties : (n id : ℕ) (me : Seated) (at t : ℕ) → at ≡ t % 64 → Acts me.0.seat → me.0.seat.claim ≡ Taken t
+      → Allows (Linked o) n id me (at + 3) (λ _. 0) (λ _. TellsEmptied (step n (at + 3) 0 0 none) me 0)
+  empties n id me at t at_is acts claim s r wide has _ =
+      let c : RingState = r.core in let v : View = me.0 in let ok = r.each_view id v has in let w : View = emptied_view v t in
+      let seat : c.seats id ≡ v.seat = ok.seat in (
+        w,
+        keeps,
+        tt,
+        turned o s r id (set s.words (at + 3) 0) w v has record {
+          core = emptied_state numbers touches c id t;
+          sound = emptying numbers touches c r.sound id t (subst Acts (sym seat) acts) (ap (λ (d : SeatState). d.claim) seat ∙ claim);
+          same_base = refl;
+          same_made = refl;
+          seats = ap (λ (d : SeatState). updated c.seats id (record d { claim = Emptied t })) seat;
+          batches = refl;
+          heads = refl;
+          shows = shows_ring c (emptied_state numbers touches c id t) s.words at 0 (omega arith) r.shows refl refl refl refl refl
+              (ap (λ (y : ℕ). updated c.ring y 0) (sym at_is));
+          base_is = (refl, refl);
+          same_kind = refl;
+          known = ok.known;
+          absorbed = ok.absorbed;
+          seen = ok.seen;
+          whole = ok.whole;
+          head_is = refl;
+          taken_is = refl;
+          acked_is = (refl, refl, refl);
+          same_hand = refl;
+          dones = refl;
+          turns = refl;
+        },
+        (refl, λ j q. let same : t ≡ j = cc in ap (emptied_view v) same),
+      )
+
+  -- the greater of two ends is the end of the greater number
+  max_ends : (v : ℕ) (xs : List Batch) (m n : ℕ) → max (ends numbers v xs m) (ends numbers v xs n) ≡ ends numbers v xs (max m n)
+  max_ends v xs m n = dite (dec_le m n)
+      (λ le. let a = ends_mono numbers v xs m n le in let b : max m n ≡ n = omega arith in
+      (let g : max (ends numbers v xs m) (ends numbers v xs n) ≡ ends numbers v xs n = omega arith in g) ∙ ap (ends numbers v xs) (sym b))
+      (λ no. let lt = lt_of_not-le no in let a = ends_mono numbers v xs n m (omega arith) in let b : max m n ≡ m = omega arith in
+      (let g : max (ends numbers v xs m) (ends numbers v xs n) ≡ ends numbers v xs m = omega arith in g) ∙ ap (ends numbers v xs) (sym b))
+
+  -- a step that writes x into word 1
+  shows_visible : (c c' : RingState) (words : List ℕ) (x : ℕ) → Shows c words → x ≡ visible numbers c' → c'.head ≡ c.head → c'.tail ≡ c.tail
+      → c'.acked ≡ c.acked → c'.turn ≡ c.turn → c'.ring ≡ c.ring → Shows c' (set words 1 x)
+  shows_visible c c' words x h is hd tl ack trn ring = let wide : length words ≡ 75 = h.wide in record {
+    wide = length-set words 1 x ∙ h.wide;
+    ends_word = get_or-set_other words 1 0 x 0 (λ e. omega arith) ∙ h.ends_word ∙ ap₂ (λ (a b : ℕ). a * 4294967296 + b) (sym hd) (sym tl);
+    visible_word = get_or-set_same words 1 x 0 (omega arith) ∙ is;
+    acked_word = get_or-set_other words 1 2 x 0 (λ e. omega arith) ∙ h.acked_word ∙ sym ack;
+    ring_word = λ j l. get_or-set_other words 1 (j + 3) x 0 (λ e. omega arith) ∙ h.ring_word j l ∙ ap (λ (f : ℕ → ℕ). f j) (sym ring);
+    shard_word = λ j l. get_or-set_other words 1 (j + 67) x 0 (λ e. omega arith) ∙ h.shard_word j l
+        ∙ ap (λ (f : ℕ → ℕ). turn_word (f j)) (sym trn);
+  }
+
+  pub raises : (n id : ℕ) (me : Seated) (e t : ℕ) → e ≡ ends numbers me.0.base me.0.history (suc t) → suc t ≤ length me.0.history
+      → Acts me.0.seat → me.0.seat.claim ≡ Emptied t → Allows (Linked o) n id me 1 (λ x. max x e) (TellsRaised (step n 1 e 0 none) me)
+  raises n id me e t e_is near acts claim s r wide has _ =
+      let c : RingState = r.core in let v : View = me.0 in let ok = r.each_view id v has in let sound = r.sound in
+      let p : ℕ = max c.published (suc t) in let w : View = raised_view v p c.batches in let seat : c.seats id ≡ v.seat = ok.seat in
+      let x : ℕ = get_or s.words 1 0 in let c' : RingState = raised_state numbers touches c id t in
+      let sound' = raising numbers touches c sound id t (subst Acts (sym seat) acts) (ap (λ (d : SeatState). d.claim) seat ∙ claim) in
+      let end_is : e ≡ ends numbers c.base c.batches (suc t) = e_is ∙ at_end_of v.history c.batches ok.known v.base (suc t) near
+      ∙ ap (λ (y : ℕ). ends numbers y c.batches (suc t)) (base_of s r id v has acts) in
+      let is : max x e ≡ visible numbers c' = ap₂ max r.shows.visible_word end_is ∙ max_ends c.base c.batches c.published (suc t) in
+      let pl : p ≤ c.tail = sound'.published_tail in let th = sound.tail_head in let hl = sound.head_length in
+      let sn : v.seat.seen ≤ length c.batches = subst (λ (d : SeatState). d.seen ≤ length c.batches) seat (sound.each_seat id).seen in
+      let before : v.seat.published ≤ c.published = subst (λ (d : SeatState). d.published ≤ c.published) seat
+      (sound.each_seat id).published.0 in (
+        w,
+        keeps,
+        tt,
+        turned o s r id (set s.words 1 (max x e)) w v has record {
+          core = c';
+          sound = sound';
+          same_base = refl;
+          same_made = refl;
+          seats = ap (λ (d : SeatState). updated c.seats id (record d { claim = Free; published = p; seen = max d.seen p })) seat;
+          batches = refl;
+          heads = refl;
+          shows = shows_visible c c' s.words (max x e) r.shows is refl refl refl refl refl;
+          base_is = (refl, refl);
+          same_kind = refl;
+          known = λ k b q. q;
+          absorbed = ok.absorbed;
+          seen = λ _. omega arith;
+          whole = λ z. refl;
+          head_is = refl;
+          taken_is = refl;
+          acked_is = (refl, refl, refl);
+          same_hand = refl;
+          dones = refl;
+          turns = refl;
+        },
+        (
+          refl,
+          (
+            p,
+            c.batches,
+            refl,
+            (ok.known, omega arith, λ k. sym (ok.whole (ok.producer k))),
+            omega arith,
+            λ j q. let same : t ≡ j = cc in omega arith,
+          ),
+        ),
+      )
+
+  pub sees_visible : (n id : ℕ) (me : Seated) → Acts me.0.seat → Allows (Linked o) n id me 1 (λ x. x) (TellsVisible (step n 1 0 0 none) me)
+  sees_visible n id me acts s r wide has _ =
+      let c : RingState = r.core in let v : View = me.0 in let ok = r.each_view id v has in let sound = r.sound in
+      let w : View = visible_view v c.published c.batches in let seat : c.seats id ≡ v.seat = ok.seat in
+      let a = sound.published_tail in let b = sound.tail_head in let d = sound.head_length in
+      let vb : v.base ≡ c.base = base_of s r id v has acts in
+      let word : get_or s.words 1 0 ≡ ends numbers c.base c.batches c.published = r.shows.visible_word in
+      let reaches : (k : ℕ) → k ≤ length c.batches → ends numbers v.base c.batches k ≤ get_or s.words 1 0 → k ≤ c.published = λ k l e. dite
+      (dec_le k c.published) (λ le. le) (λ no. let lt = lt_of_not-le no in
+      let less = ends_less numbers c.base c.batches sound.counted c.published k lt l in
+      let e' : ends numbers c.base c.batches k ≤ get_or s.words 1 0 = subst (λ (y : ℕ). ends numbers y c.batches k ≤ get_or s.words 1 0)
+      vb e in absurd (omega arith)) in
+      let sn : v.seat.seen ≤ length c.batches = subst (λ (d : SeatState). d.seen ≤ length c.batches) seat (sound.each_seat id).seen in
+      stays o s 1 id me (TellsVisible (step n 1 0 0 none) me) w
+      (turned o s r id s.words w v has record {
+        core = after_load_visible numbers touches c id;
+        sound = kept_load_visible numbers touches c sound id (subst Acts (sym seat) acts);
+        same_base = refl;
+        same_made = refl;
+        seats = ap (λ (d : SeatState). updated c.seats id
+            (record d {
+              published = c.published;
+              seen = max d.seen c.published;
+              counts = record d.counts { visibles = one_more d.counts.visibles };
+            })) seat;
+        batches = refl;
+        heads = refl;
+        shows = shows_seats c _ s.words r.shows;
+        base_is = (refl, refl);
+        same_kind = refl;
+        known = λ k b q. q;
+        absorbed = ok.absorbed;
+        seen = λ _. omega arith;
+        whole = λ z. refl;
+        head_is = refl;
+        taken_is = refl;
+        acked_is = (refl, refl, refl);
+        same_hand = refl;
+        dones = refl;
+        turns = refl;
+      }) (
+        refl,
+        record {
+          count = c.published;
+          history = c.batches;
+          view = refl;
+          grew = (ok.known, omega arith, λ k. sym (ok.whole (ok.producer k)));
+          published = subst (λ (d : SeatState). d.published ≤ c.published) seat (sound.each_seat id).published.0;
+          end_is = r.shows.visible_word ∙ ap (λ (y : ℕ). ends numbers y c.batches c.published) (sym (base_of s r id v has acts));
+          reaches = reaches;
+        },
+      )

@@ -1,0 +1,6 @@
+use Rattle.std.proofs.Common.{arith}
+use Rattle.commit_queue.proofs.Publishes.{sees_visible}
+use Rattle.commit_queue.proofs.pipe_table.PipeTable.visible_at.Goals as goal
+
+pub load-requires : goal.load-requires
+load-requires c = (c.requires.table, (let w = c.args.self.now.words in omega arith), sees_visible _ _ _ c.args.seat.now.me c.requires.acts)

@@ -1,0 +1,34 @@
+use Rattle.std.proofs.Common.{◌∙◌, ◌+◌, ◌++◌, ◌∷◌, [], List, All, Bool, true, false, if◌then◌else◌, ap, ℕ}
+use Rattle.std.proofs.lemmas.List.Elements.{All-push, All-same}
+use Rattle.batch_repr.specs.declared.batch.Batch.{Batch}
+use Rattle.commit_queue.specs.declared.seats.Handed.{Handed}
+use Rattle.commit_queue.specs.declared.view.View.{View}
+use Rattle.commit_queue.specs.Rule.{numbers}
+use Rattle.commit_queue.specs.Tables.{IsOfTable}
+use Rattle.commit_queue.specs.Seats.{producer_view, note_table}
+use Rattle.commit_queue.proofs.AwaitsBatch.{awaits_read, awaits_handed}
+use Rattle.commit_queue.proofs.tests.Rig.send_next.Goals as goal
+
+-- a list to which a value was added, or not
+added : {X : Type 0} (P : X → Type 0) (b : Bool) (xs : List X) (x : X) → All P xs → P x → All P (if b then (xs ++ x ∷ []) else xs)
+added P true xs x all here = All-push P xs x all here
+added P false xs x all here = all
+
+pub invariant_of-self-2 : goal.invariant_of-self-2
+invariant_of-self-2 g c = let r = c.args.self.now in let b : Batch = c.batch-batch.result in let v0 : View = producer_view r.producer in
+    let v : View = producer_view c.slot_free.new.p in let v1 : View = producer_view c.place.new.p in
+    let v2 : View = producer_view c.admit-index.new.p in let v3 : View = producer_view c.hand.new.p in
+    let of_table : Handed → Type 0 = λ note. IsOfTable r.table (note_table note) in
+    let here = c.admit-index.ensures.same ∙ c.place.ensures.same ∙ c.slot_free.ensures.same ∙ r.producer_of in record {
+      producer_of = c.hand.ensures.same ∙ here;
+      flush_of = r.flush_of;
+      one_of = r.one_of;
+      other_of = r.other_of;
+      notes_of = All-same of_table c.push.new.self.items _ c.push.ensures.items
+          (added of_table _ r.notes.items c.in-Ok.note r.notes_of (c.in-Ok.ensures.given.table ∙ here));
+      awaits = awaits_handed v v1 v2 v3 r.next r.placed _ b (awaits_read v0 v _ r.next r.placed r.awaits c.slot_free.ensures.read)
+          c.place.ensures.placed c.admit-index.ensures.admitted c.in-Ok.ensures.given.left
+          (c.end-self.ensures.end ∙ ap (λ (x : ℕ). x + numbers b) c.batch-batch.ensures);
+      one_idle = r.one_idle;
+      other_idle = r.other_idle;
+    }

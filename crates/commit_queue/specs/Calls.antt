@@ -1,0 +1,167 @@
+-- What the calls ask and answer, over what a seat knows before and after.
+use Rattle.std.specs.Prelude.{◌≡◌, ◌≢◌, ◌⊎◌, ◌↔◌, ℕ, suc, ◌+◌, ◌*◌, ◌%◌, ◌<◌, ◌≤◌, min, max, Bool, IsTrue, List, [], ◌++◌, length, Some, None}
+use mathlib.Core.Option.{some}
+use lib.ListN.{get_elem?}
+use Rattle.batch_repr.specs.declared.batch.Batch.{Batch}
+use Rattle.batch_repr.specs.declared.limits.TheConstants.{BATCHES_MAX}
+use Rattle.publish_core.specs.declared.seat.Claim.TheVariants.{Free}
+use Rattle.publish_core.specs.declared.seat.Kind.TheVariants.{Note, Producer}
+use Rattle.publish_core.specs.Machine.{Among, ends, both_held}
+use Rattle.commit_queue.specs.declared.published.Published.{Published}
+use Rattle.commit_queue.specs.declared.published.Published.TheVariants.{Raised, NotReady, Raced}
+use Rattle.commit_queue.specs.declared.view.View.{View}
+use Rattle.commit_queue.specs.Rule.{numbers, touches, IsPrefix}
+use Rattle.commit_queue.specs.Views.{read_view, marked_view, ends_view, lost_view, won_view, emptied_view, raised_view}
+use Rattle.commit_queue.specs.Views.{raising_view, acked_view, told_acked, telling_view, shown_view, settled_view}
+use Rattle.commit_queue.specs.Tells.{high, low, IsSettledBy}
+
+-- The slot at head was read, and was found free exactly where the word was 0.
+abbrev pub ReadsHeadSlot : View → Bool → View → Type 0
+ReadsHeadSlot v free v' = (word : ℕ) × (v' ≡ read_view v (v.head % 64) word) × (IsTrue free ↔ (word ≡ 0))
+
+-- the number that the next batch begins with: the end of the last one, or the table's first number
+abbrev pub next_number : View → ℕ
+next_number v = ends numbers v.base v.history (length v.history)
+
+-- The slot at head was read last, as 0, and this is not forgotten; nothing is held; the batch follows the last one.
+pub record CanPlace (v : View) (b : Batch) : Type 0 where
+  pub empty : v.seat.reading ≡ Some record { at = v.head % 64; word = 0 }
+  pub idle : v.seat.held ≡ None
+  pub follows : b.first ≡ next_number v
+  pub few : length v.history < BATCHES_MAX
+
+-- The producer's seat holds nothing, has admitted all that it placed, so many batches, and this number comes next.
+pub record AwaitsBatch (v : View) (next placed : ℕ) : Type 0 where
+  pub idle : v.seat.held ≡ None
+  pub admitted : v.head ≡ placed
+  pub placed_is : length v.history ≡ placed
+  pub next_is : next ≡ next_number v
+
+-- A batch is placed and not admitted.
+abbrev pub HasPlaced : View → Type 0
+HasPlaced v = length v.history ≡ v.head + 1
+
+-- The seat holds a batch that is admitted. It has to be asked of the producer's seat alone: others hold no other batch.
+pub record HoldsAdmitted (v : View) : Type 0 where
+  pub index : ℕ
+  pub holds : v.seat.held ≡ Some index
+  pub admitted : v.seat.kind ≡ Producer → index < v.head
+
+-- The seat knows that the batch i is applied in each shard that it touches.
+abbrev pub KnowsApplied : View → ℕ → Type 0
+KnowsApplied v i = (b : Batch) (k : ℕ) → get_elem? v.history i ≡ some b → IsTrue (touches b k)
+    → Among (record { batch = i; shard = k }) v.seat.knows
+
+-- The batch that the seat held is marked.
+abbrev pub MarksHeld : View → View → Type 0
+MarksHeld v v' = (i : ℕ) → v.seat.held ≡ Some i → v' ≡ marked_view v i
+
+-- the view once the ends and the front's slot are read
+abbrev pub looked_view : View → ℕ → ℕ → ℕ → View
+looked_view v h t w = read_view (ends_view v h t) (t % 64) w
+
+-- The batch i, which ends at e, was taken from the front, its slot emptied, and the visible number raised to at least e:
+-- so many batches are published. The history grew once as the front was claimed, and again at the end.
+pub record TriesRaised (v : View) (i e : ℕ) (v' : View) : Type 0 where
+  pub head : ℕ
+  pub claimed : List Batch
+  pub count : ℕ
+  pub history : List Batch
+  pub view : v' ≡ raised_view (emptied_view (won_view (looked_view v head i (2 * e + 1)) i claimed) i) count history
+  pub goes_on : IsPrefix v.history claimed
+  pub goes_further : IsPrefix claimed history
+  pub within : suc i ≤ length claimed
+  pub end_is : e ≡ ends numbers v.base claimed (suc i)
+  pub past : suc i ≤ count
+  pub reached : count ≤ length history
+  pub published : v.seat.published ≤ count
+  pub whole : v.seat.kind ≡ Producer → history ≡ v.history
+
+-- The front's slot was read as an even word; or head was tail, and no slot was read.
+abbrev pub TriesNotReady : View → ℕ → ℕ → ℕ → View → Type 0
+TriesNotReady v h t w v' = ((h ≡ t) × (w ≡ 0) × (v' ≡ ends_view v h t))
+    ⊎ ((h ≢ t) × (w % 2 ≡ 0) × (v' ≡ looked_view v h t w))
+
+-- The front's slot was read as an odd word, and then the exchange found other ends, h and t, than those that were read.
+pub record TriesRaced (v : View) (h t : ℕ) (v' : View) : Type 0 where
+  pub head : ℕ
+  pub tail : ℕ
+  pub word : ℕ
+  pub odd : word % 2 ≡ 1
+  pub other : (head ≢ h) ⊎ (tail ≢ t)
+  pub view : v' ≡ lost_view (looked_view v head tail word) h t
+
+-- what a call of `try_publish` answers
+abbrev pub Tries : View → Published → View → Type 0
+Tries v (Raised i e) v' = TriesRaised v i e v'
+Tries v (NotReady h t w) v' = TriesNotReady v h t w v'
+Tries v (Raced h t) v' = TriesRaced v h t v'
+
+-- The acked number was read, and is no less than what was seen.
+abbrev pub SeesAcked : View → ℕ → View → Type 0
+SeesAcked v r v' = (v' ≡ acked_view v r) × (v.seat.acked ≤ r)
+
+-- Head was read as h, and the acked word is at least r, the lesser of n and h.
+abbrev pub RaisesAcked : View → ℕ → ℕ → View → Type 0
+RaisesAcked v n r v' = (h t : ℕ) × (r ≡ min n h) × (v' ≡ raising_view (ends_view v h t) r)
+
+-- Head and tail were read, and the history is now that of both seats.
+abbrev pub SettlesView : View → View → Type 0
+SettlesView v v' = (r : ℕ) × (h : List Batch) × (v' ≡ settled_view (ends_view v (high r) (low r)) h) × IsSettledBy v h
+
+-- The seat of v has taken in that of w: it has seen what both had seen, and holds what either held.
+pub record TakesIn (v w v' : View) : Type 0 where
+  pub calm : v'.absorbed ≡ []
+  pub goes_on : IsPrefix v.history v'.history
+  pub has_both : IsPrefix w.history v'.history
+  pub same_base : w.base ≡ v.base
+  pub published : v'.seat.published ≡ max v.seat.published w.seat.published
+  pub acked : v'.seat.acked ≡ max v.seat.acked w.seat.acked
+  pub within : v'.seat.published ≤ length v'.history
+  pub kind : v'.seat.kind ≡ v.seat.kind
+  pub claim : v'.seat.claim ≡ v.seat.claim
+  pub turn : v'.seat.turn ≡ v.seat.turn
+  pub base : v'.base ≡ v.base
+  pub knows : v'.seat.knows ≡ v.seat.knows ++ w.seat.knows
+  -- the batch that it holds is not among those that it has seen published
+  pub behind : (i : ℕ) → v'.seat.held ≡ Some i → v'.seat.published ≤ i
+  pub held : v'.seat.held ≡ both_held v.seat.held w.seat.held
+  pub own : v'.seat.own ≡ v.seat.own ++ w.seat.own
+  pub acked_known : v'.acked_known ≡ told_acked v.acked_known w.acked_known
+
+-- The seat of v, which has met that of w, has seen what both had seen.
+abbrev pub SeesBoth : View → View → View → Type 0
+SeesBoth v w v' = TakesIn (telling_view v) (shown_view Note w) v'
+
+-- A seat has seen no less than before.
+pub record SeesNoLess (v v' : View) : Type 0 where
+  pub history : IsPrefix v.history v'.history
+  pub published : v.seat.published ≤ v'.seat.published
+  pub acked : v.seat.acked ≤ v'.seat.acked
+
+-- What a call that publishes or reads leaves of a view.
+pub record ViewGoesOn (v v' : View) : Type 0 where
+  pub kind : v'.seat.kind ≡ v.seat.kind
+  pub absorbed : v'.absorbed ≡ v.absorbed
+  pub claim : v.seat.claim ≡ Free → v'.seat.claim ≡ Free
+  pub held : v'.seat.held ≡ v.seat.held
+  pub own : v'.seat.own ≡ v.seat.own
+  pub knows : v'.seat.knows ≡ v.seat.knows
+  pub turn : v'.seat.turn ≡ v.seat.turn
+  pub base : v'.base ≡ v.base
+  pub head : v'.head ≡ v.head
+  pub history : IsPrefix v.history v'.history
+  pub whole : v.seat.kind ≡ Producer → v'.history ≡ v.history
+  pub published : v.seat.published ≤ v'.seat.published
+  pub acked : v.seat.acked ≤ v'.seat.acked
+  pub retired : v'.acked_known.retired ≡ v.acked_known.retired
+
+-- The batch of this index is among the history, and ends here.
+pub record IsEndOf (v : View) (index end : ℕ) : Type 0 where
+  pub seen : index < length v.history
+  pub end_is : end ≡ ends numbers v.base v.history (suc index)
+
+-- The batches that the seat has seen published are among its history; where this is the end of n batches, they are n at least.
+pub record PublishesTo (v : View) (end : ℕ) (v' : View) : Type 0 where
+  pub within : v'.seat.published ≤ length v'.history
+  pub past : (n : ℕ) → n ≤ length v.history → end ≡ ends numbers v.base v.history n → n ≤ v'.seat.published

@@ -1,0 +1,95 @@
+-- The rule of the table: its words, the shards at home and all views are one sound state of the ring's machine.
+use Rattle.std.specs.Prelude.{◌≡◌, ◌≢◌, ℕ, zero, suc, ◌+◌, ◌*◌, ◌^◌, ◌<◌, ◌≤◌, Bool, List, [], length, Option, Some, slice_index, true, false}
+use mathlib.Core.Option.{some}
+use mathlib.Core.Option as maybe
+use lib.ListN.{get_elem?}
+use Rattle.atomic_table.specs.Table as table
+use Rattle.batch_repr.specs.declared.batch.Batch.{Batch}
+use Rattle.batch_repr.specs.Batches.{count_of}
+use Rattle.memtable_shards.specs.declared.version.Version.{Version}
+use Rattle.publish_core.specs.declared.seat.Kind.TheVariants.{Producer, Spent}
+use Rattle.publish_core.specs.Machine.{CoreState, ends, visible}
+use Rattle.publish_core.specs.Sound.{Sound}
+use Rattle.commit_queue.specs.declared.view.AckedKnown.{AckedKnown}
+use Rattle.commit_queue.specs.declared.view.View.{View}
+use Rattle.commit_queue.specs.declared.pipe_table.TableOpening.{TableOpening}
+use Rattle.commit_queue.specs.Shards.{HasVersions, NumberedBelow}
+
+-- a state of the ring's machine, over batches as they are written
+abbrev pub RingState : Type 0
+RingState = CoreState Batch
+
+-- what a slot of the table holds: a shard, or nothing
+abbrev pub Slot : Type 0
+Slot = Option (List Version)
+
+-- the table as plain data
+abbrev pub TableState : Type 0
+TableState = table.State Slot View
+
+-- how many numbers a batch takes
+abbrev pub numbers : Batch → ℕ
+numbers batch = count_of batch.entries
+
+-- The batch is to be applied in the shard k before it is marked: none is, until a call takes a shard out.
+abbrev pub touches : Batch → ℕ → Bool
+touches batch k = false
+
+-- The state of the machine is sound.
+abbrev pub IsSoundRing : RingState → Type 0
+IsSoundRing = Sound numbers touches
+
+-- the word of a shard: 1 where a seat has the turn
+abbrev pub turn_word : ℕ → ℕ
+turn_word zero = 0
+turn_word (suc j) = 1
+
+-- The words show this state of the machine.
+pub record Shows (c : RingState) (words : List ℕ) : Type 0 where
+  pub wide : length words ≡ 75
+  pub ends_word : slice_index words 0 ≡ c.head * 4294967296 + c.tail
+  pub visible_word : slice_index words 1 ≡ visible numbers c
+  pub acked_word : slice_index words 2 ≡ c.acked
+  pub ring_word : (k : ℕ) → k < 64 → slice_index words (k + 3) ≡ c.ring k
+  pub shard_word : (k : ℕ) → k < 8 → slice_index words (k + 67) ≡ turn_word (c.turn k)
+
+-- Each batch of the first list stands at its place in the second.
+abbrev pub IsPrefix : List Batch → List Batch → Type 0
+IsPrefix xs ys = (k : ℕ) (b : Batch) → get_elem? xs k ≡ some b → get_elem? ys k ≡ some b
+
+-- What the seat j knows of the acked word holds: acked and made are the machine's, seen is what it has seen acked.
+pub record AckedKnownOk (acked made j seen : ℕ) (k : AckedKnown) : Type 0 where
+  pub raised : k.is_flush ≡ true → (j ≡ 1) × (k.raised ≡ acked)
+  pub retired : (n : ℕ) → k.retired ≡ Some n → seen ≤ n
+  pub alone : k.alone ≡ true → (made ≡ 1) × (acked ≡ 0)
+
+-- The view v of the seat j holds.
+pub record ViewOk (opening : List (List Version)) (c : RingState) (j : ℕ) (v : View) : Type 0 where
+  pub seat : c.seats j ≡ v.seat
+  pub base : v.seat.kind ≢ Spent → (v.base ≡ c.base) × (v.absorbed_base ≡ c.base)
+  pub known : IsPrefix v.history c.batches
+  pub absorbed : IsPrefix v.absorbed c.batches
+  pub seen : v.absorbed ≡ [] → v.seat.seen ≤ length v.history
+  pub producer : v.seat.kind ≡ Producer → j ≡ 0
+  pub whole : j ≡ 0 → v.history ≡ c.batches
+  pub head : j ≡ 0 → v.head ≡ c.head
+  pub turn : (k : ℕ) → v.seat.turn ≡ Some k → HasVersions opening c.batches (c.done k) k v.taken
+  pub acked_known : AckedKnownOk c.acked c.made j v.seat.acked v.acked_known
+
+-- The shard k is at home, with the versions of the opening and of what is applied there.
+abbrev pub AtHome : List (List Version) → RingState → List (maybe.Option Slot) → ℕ → Type 0
+AtHome opening c homes k = (x : List Version) × (get_elem? homes k ≡ some (some (Some x))) × HasVersions opening c.batches (c.done k) k x
+
+-- The table is one sound state of the machine.
+pub record Linked (o : TableOpening) (s : TableState) : Type 0 where
+  pub core : RingState
+  pub sound : IsSoundRing core
+  pub base_is : core.base ≡ o.base
+  pub below : NumberedBelow o.base o.shards.value
+  pub few : length core.batches ≤ 1048576
+  pub small : (i : ℕ) → i < length core.batches → ends numbers core.base core.batches (suc i) < 2 ^ 56
+  pub first : (i : ℕ) (b : Batch) → get_elem? core.batches i ≡ some b → b.first ≡ ends numbers core.base core.batches i
+  pub shows : Shows core s.words
+  pub made : length s.views ≡ core.made
+  pub each_view : (j : ℕ) (v : View) → get_elem? s.views j ≡ some v → ViewOk o.shards.value core j v
+  pub homes : (k : ℕ) → k < 8 → core.turn k ≡ 0 → AtHome o.shards.value core s.homes k

@@ -1,0 +1,108 @@
+-- What each step tells, of the view before, the word found and the view after.
+use Rattle.std.specs.Prelude.{◌≡◌, ◌≢◌, ℕ, suc, ◌+◌, ◌-◌, ◌*◌, ◌/◌, ◌%◌, ◌≤◌, List, length, Some}
+use Rattle.atomic_table.specs.Table.{Me, Step}
+use Rattle.batch_repr.specs.declared.batch.Batch.{Batch}
+use Rattle.publish_core.specs.declared.seat.Claim.TheVariants.{Taken, Emptied}
+use Rattle.publish_core.specs.declared.seat.Kind.TheVariants.{Producer}
+use Rattle.publish_core.specs.declared.seat.Reading.{Reading}
+use Rattle.publish_core.specs.Machine.{ends}
+use Rattle.commit_queue.specs.declared.view.View.{View}
+use Rattle.commit_queue.specs.Rule.{Slot, numbers, IsPrefix}
+use Rattle.commit_queue.specs.Views.{read_view, placed_view, admitted_view, marked_view, ends_view, lost_view, won_view}
+use Rattle.commit_queue.specs.Views.{emptied_view, raised_view, visible_view, settled_view, raising_view, acked_view}
+
+-- a view, and the slots that are out with the seat
+abbrev pub Seated : Type 0
+Seated = Me Slot View
+
+-- the head in a word 0
+abbrev pub high : ℕ → ℕ
+high r = r / 4294967296
+
+-- the tail in a word 0
+abbrev pub low : ℕ → ℕ
+low r = r % 4294967296
+
+-- The history grew to h, which reaches to n. The producer's does not grow: it is whole.
+abbrev pub Grew : View → List Batch → ℕ → Type 0
+Grew v h n = IsPrefix v.history h × (n ≤ length h) × (v.seat.kind ≡ Producer → h ≡ v.history)
+
+-- Each batch that ends at or below r is among the first n.
+abbrev pub ReachesTo : ℕ → List Batch → ℕ → ℕ → Type 0
+ReachesTo base h n r = (k : ℕ) → k ≤ length h → ends numbers base h k ≤ r → k ≤ n
+
+-- A ring slot was read.
+abbrev pub TellsSlot : Step Slot → Seated → ℕ → Seated → Type 0
+TellsSlot st m r m' = (m'.1 ≡ m.1) × (m'.0 ≡ read_view m.0 (st.word - 3) r)
+
+-- The batch b was placed.
+abbrev pub TellsPlaced : Batch → Step Slot → Seated → ℕ → Seated → Type 0
+TellsPlaced b st m r m' = (m'.1 ≡ m.1) × (m'.0 ≡ placed_view m.0 b)
+
+-- Head was raised.
+abbrev pub TellsAdmitted : Step Slot → Seated → ℕ → Seated → Type 0
+TellsAdmitted st m r m' = (m'.1 ≡ m.1) × (m'.0 ≡ admitted_view m.0)
+
+-- The batch that the seat held was marked.
+abbrev pub TellsMarked : Step Slot → Seated → ℕ → Seated → Type 0
+TellsMarked st m r m' = (m'.1 ≡ m.1) × ((i : ℕ) → m.0.seat.held ≡ Some i → m'.0 ≡ marked_view m.0 i)
+
+-- Head and tail were read.
+abbrev pub TellsEnds : Step Slot → Seated → ℕ → Seated → Type 0
+TellsEnds st m r m' = (m'.1 ≡ m.1) × (m'.0 ≡ ends_view m.0 (high r) (low r)) × (low r ≤ high r)
+
+-- The front was claimed, where the ends were still those that were loaded, and else these ends were read.
+abbrev pub TellsClaim : Step Slot → Seated → ℕ → Seated → Type 0
+TellsClaim st m r m' = (m'.1 ≡ m.1)
+    × (r ≡ st.first → (h : List Batch) × (m'.0 ≡ won_view m.0 (low r) h) × Grew m.0 h (suc (low r))
+    × ((q : Reading) → m.0.seat.reading ≡ Some q → q.word ≡ 2 * ends numbers m.0.base h (suc (low r)) + 1))
+    × (r ≢ st.first → m'.0 ≡ lost_view m.0 (high r) (low r))
+
+-- The slot of the claimed batch was emptied.
+abbrev pub TellsEmptied : Step Slot → Seated → ℕ → Seated → Type 0
+TellsEmptied st m r m' = (m'.1 ≡ m.1) × ((t : ℕ) → m.0.seat.claim ≡ Taken t → m'.0 ≡ emptied_view m.0 t)
+
+-- The visible number was raised: n batches are published.
+abbrev pub TellsRaised : Step Slot → Seated → ℕ → Seated → Type 0
+TellsRaised st m r m' = (m'.1 ≡ m.1)
+    × ((n : ℕ) × (h : List Batch) × (m'.0 ≡ raised_view m.0 n h) × Grew m.0 h n × (m.0.seat.published ≤ n)
+    × ((t : ℕ) → m.0.seat.claim ≡ Emptied t → suc t ≤ n))
+
+-- The visible number r was read: it is the end of the first batches of the history, so many. The history goes on from
+-- what was seen, and their count is no less than what was seen published.
+pub record SeesVisible (v : View) (r : ℕ) (v' : View) : Type 0 where
+  pub count : ℕ
+  pub history : List Batch
+  pub view : v' ≡ visible_view v count history
+  pub grew : Grew v history count
+  pub published : v.seat.published ≤ count
+  pub end_is : r ≡ ends numbers v.base history count
+  pub reaches : ReachesTo v.base history count r
+
+abbrev pub TellsVisible : Step Slot → Seated → ℕ → Seated → Type 0
+TellsVisible st m r m' = (m'.1 ≡ m.1) × SeesVisible m.0 r m'.0
+
+-- The acked word was raised, from what the flush seat had raised it to.
+abbrev pub TellsAckedRaised : Step Slot → Seated → ℕ → Seated → Type 0
+TellsAckedRaised st m r m' = (m'.1 ≡ m.1) × (m'.0 ≡ raising_view m.0 st.first) × (r ≡ m.0.acked_known.raised)
+
+-- The acked word was read.
+abbrev pub TellsAcked : Step Slot → Seated → ℕ → Seated → Type 0
+TellsAcked st m r m' = (m'.1 ≡ m.1) × (m'.0 ≡ acked_view m.0 r) × (m.0.seat.acked ≤ r)
+
+-- What holds of the view v of a seat that took in another, by the rule, where h are the batches of the table.
+pub record IsSettledBy (v : View) (h : List Batch) : Type 0 where
+  pub goes_on : IsPrefix v.history h
+  pub has_absorbed : IsPrefix v.absorbed h
+  pub same_base : v.absorbed_base ≡ v.base
+  pub within : v.seat.seen ≤ length h
+  pub published_within : v.seat.published ≤ length h
+  -- the batch that the seat holds is not among those that it has seen published
+  pub behind : (i : ℕ) → v.seat.held ≡ Some i → v.seat.published ≤ i
+  pub retired : (n : ℕ) → v.acked_known.retired ≡ Some n → v.seat.acked ≤ n
+  pub whole : v.seat.kind ≡ Producer → h ≡ v.history
+
+-- Head and tail were read, and the history is now that of both seats.
+abbrev pub TellsSettled : Step Slot → Seated → ℕ → Seated → Type 0
+TellsSettled st m r m' = (m'.1 ≡ m.1)
+    × ((h : List Batch) × (m'.0 ≡ settled_view (ends_view m.0 (high r) (low r)) h) × IsSettledBy m.0 h)

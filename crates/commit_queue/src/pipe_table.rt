@@ -1,0 +1,49 @@
+//! The table that all seats share: 75 words that change in single steps, and a slot for each shard.
+//!
+//! Word 0 has head in its high half and tail in its low half, word 1 is the visible number and word
+//! 2 the acked number. The words 3 to 66 are the ring: 0, or twice a batch's end, and 1 more once the
+//! batch is marked. The words 67 to 74 say whether a shard is taken.
+ghost use Rattle.std.specs.Prelude.{◌≡◌};
+
+use crate::view::View;
+use atomic_table::{Seat, Table, TableRule};
+use memtable_shards::Shard;
+use std::alloc::Global;
+use std::snapshot::Snapshot;
+use wal_base::ListOf;
+
+/// Shards, each at the place of its number.
+pub type Shards = ListOf<Shard>;
+
+/// What a table is made of: its first number, and the shards as they were then.
+#[derive(Drop)]
+pub(crate) struct TableOpening {
+    pub(crate) base: u64,
+    pub(crate) shards: Snapshot<Shards>,
+}
+
+/// The rule of the table.
+pub(crate) struct RingRule;
+
+impl TableRule<Option<Shard>, View, TableOpening> for RingRule {
+    ghost use Rattle.commit_queue.specs.declared.pipe_table.TableOpening.{TableOpening};
+    ghost use Rattle.commit_queue.specs.Rule.{Linked};
+    ghost use Rattle.commit_queue.specs.Views.{first_view};
+
+    ghost holds = { Linked };
+
+    ghost first = { λ (opening : TableOpening). first_view opening.base };
+}
+
+pub(crate) type AtomicTable = Table<Option<Shard>, View, TableOpening, RingRule, Global>;
+
+pub(crate) type TableSeat = Seat<Option<Shard>, View>;
+
+/// The table of a commit ring. Each call on it takes a seat of it, and none but the two that
+/// publish in a loop waits.
+#[derive(Drop)]
+pub struct PipeTable {
+    pub(crate) table: AtomicTable,
+    ghost words: { table.shared.table_id.words ≡ 75 },
+    ghost slots: { table.shared.table_id.slots ≡ 8 },
+}

@@ -1,0 +1,337 @@
+//! What the ring does, by examples.
+ghost use Rattle.std.specs.Prelude.{◌≡◌, ◌<◌, [], All, None, length, replicate};
+ghost use Rattle.memtable_shards.specs.declared.sharding.TheConstants.{SHARDS};
+ghost use Rattle.commit_queue.specs.Calls.{AwaitsBatch};
+ghost use Rattle.commit_queue.specs.Tables.{IsOfTable};
+ghost use Rattle.commit_queue.specs.Seats.{producer_table, producer_view, flush_table};
+ghost use Rattle.commit_queue.specs.Seats.{session_table, session_view, note_table};
+
+use crate::{FlushSeat, Handed, PipeTable, ProducerSeat, Published, SessionSeat, Shards};
+use batch_repr::{BATCHES_MAX, BatchBuilder, NUMBER_MAX, Numbered, Unnumbered};
+use memtable_shards::{SHARDS, Shard};
+use std::alloc::Global;
+use std::process::Abort;
+use std::sync::Wait;
+use wal_base::ListOf;
+
+const FIRST: u64 = 10;
+
+/// A table whose first number is 10, with two sessions, and the notes of batches that no session
+/// adopted yet.
+#[derive(Drop)]
+struct Rig {
+    alloc: Global,
+    table: PipeTable,
+    producer: ProducerSeat,
+    flush: FlushSeat,
+    one: SessionSeat,
+    other: SessionSeat,
+    notes: Vec<Handed>,
+    next: u64,
+    placed: u64,
+    ghost producer_of: { IsOfTable table (producer_table producer) },
+    ghost flush_of: { IsOfTable table (flush_table flush) },
+    ghost one_of: { IsOfTable table (session_table one) },
+    ghost other_of: { IsOfTable table (session_table other) },
+    ghost notes_of: { All (λ note. IsOfTable table (note_table note)) notes.items },
+    ghost awaits: { AwaitsBatch (producer_view producer) next placed },
+    ghost one_idle: { (session_view one).seat.held ≡ None },
+    ghost other_idle: { (session_view other).seat.held ≡ None },
+}
+
+/// Eight shards without a version.
+fn eight(rt: &impl Abort, alloc: Global) -> Shards
+    ensures { result ≡ replicate SHARDS [] }
+{
+    let mut shards = ListOf::new(alloc);
+    for _ in 0..SHARDS {
+        if shards.push(Shard::new(alloc)).is_err() {
+            panic!(rt; "memory");
+        }
+    }
+    shards
+}
+
+/// A batch that takes one number.
+fn one_set(rt: &impl Abort, alloc: Global) -> Unnumbered {
+    let mut builder = BatchBuilder::new(alloc).expect(rt, "memory");
+    if builder.set(b"k", b"v").is_err() {
+        panic!(rt; "memory");
+    }
+    match builder.finish() {
+        Ok(batch) => batch,
+        Err(_) => panic!(rt; "a batch of one entry"),
+    }
+}
+
+impl Rig {
+    fn open(rt: &impl Abort, alloc: Global) -> Rig {
+        let made = PipeTable::new(alloc, 2, FIRST, eight(rt, alloc));
+        let Ok((table, producer, flush, mut sessions)) = made else {
+            panic!(rt; "memory");
+        };
+        let (Some(other), Some(one)) = (sessions.pop(), sessions.pop()) else {
+            panic!(rt; "two sessions");
+        };
+        Rig {
+            alloc,
+            table,
+            producer,
+            flush,
+            one,
+            other,
+            notes: Vec::new(alloc),
+            next: FIRST,
+            placed: 0,
+        }
+    }
+
+    /// The next batch, which takes one number.
+    fn batch(&self, rt: &impl Abort) -> Numbered
+        ensures { result.first ≡ self.now.next }
+    {
+        let batch = one_set(rt, self.alloc);
+        if self.next > NUMBER_MAX || u64::from(batch.count()) > NUMBER_MAX - self.next {
+            panic!(rt; "a number left");
+        }
+        batch.number(self.next)
+    }
+
+    /// Places, admits and hands over the next batch, and answers its index, where its slot is free.
+    fn send_next(&mut self, rt: &impl Abort) -> Option<u64> {
+        let batch = self.batch(rt);
+        if self.placed >= BATCHES_MAX {
+            panic!(rt; "a batch left");
+        }
+        if !self.table.slot_free(&mut self.producer) {
+            return None;
+        }
+        self.table.place(&mut self.producer, &batch);
+        let index = self.table.admit(&mut self.producer);
+        let Ok(note) = self.table.hand(&mut self.producer) else {
+            panic!(rt; "memory");
+        };
+        self.notes.push(note).expect(rt, "memory");
+        self.next = batch.end();
+        self.placed += 1;
+        Some(index)
+    }
+
+    /// The session adopts the batch of the note at that place, and marks it.
+    fn mark(&mut self, rt: &impl Abort, at: usize) {
+        if at >= self.notes.len() {
+            panic!(rt; "a note");
+        }
+        let note = self.notes.remove(at);
+        self.table.adopt(&mut self.one, note);
+        self.table.mark(&mut self.one);
+    }
+
+    /// The session tries to publish.
+    fn publish(&mut self) -> Published {
+        self.table.try_publish(&mut self.one)
+    }
+
+    /// The session publishes until the visible number is at least this.
+    fn publish_until(&mut self, rt: &impl Wait, end: u64) {
+        self.table.publish_until(rt, &mut self.one, end);
+    }
+
+    /// The producer commits the next batch by itself, and tries to publish.
+    fn commit_alone(&mut self, rt: &impl Abort) -> Option<Published> {
+        let batch = self.batch(rt);
+        if self.placed >= BATCHES_MAX {
+            panic!(rt; "a batch left");
+        }
+        if !self.table.slot_free(&mut self.producer) {
+            return None;
+        }
+        self.table.place(&mut self.producer, &batch);
+        self.table.admit(&mut self.producer);
+        self.table.mark(&mut self.producer);
+        self.next = batch.end();
+        self.placed += 1;
+        Some(self.table.try_publish(&mut self.producer))
+    }
+
+    /// Both sessions meet.
+    fn meet(&mut self, rt: &impl Abort) {
+        if self.table.meet(&mut self.one, &mut self.other).is_err() {
+            panic!(rt; "memory");
+        }
+    }
+
+    /// What the other session sees published.
+    fn other_visible(&mut self) -> u64 {
+        self.table.visible(&mut self.other)
+    }
+
+    /// The flush seat raises the acked word.
+    fn raise_acked(&mut self, n: u64) -> u64 {
+        self.table.raise_acked(&mut self.flush, n)
+    }
+
+    /// What the other session sees acked.
+    fn other_acked(&mut self) -> u64 {
+        self.table.acked(&mut self.other)
+    }
+}
+
+#[test]
+fn a_batch_is_published_once_it_is_marked(rt: HostRuntime) {
+    let mut rig = Rig::open(&rt, rt.alloc());
+    let early = Published::NotReady {
+        head: 0,
+        tail: 0,
+        word: 0,
+    };
+    assert_eq!(rt; rig.publish(), early);
+    assert_eq!(rt; rig.send_next(&rt), Some(0));
+    let unmarked = Published::NotReady {
+        head: 1,
+        tail: 0,
+        word: 22,
+    };
+    assert_eq!(rt; rig.publish(), unmarked);
+    rig.mark(&rt, 0);
+    let raised = Published::Raised {
+        index: 0,
+        visible: 11,
+    };
+    assert_eq!(rt; rig.publish(), raised);
+    rig.meet(&rt);
+    assert_eq!(rt; rig.other_visible(), 11);
+}
+
+#[test]
+fn the_acked_word_is_raised_to_head_at_most(rt: HostRuntime) {
+    let mut rig = Rig::open(&rt, rt.alloc());
+    assert_eq!(rt; rig.raise_acked(1), 0);
+    assert_eq!(rt; rig.send_next(&rt), Some(0));
+    assert_eq!(rt; rig.other_acked(), 0);
+    assert_eq!(rt; rig.raise_acked(2), 1);
+    assert_eq!(rt; rig.other_acked(), 1);
+}
+
+fn is_sent<T: Send>(_: &T) -> bool {
+    true
+}
+
+fn is_shared<T: Sync>(_: &T) -> bool {
+    true
+}
+
+#[test]
+fn a_table_is_shared_by_threads_and_seats_go_to_them(rt: HostRuntime) {
+    let mut rig = Rig::open(&rt, rt.alloc());
+    assert_eq!(rt; rig.send_next(&rt), Some(0));
+    assert!(rt; is_shared(&rig.table));
+    assert!(rt; is_sent(&rig.producer));
+    assert!(rt; is_sent(&rig.flush));
+    assert!(rt; is_sent(&rig.one));
+    assert!(rt; is_sent(&rig.notes));
+}
+
+#[test]
+fn a_session_publishes_until_its_batch_is_visible(rt: HostRuntime) {
+    let mut rig = Rig::open(&rt, rt.alloc());
+    for index in 0..3u64 {
+        assert_eq!(rt; rig.send_next(&rt), Some(index));
+    }
+    for at in [2, 1, 0] {
+        rig.mark(&rt, at);
+    }
+    rig.publish_until(&rt, 12);
+    assert_eq!(rt; rig.other_visible(), 12);
+    rig.publish_until(&rt, 13);
+    assert_eq!(rt; rig.other_visible(), 13);
+}
+
+#[test]
+fn the_producer_publishes_by_itself(rt: HostRuntime) {
+    let mut rig = Rig::open(&rt, rt.alloc());
+    for index in 0..3u64 {
+        let raised = Published::Raised {
+            index,
+            visible: FIRST + index + 1,
+        };
+        assert_eq!(rt; rig.commit_alone(&rt), Some(raised));
+    }
+    assert_eq!(rt; rig.other_visible(), 13);
+}
+
+#[test]
+fn a_full_ring_is_freed_from_the_front(rt: HostRuntime) {
+    let mut rig = Rig::open(&rt, rt.alloc());
+    for index in 0..64u64 {
+        assert_eq!(rt; rig.send_next(&rt), Some(index));
+    }
+    for index in 0..64u64 {
+        assert_eq!(rt; rig.send_next(&rt), None);
+        rig.mark(&rt, 0);
+        assert_eq!(rt; rig.send_next(&rt), None);
+        let raised = Published::Raised {
+            index,
+            visible: FIRST + index + 1,
+        };
+        assert_eq!(rt; rig.publish(), raised);
+        assert_eq!(rt; rig.send_next(&rt), Some(index + 64));
+    }
+}
+
+/// Sends eight batches, marks them in the order that the number picks among all, and publishes
+/// after each mark what is marked at the front.
+fn publishes_in_order(rt: &impl Abort, rig: &mut Rig, order: u32) {
+    let alloc = rig.alloc;
+    let mut waiting: Vec<u64> = Vec::new(alloc);
+    for _ in 0..8 {
+        let index = rig.send_next(rt).expect(rt, "a free slot");
+        waiting.push(index).expect(rt, "memory");
+    }
+    let mut marked: Vec<u64> = Vec::new(alloc);
+    let mut front = match waiting.first() {
+        Some(first) => *first,
+        None => panic!(rt; "a batch that waits"),
+    };
+    let mut rest = order;
+    for left in (1..=8u32).rev() {
+        let at = (rest % left) as usize;
+        rest /= left;
+        rig.mark(rt, at);
+        if at >= waiting.len() {
+            panic!(rt; "a batch that waits");
+        }
+        marked.push(waiting.remove(at)).expect(rt, "memory");
+        front = published_from(rt, rig, &marked, front);
+    }
+    assert!(rt; waiting.is_empty());
+}
+
+/// Publishes while the batch at the front is marked, and answers the front that is left.
+fn published_from(rt: &impl Abort, rig: &mut Rig, marked: &[u64], from: u64) -> u64 {
+    let mut front = from;
+    for _ in 0..9 {
+        match rig.publish() {
+            Published::Raised { index, visible } => {
+                assert!(rt; marked.contains(&front));
+                assert_eq!(rt; index, front);
+                assert_eq!(rt; visible, FIRST.wrapping_add(front).wrapping_add(1));
+                front = front.wrapping_add(1);
+            }
+            Published::NotReady { .. } => {
+                assert!(rt; !marked.contains(&front));
+                return front;
+            }
+            Published::Raced { .. } => panic!(rt; "no other seat publishes"),
+        }
+    }
+    panic!(rt; "at most eight batches to publish")
+}
+
+#[test]
+fn batches_are_published_in_order_whatever_the_order_of_their_marks(rt: HostRuntime) {
+    let mut rig = Rig::open(&rt, rt.alloc());
+    for order in 0..40_320 {
+        publishes_in_order(&rt, &mut rig, order);
+    }
+}
