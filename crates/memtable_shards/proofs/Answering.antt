@@ -1,17 +1,18 @@
 -- What one of the eight shards answers below the end of some batches is the answer after those batches.
-use Rattle.std.proofs.Common.{◌≡◌, inl, inr, ℕ, ◌≤◌, ◌<◌, List, [], ◌∷◌, ◌++◌, length, take, drop, Option, Some, None, refl, sym, ap, ◌∙◌, subst, arith, append_assoc}
-use Rattle.std.specs.Prelude.{Contains, slice_get, filter, option_and_then}
+use Rattle.std.proofs.Common.{◌≡◌, inl, inr, ℕ, ◌≤◌, ◌<◌, Bool, true, false, List, [], ◌∷◌, ◌++◌, length, take, drop, Option, Some, None, refl, sym, ap, ◌∙◌, subst, arith, append_assoc}
+use Rattle.std.specs.Prelude.{Contains, nat_lt, slice_get, filter, option_and_then}
 use Rattle.std.specs.List.{last_or}
+use Rattle.std.proofs.lemmas.Bool.Decides.{nat_tests}
 use Rattle.std.proofs.lemmas.List.{take-append-drop, take_all}
 use Rattle.std.proofs.lemmas.List.Elements.{Contains-append_left, Contains-append_cases}
 use Rattle.batch_repr.specs.declared.batch.Batch.{Batch}
 use Rattle.batch_repr.specs.Batches.{IsContiguous, end_after, entries_in, answer, value_left, is_about}
 use Rattle.batch_repr.proofs.Laws.{contiguous_back, contiguous_front}
 use Rattle.memtable_shards.specs.declared.version.Version.{Version}
-use Rattle.memtable_shards.specs.Versions.{versions_of, versions_in, shard_of, AreShardsOf}
+use Rattle.memtable_shards.specs.Versions.{versions_of, versions_in, shard_of, HaveBelow, AreShardsOf}
 use Rattle.memtable_shards.specs.declared.found.Found.{Found}
 use Rattle.memtable_shards.specs.declared.found.Found.TheVariants.{Nothing, Gone, Value}
-use Rattle.memtable_shards.specs.Newest.{IsNewestOf, version_found, FindsNewest, value_found}
+use Rattle.memtable_shards.specs.Newest.{HasNoneBelow, IsNewestOf, version_found, FindsNewest, value_found}
 use Rattle.memtable_shards.proofs.Numbers.{number_within}
 use Rattle.memtable_shards.proofs.Reading.{answer_read, version_of, value_of}
 
@@ -75,24 +76,41 @@ told_value key Nothing = refl
 told_value key (Gone seq) = refl
 told_value key (Value seq bytes) = refl
 
--- The shard of a key answers as all shards would.
+-- The shard of a key answers as all shards would, whatever it has from that end on.
+pub shard_answers_below : (from n : ℕ) (batches : List Batch) (shard : List Version) (key : List ℕ) (found : Found) → IsContiguous from batches
+    → HaveBelow (end_after from (take n batches)) batches (shard_of key) shard
+    → FindsNewest shard key (end_after from (take n batches)) found → value_found found ≡ answer batches n key
+shard_answers_below from n batches shard key found numbered have read =
+    told_value key found ∙ answer_front from n batches key (version_found key found) numbered (go (version_found key found) read)
+  where
+    end : ℕ
+    end = end_after from (take n batches)
+
+    to_shard : (v : Version) → v.number < end → Contains (versions_in batches) v → v.key ≡ key → Contains shard v
+    to_shard v below h about = (have v below).1 (h, ap shard_of about)
+
+    none_below : HasNoneBelow shard key end → (v : Version) → Contains (versions_in batches) v → v.key ≡ key → (b : Bool) → nat_lt v.number end ≡ b
+        → end ≤ v.number
+    none_below without v h about true e = without v (to_shard v (grind (arith, nat_tests, e)) h about) about
+    none_below without v h about false e = grind (arith, nat_tests, e)
+
+    go : (found : Option Version) → IsNewestOf shard key end found → IsNewestOf (versions_in batches) key end found
+    go None without = λ v h about. none_below without v h about (nat_lt v.number end) refl
+    go (Some v) is = (
+      record {
+        stands = ((have v is.0.under).0 is.0.stands).0;
+        under = is.0.under;
+        last = λ other h same below. is.0.last other (to_shard other below h (same ∙ is.1)) same below;
+      },
+      is.1,
+    )
+
+-- the same where it has just the versions of the batches
 pub shard_answers : (from n : ℕ) (batches : List Batch) (shards : List (List Version)) (shard : List Version) (key : List ℕ) (found : Found)
     → IsContiguous from batches → AreShardsOf shards batches → slice_get shards (shard_of key) ≡ Some shard
     → FindsNewest shard key (end_after from (take n batches)) found → value_found found ≡ answer batches n key
 shard_answers from n batches shards shard key found numbered are here read =
-    told_value key found ∙ answer_front from n batches key (version_found key found) numbered (go (version_found key found) read)
-  where
-    go : (found : Option Version) → IsNewestOf shard key (end_after from (take n batches)) found
-        → IsNewestOf (versions_in batches) key (end_after from (take n batches)) found
-    go None without = λ v h about. without v ((are.own (shard_of key) shard here v).1 (h, ap shard_of about)) about
-    go (Some v) is = (
-      record {
-        stands = ((are.own (shard_of key) shard here v).0 is.0.stands).0;
-        under = is.0.under;
-        last = λ other h same below. is.0.last other ((are.own (shard_of key) shard here other).1 (h, ap shard_of (same ∙ is.1))) same below;
-      },
-      is.1,
-    )
+    shard_answers_below from n batches shard key found numbered (λ v below. are.own (shard_of key) shard here v) read
 
 -- the same after all batches
 pub shard_answers_all : (from : ℕ) (batches : List Batch) (shards : List (List Version)) (shard : List Version) (key : List ℕ) (found : Found)

@@ -11,7 +11,7 @@ use Rattle.batch_repr.specs.declared.batch.Batch.{Batch}
 use Rattle.batch_repr.specs.Batches.{end_of, IsContiguous, end_after}
 use Rattle.memtable_shards.specs.declared.sharding.TheConstants.{SHARDS}
 use Rattle.memtable_shards.specs.declared.version.Version.{Version}
-use Rattle.memtable_shards.specs.Versions.{versions_from, versions_of, versions_in, shard_of, of_shard, Gains, HaveOtherNumbers, AreShardsOf}
+use Rattle.memtable_shards.specs.Versions.{versions_from, versions_of, versions_in, shard_of, of_shard, piece_in, Gains, HaveOtherNumbers, AreShardsOf}
 use Rattle.memtable_shards.specs.Pieces.{PiecesLeft, whole_pieces, versions_cut, IsNextPiece, NoPieceIsLeft, AreShardsAmid}
 use Rattle.memtable_shards.proofs.Numbers.{number_within}
 use Rattle.memtable_shards.proofs.Reading.{version_of}
@@ -47,14 +47,13 @@ pieces_begin shards batches batch are = record {
     was v index (inr none) = absurd (omega (arith, none.1))
 
 -- the pieces' versions are those of the batch
-cut_is : (shards : List (List Version)) (batches : List Batch) (batch : Batch) (pieces : PiecesLeft) → AreShardsAmid shards batches batch pieces
+pub cut_is : (pieces : PiecesLeft) (batch : Batch) → pieces.entries ≡ batch.entries → pieces.first ≡ Some batch.first
     → versions_cut pieces ≡ versions_of batch
-cut_is shards batches batch pieces amid = ap (λ (first : Option ℕ). versions_from (unwrap_or first 0) pieces.entries) amid.first
-    ∙ ap (versions_from batch.first) amid.entries
+cut_is pieces batch entries first = ap (λ (first : Option ℕ). versions_from (unwrap_or first 0) pieces.entries) first ∙ ap (versions_from batch.first) entries
 
-piece_of : (shards : List (List Version)) (batches : List Batch) (batch : Batch) (pieces : PiecesLeft) (index : ℕ) (piece : List Version)
-    → AreShardsAmid shards batches batch pieces → IsNextPiece pieces index piece → piece ≡ of_shard index (versions_of batch)
-piece_of shards batches batch pieces index piece amid next = next.own ∙ ap (of_shard index) (cut_is shards batches batch pieces amid)
+pub piece_of : (pieces : PiecesLeft) (batch : Batch) (index : ℕ) (piece : List Version) → pieces.entries ≡ batch.entries
+    → pieces.first ≡ Some batch.first → IsNextPiece pieces index piece → piece ≡ piece_in index batch
+piece_of pieces batch index piece entries first next = next.own ∙ ap (of_shard index) (cut_is pieces batch entries first)
 
 -- the last of batches in a row
 contiguous_last : (start : ℕ) (batches : List Batch) (batch : Batch) → IsContiguous start (batches ++ batch ∷ [])
@@ -73,7 +72,7 @@ next_is_new start shards batches batch pieces index piece shard row amid next at
     late : batch.first ≤ other.number
     late = (number_within batch.first batch.entries other
         (kept_from index (versions_of batch) other (subst (λ (l : List Version). Contains l other)
-        (piece_of shards batches batch pieces index piece amid next) k)).0).0
+        (piece_of pieces batch index piece amid.entries amid.first next) k)).0).0
 
     apart : Contains (versions_in batches) one ⊎ (Contains (versions_of batch) one × (index < pieces.from)) → one.number ≢ other.number
     apart (inl early) = λ (same : one.number ≡ other.number).
@@ -126,11 +125,11 @@ next_applied shards batches batch pieces index piece old new amid next was gains
   own = λ place shard at v. go place shard v (changed shards index old new place shard was at);
 }
   where
-    is : piece ≡ of_shard index (versions_of batch)
-    is = piece_of shards batches batch pieces index piece amid next
+    is : piece ≡ piece_in index batch
+    is = piece_of pieces batch index piece amid.entries amid.first next
 
     cut : versions_cut pieces ≡ versions_of batch
-    cut = cut_is shards batches batch pieces amid
+    cut = cut_is pieces batch amid.entries amid.first
 
     Has : ℕ → Version → Type 0
     Has place v = (Contains (versions_in batches) v ⊎ (Contains (versions_of batch) v × (place < index + 1))) × (shard_of v.key ≡ place)
@@ -198,7 +197,7 @@ pieces_end shards batches batch pieces amid none = record {
       | inr mine ↦ inr (
         mine,
         subst (λ (n : ℕ). n < pieces.from) e
-            (none v (subst (λ (l : List Version). Contains l v) (sym (cut_is shards batches batch pieces amid)) mine)),
+            (none v (subst (λ (l : List Version). Contains l v) (sym (cut_is pieces batch amid.entries amid.first)) mine)),
       )
     ]
 

@@ -13,4 +13,5 @@ mod Handing
 mod Waiting
 mod Settling
 mod Applying
+mod Touching
 mod Rigs

@@ -5,7 +5,7 @@ use Rattle.batch_repr.specs.Batches.{IsContiguous, end_after, answer}
 use Rattle.memtable_shards.specs.declared.sharding.TheConstants.{SHARDS}
 use Rattle.memtable_shards.specs.declared.version.Version.{Version}
 use Rattle.memtable_shards.specs.declared.found.Found.{Found}
-use Rattle.memtable_shards.specs.Versions.{shard_of, Gains, HasSameVersions, HaveOtherNumbers, AreShardsOf}
+use Rattle.memtable_shards.specs.Versions.{shard_of, HaveBelow, Gains, HasSameVersions, HaveOtherNumbers, AreShardsOf}
 use Rattle.memtable_shards.specs.Newest.{FindsNewest, value_found}
 use Rattle.memtable_shards.specs.Pieces.{PiecesLeft, whole_pieces, IsNextPiece, NoPieceIsLeft, AreShardsAmid}
 
@@ -22,6 +22,13 @@ ShardsAnswerAfterAll =
     (start : ℕ) (batches : List Batch) (shards : List (List Version)) (shard : List Version) (key : List ℕ) (found : Found) → IsContiguous start batches
     → AreShardsOf shards batches → slice_get shards (shard_of key) ≡ Some shard
     → FindsNewest shard key (end_after start batches) found → value_found found ≡ answer batches (length batches) key
+
+-- So does a shard of which no more is known than what it has below that end: it may have versions of later batches, or lack some.
+abbrev pub ShardAnswersBelow : Type 0
+ShardAnswersBelow =
+    (start n : ℕ) (batches : List Batch) (shard : List Version) (key : List ℕ) (found : Found) → IsContiguous start batches
+    → HaveBelow (end_after start (take n batches)) batches (shard_of key) shard
+    → FindsNewest shard key (end_after start (take n batches)) found → value_found found ≡ answer batches n key
 
 -- Eight shards that hold nothing are those of no batch.
 abbrev pub EmptyShardsAreOfNoBatch : Type 0

@@ -1,5 +1,5 @@
 -- The versions that batches leave, and the shards that hold them (docs/FORMATS.md, "The shards").
-use Rattle.std.specs.Prelude.{◌≡◌, ◌≢◌, ◌⊎◌, ℕ, ◌+◌, ◌==◌, ◌%◌, List, [], ◌∷◌, length, Option, Some, None, Contains, filter, slice_get, ◌↔◌}
+use Rattle.std.specs.Prelude.{◌≡◌, ◌≢◌, ◌⊎◌, ℕ, ◌+◌, ◌<◌, ◌==◌, nat_lt, ◌%◌, Bool, List, [], ◌∷◌, length, Option, Some, None, Contains, filter, slice_get, ◌↔◌}
 use Rattle.std.specs.List.{flat_map, sum}
 use Rattle.wal_base.specs.declared.entry.Entry.{Entry}
 use Rattle.wal_base.specs.declared.entry.Entry.TheVariants.{Set, Delete, Note}
@@ -33,6 +33,14 @@ shard_of key = sum key % SHARDS
 abbrev pub of_shard : ℕ → List Version → List Version
 of_shard shard versions = filter (λ (version : Version). shard_of version.key == shard) versions
 
+-- the versions that a batch leaves in the shard
+abbrev pub piece_in : ℕ → Batch → List Version
+piece_in shard batch = of_shard shard (versions_of batch)
+
+-- the batch leaves a version in the shard
+abbrev pub touches : Batch → ℕ → Bool
+touches batch shard = nat_lt 0 (length (piece_in shard batch))
+
 -- A shard with these versions more. The order of the versions says nothing.
 abbrev pub Gains : List Version → List Version → List Version → Type 0
 Gains old more new = (version : Version) → Contains new version ↔ (Contains old version ⊎ Contains more version)
@@ -44,6 +52,11 @@ HasSameVersions old new = (version : Version) → Contains new version ↔ Conta
 -- No version of the one has the number of a version of the other.
 abbrev pub HaveOtherNumbers : List Version → List Version → Type 0
 HaveOtherNumbers ones others = (one other : Version) → Contains ones one → Contains others other → one.number ≢ other.number
+
+-- Of the versions numbered below the limit these are just the ones that the batches left in the shard.
+abbrev pub HaveBelow : ℕ → List Batch → ℕ → List Version → Type 0
+HaveBelow limit batches shard versions = (version : Version) → version.number < limit
+    → Contains versions version ↔ (Contains (versions_in batches) version × (shard_of version.key ≡ shard))
 
 -- Eight shards have the versions of the batches, each those of its keys.
 pub record AreShardsOf (shards : List (List Version)) (batches : List Batch) : Type 0 where

@@ -1,7 +1,7 @@
 //! Laws of eight shards, for the layer that keeps them.
 
 ghost use Rattle.memtable_shards.specs.Theorems.{ShardsAnswerAfterSome, ShardsAnswerAfterAll};
-ghost use Rattle.memtable_shards.specs.Theorems.{EmptyShardsAreOfNoBatch, ShardsAreSettled};
+ghost use Rattle.memtable_shards.specs.Theorems.{ShardAnswersBelow, EmptyShardsAreOfNoBatch, ShardsAreSettled};
 ghost use Rattle.memtable_shards.specs.Theorems.{PiecesBegin, NextPieceIsNew, NextPieceIsApplied, PiecesEnd};
 
 /// The shard of a key, read below the end of the first n batches, answers what the store answers after
@@ -9,6 +9,7 @@ ghost use Rattle.memtable_shards.specs.Theorems.{PiecesBegin, NextPieceIsNew, Ne
 pub fn shards_answer_as_the_store()
     ensures some { ShardsAnswerAfterSome }
     ensures all { ShardsAnswerAfterAll }
+    ensures below { ShardAnswersBelow }
 {}
 
 /// Eight new shards are those of no batch.
