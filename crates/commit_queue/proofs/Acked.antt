@@ -2,6 +2,7 @@
 use Rattle.std.proofs.Common.{◌≡◌, ◌≢◌, ℕ, ◌+◌, ◌<◌, ◌≤◌, List, length, get_or, set, Some, sym, refl, ap, ◌∙◌, subst, arith, length-set, get_or-set_other, get_or-set_same, true, max}
 use mathlib.Core.Option.{none}
 use Rattle.atomic_table.specs.Table.{step, keeps, Allows}
+use Rattle.memtable_shards.specs.Versions.{touches}
 use Rattle.publish_core.specs.declared.seat.Kind.TheVariants.{Spent}
 use Rattle.publish_core.specs.declared.seat.SeatState.{SeatState}
 use Rattle.publish_core.specs.Machine.{updated, Acts, one_more, after_load_acked}
@@ -10,7 +11,7 @@ use Rattle.publish_core.proofs.Laws.{kept_raise_acked}
 use Rattle.publish_core.proofs.Laws.{kept_load_acked}
 use Rattle.commit_queue.specs.declared.pipe_table.TableOpening.{TableOpening}
 use Rattle.commit_queue.specs.declared.view.View.{View}
-use Rattle.commit_queue.specs.Rule.{RingState, numbers, touches, Shows, Linked}
+use Rattle.commit_queue.specs.Rule.{RingState, numbers, Shows, Linked}
 use Rattle.commit_queue.specs.Views.{raising_view, acked_view}
 use Rattle.commit_queue.specs.Tells.{Seated, TellsAckedRaised, TellsAcked}
 use Rattle.commit_queue.proofs.Becomes.{linked, put_again, stays, shows_seats}
@@ -64,6 +65,8 @@ module _ (o : TableOpening) where
           dones = refl;
           turns = refl;
           hand = ok.turn;
+          pieces = ok.pieces;
+          idle = ok.idle;
           acked_known = record {
             raised = λ e. (one, ap (λ (y : ℕ). max y k) mine.1);
             retired = ok.acked_known.retired;
@@ -108,6 +111,8 @@ module _ (o : TableOpening) where
         dones = refl;
         turns = refl;
         hand = ok.turn;
+        pieces = ok.pieces;
+        idle = ok.idle;
         acked_known = record { raised = ok.acked_known.raised; retired = λ m e. absurd (calm m e); alone = ok.acked_known.alone };
         acked_others = λ j a d ne o. o;
       })

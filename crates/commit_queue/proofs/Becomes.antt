@@ -1,5 +1,5 @@
 -- How a sound step of the ring's machine becomes a step that keeps the rule of the table.
-use Rattle.std.proofs.Common.{◌≡◌, ◌≢◌, ℕ, zero, suc, ◌+◌, ◌*◌, ◌^◌, ◌<◌, ◌≤◌, List, [], ◌∷◌, length, get_or, set, Some, sym, refl, ap, ◌∙◌, subst, ap₂, inl, inr, ⊎_elim, arith, length-set, get_or-set_other, get_or-set_same}
+use Rattle.std.proofs.Common.{◌≡◌, ◌≢◌, ℕ, zero, suc, ◌+◌, ◌*◌, ◌^◌, ◌<◌, ◌≤◌, List, [], ◌∷◌, length, get_or, set, Some, None, sym, refl, ap, ◌∙◌, subst, ap₂, inl, inr, ⊎_elim, arith, length-set, get_or-set_other, get_or-set_same}
 use mathlib.Core.Option.{some}
 use lib.ListN.{get_elem?}
 use lib.Seq.{set-get_or}
@@ -9,13 +9,13 @@ use Rattle.batch_repr.specs.declared.batch.Batch.{Batch}
 use Rattle.memtable_shards.specs.declared.version.Version.{Version}
 use Rattle.publish_core.specs.declared.seat.Kind.TheVariants.{Producer, Worker, Spent}
 use Rattle.publish_core.specs.declared.seat.SeatState.{SeatState}
-use Rattle.publish_core.specs.Machine.{updated, ends, visible, Acts}
+use Rattle.publish_core.specs.Machine.{Among, updated, ends, visible, Acts}
 use Rattle.publish_core.proofs.Laws.{put_here, put_else, at_put}
 use Rattle.commit_queue.specs.declared.pipe_table.TableOpening.{TableOpening}
 use Rattle.commit_queue.specs.declared.view.AckedKnown.{AckedKnown}
 use Rattle.commit_queue.specs.declared.view.View.{View}
 use Rattle.commit_queue.specs.Shards.{HasVersions}
-use Rattle.commit_queue.specs.Rule.{RingState, Slot, TableState, numbers, IsSoundRing, turn_word, Shows, IsPrefix, ViewOk, AckedKnownOk, Linked}
+use Rattle.commit_queue.specs.Rule.{RingState, Slot, TableState, numbers, IsSoundRing, turn_word, Shows, IsPrefix, PiecesOk, ViewOk, AckedKnownOk, Linked}
 use Rattle.commit_queue.specs.Tells.{Seated}
 
 -- a seat that acts was not taken in
@@ -36,7 +36,7 @@ pub record Becomes (o : TableOpening) (s : TableState) (r : Linked o s) (id : �
   pub small : (i : ℕ) → i < length core.batches → ends numbers core.base core.batches (suc i) < 2 ^ 56
   pub first : (i : ℕ) (b : Batch) → get_elem? core.batches i ≡ some b → b.first ≡ ends numbers core.base core.batches i
   pub shows : Shows core words
-  pub base_is : w.seat.kind ≢ Spent → (w.base ≡ r.core.base) × (w.absorbed_base ≡ r.core.base)
+  pub base_is : w.seat.kind ≢ Spent → (w.base ≡ r.core.base) × (w.absorbed_base ≡ r.core.base) × (w.opening ≡ o.shards.value)
   pub known : IsPrefix w.history core.batches
   pub absorbed : IsPrefix w.absorbed core.batches
   pub seen : w.absorbed ≡ [] → w.seat.seen ≤ length w.history
@@ -46,6 +46,8 @@ pub record Becomes (o : TableOpening) (s : TableState) (r : Linked o s) (id : �
   pub dones : core.done ≡ r.core.done
   pub turns : core.turn ≡ r.core.turn
   pub hand : (k : ℕ) → w.seat.turn ≡ Some k → HasVersions o.shards.value r.core.batches (r.core.done k) k w.taken
+  pub pieces : PiecesOk r.core w
+  pub idle : w.seat.held ≡ None → w.pieces ≡ []
   pub acked_known : AckedKnownOk core.acked core.made id w.seat.acked w.acked_known
   pub acked_others : (j a : ℕ) (k : AckedKnown) → j ≢ id → AckedKnownOk r.core.acked r.core.made j a k
       → AckedKnownOk core.acked core.made j a k
@@ -76,6 +78,10 @@ keeps_versions o s r c longer dones k x h = subst (λ (d : List ℕ). HasVersion
       ),
     )
 
+-- the batch that a seat holds is applied in the same shards, where the same are applied
+pub same_pieces : (c c' : RingState) (v : View) → c'.done ≡ c.done → PiecesOk c v → PiecesOk c' v
+same_pieces c c' v dones h = λ i k e. let p = h i k e in (λ a. p.0 (subst (λ (f : ℕ → List ℕ). Among i (f k)) dones a), p.1)
+
 pub linked : (o : TableOpening) (s : TableState) (r : Linked o s) (id : ℕ) (words : List ℕ) (w : View) → Becomes o s r id words w
     → Linked o record {
       words = words;
@@ -95,7 +101,7 @@ linked o s r id words w b = record {
   each_view = λ j v at. ⊎_elim
       (λ (t : (j ≡ id) × (w ≡ v)). subst (λ (x : ℕ × View). ViewOk o.shards.value b.core x.0 x.1) (λ k. (sym t.0 k, t.1 k)) record {
         seat = ap (λ (f : ℕ → SeatState). f id) b.seats ∙ put_here r.core.seats id w.seat;
-        base = λ live. let e = b.base_is live in (e.0 ∙ sym b.same_base, e.1 ∙ sym b.same_base);
+        base = λ live. let e = b.base_is live in (e.0 ∙ sym b.same_base, e.1 ∙ sym b.same_base, e.2);
         known = b.known;
         absorbed = b.absorbed;
         seen = b.seen;
@@ -103,12 +109,14 @@ linked o s r id words w b = record {
         whole = b.whole;
         head = b.head;
         turn = λ k e. keeps_versions o s r b.core b.longer b.dones k w.taken (b.hand k e);
+        pieces = same_pieces r.core b.core w b.dones b.pieces;
+        idle = b.idle;
         acked_known = b.acked_known;
       })
       (λ (t : (j ≢ id) × (get_elem? s.views j ≡ some v)). let ok = r.each_view j v t.1 in
       let away : j ≡ 0 → id ≢ 0 = λ z e. t.0 (z ∙ sym e) in record {
         seat = ap (λ (f : ℕ → SeatState). f j) b.seats ∙ put_else r.core.seats id w.seat j t.0 ∙ ok.seat;
-        base = λ live. let e = ok.base live in (e.0 ∙ sym b.same_base, e.1 ∙ sym b.same_base);
+        base = λ live. let e = ok.base live in (e.0 ∙ sym b.same_base, e.1 ∙ sym b.same_base, e.2);
         known = λ k y e. b.longer k y (ok.known k y e);
         absorbed = λ k y e. b.longer k y (ok.absorbed k y e);
         seen = ok.seen;
@@ -116,6 +124,8 @@ linked o s r id words w b = record {
         whole = λ z. ok.whole z ∙ sym (b.others (away z)).0;
         head = λ z. ok.head z ∙ sym (b.others (away z)).1;
         turn = λ k e. keeps_versions o s r b.core b.longer b.dones k v.taken (ok.turn k e);
+        pieces = same_pieces r.core b.core v b.dones ok.pieces;
+        idle = ok.idle;
         acked_known = b.acked_others j v.seat.acked v.acked_known t.0 ok.acked_known;
       })
       (at_set s.views id j w v at);
@@ -138,7 +148,7 @@ pub record Turns (o : TableOpening) (s : TableState) (r : Linked o s) (id : ℕ)
   pub batches : core.batches ≡ r.core.batches
   pub heads : core.head ≡ r.core.head
   pub shows : Shows core words
-  pub base_is : (w.base ≡ v.base) × (w.absorbed_base ≡ v.absorbed_base)
+  pub base_is : (w.base ≡ v.base) × (w.absorbed_base ≡ v.absorbed_base) × (w.opening ≡ v.opening)
   pub same_kind : w.seat.kind ≡ v.seat.kind
   pub known : IsPrefix w.history r.core.batches
   pub absorbed : IsPrefix w.absorbed r.core.batches
@@ -148,6 +158,8 @@ pub record Turns (o : TableOpening) (s : TableState) (r : Linked o s) (id : ℕ)
   pub taken_is : w.taken ≡ v.taken
   pub acked_is : (w.acked_known ≡ v.acked_known) × (w.seat.acked ≡ v.seat.acked) × (core.acked ≡ r.core.acked)
   pub same_hand : w.seat.turn ≡ v.seat.turn
+  pub pieces : PiecesOk r.core w
+  pub idle : w.seat.held ≡ None → w.pieces ≡ []
   pub dones : core.done ≡ r.core.done
   pub turns : core.turn ≡ r.core.turn
 
@@ -171,7 +183,7 @@ turned o s r id words w v at t = let ok = r.each_view id v at in linked o s r id
   first = subst (λ (x : ℕ × List Batch). (i : ℕ) (b : Batch) → get_elem? x.1 i ≡ some b → b.first ≡ ends numbers x.0 x.1 i)
       (λ k. (sym t.same_base k, sym t.batches k)) r.first;
   shows = t.shows;
-  base_is = λ live. let e = ok.base (λ q. live (t.same_kind ∙ q)) in (t.base_is.0 ∙ e.0, t.base_is.1 ∙ e.1);
+  base_is = λ live. let e = ok.base (λ q. live (t.same_kind ∙ q)) in (t.base_is.0 ∙ e.0, t.base_is.1 ∙ e.1, t.base_is.2 ∙ e.2);
   known = subst (IsPrefix w.history) (sym t.batches) t.known;
   absorbed = subst (IsPrefix w.absorbed) (sym t.batches) t.absorbed;
   seen = t.seen;
@@ -181,6 +193,8 @@ turned o s r id words w v at t = let ok = r.each_view id v at in linked o s r id
   dones = t.dones;
   turns = t.turns;
   hand = λ k e. subst (HasVersions o.shards.value r.core.batches (r.core.done k) k) (sym t.taken_is) (ok.turn k (sym t.same_hand ∙ e));
+  pieces = t.pieces;
+  idle = t.idle;
   acked_known = same_desk r.core.acked t.core.acked r.core.made t.core.made id v.seat.acked w.seat.acked v.acked_known w.acked_known t.acked_is.2 t.same_made t.acked_is.1 t.acked_is.0 ok.acked_known;
   acked_others = λ j a k _ h. same_desk r.core.acked t.core.acked r.core.made t.core.made j a a k k t.acked_is.2 t.same_made refl refl h;
 }

@@ -1,6 +1,7 @@
 -- What a call that publishes or reads leaves of a view, and what of calls in a row.
 use Rattle.std.proofs.Common.{◌≡◌, ◌≢◌, ⊎_elim, le_refl, [], ◌∷◌, ℕ, suc, ◌%◌, ◌≤◌, List, length, sym, refl, ap, ◌∙◌, subst, arith}
 use Rattle.batch_repr.specs.declared.batch.Batch.{Batch}
+use Rattle.batch_repr.specs.declared.limits.TheConstants.{BATCHES_MAX}
 use Rattle.publish_core.specs.Machine.{ends}
 use Rattle.publish_core.proofs.Laws.{at_below, ends_mono}
 use Rattle.commit_queue.specs.declared.published.Published.{Published}
@@ -25,13 +26,17 @@ goes_on_same v = record {
   held = refl;
   own = refl;
   knows = refl;
+  pieces = refl;
   turn = refl;
+  taken = refl;
   base = refl;
+  opening = refl;
   head = refl;
   history = λ k b e. e;
   whole = λ _. refl;
   published = le_refl v.seat.published;
   acked = le_refl v.seat.acked;
+  within = λ all. all;
   retired = refl;
 }
 
@@ -43,13 +48,17 @@ goes_on_both a b c f g = record {
   held = g.held ∙ f.held;
   own = g.own ∙ f.own;
   knows = g.knows ∙ f.knows;
+  pieces = g.pieces ∙ f.pieces;
   turn = g.turn ∙ f.turn;
+  taken = g.taken ∙ f.taken;
   base = g.base ∙ f.base;
+  opening = g.opening ∙ f.opening;
   head = g.head ∙ f.head;
   history = λ k x e. g.history k x (f.history k x e);
   whole = λ k. g.whole (f.kind ∙ k) ∙ f.whole k;
   published = (let x = f.published in let y = g.published in omega arith);
   acked = (let x = f.acked in let y = g.acked in omega arith);
+  within = λ all. g.within (f.within all);
   retired = g.retired ∙ f.retired;
 }
 
@@ -62,13 +71,17 @@ goes_on_read v at w = record {
   held = refl;
   own = refl;
   knows = refl;
+  pieces = refl;
   turn = refl;
+  taken = refl;
   base = refl;
+  opening = refl;
   head = refl;
   history = λ k b e. e;
   whole = λ _. refl;
   published = le_refl v.seat.published;
   acked = le_refl v.seat.acked;
+  within = λ all. all;
   retired = refl;
 }
 
@@ -80,13 +93,17 @@ tries_goes_on v v' (Raised i e) t = subst (ViewGoesOn v) (sym t.view) record {
   held = refl;
   own = refl;
   knows = refl;
+  pieces = refl;
   turn = refl;
+  taken = refl;
   base = refl;
+  opening = refl;
   head = refl;
   history = λ k b q. t.goes_further k b (t.goes_on k b q);
   whole = t.whole;
   published = t.published;
   acked = le_refl v.seat.acked;
+  within = λ _. t.reached;
   retired = refl;
 }
 tries_goes_on v v' (NotReady h t w) s = ⊎_elim
@@ -97,13 +114,17 @@ tries_goes_on v v' (NotReady h t w) s = ⊎_elim
       held = refl;
       own = refl;
       knows = refl;
+      pieces = refl;
       turn = refl;
+      taken = refl;
       base = refl;
+      opening = refl;
       head = refl;
       history = λ k b q. q;
       whole = λ _. refl;
       published = le_refl v.seat.published;
       acked = le_refl v.seat.acked;
+      within = λ all. all;
       retired = refl;
     })
     (λ (a : (h ≢ t) × (w % 2 ≡ 0) × (v' ≡ looked_view v h t w)). subst (ViewGoesOn v) (sym a.2) record {
@@ -113,13 +134,17 @@ tries_goes_on v v' (NotReady h t w) s = ⊎_elim
       held = refl;
       own = refl;
       knows = refl;
+      pieces = refl;
       turn = refl;
+      taken = refl;
       base = refl;
+      opening = refl;
       head = refl;
       history = λ k b q. q;
       whole = λ _. refl;
       published = le_refl v.seat.published;
       acked = le_refl v.seat.acked;
+      within = λ all. all;
       retired = refl;
     })
     s
@@ -130,13 +155,17 @@ tries_goes_on v v' (Raced h t) s = subst (ViewGoesOn v) (sym s.view) record {
   held = refl;
   own = refl;
   knows = refl;
+  pieces = refl;
   turn = refl;
+  taken = refl;
   base = refl;
+  opening = refl;
   head = refl;
   history = λ k b q. q;
   whole = λ _. refl;
   published = le_refl v.seat.published;
   acked = le_refl v.seat.acked;
+  within = λ all. all;
   retired = refl;
 }
 
@@ -148,13 +177,17 @@ sees_goes_on v v' r t = subst (ViewGoesOn v) (sym t.view) record {
   held = refl;
   own = refl;
   knows = refl;
+  pieces = refl;
   turn = refl;
+  taken = refl;
   base = refl;
+  opening = refl;
   head = refl;
   history = t.grew.0;
   whole = t.grew.2;
   published = t.published;
   acked = le_refl v.seat.acked;
+  within = λ _. t.grew.1;
   retired = refl;
 }
 
@@ -166,13 +199,17 @@ acked_goes_on v v' r t = subst (ViewGoesOn v) (sym t.0) record {
   held = refl;
   own = refl;
   knows = refl;
+  pieces = refl;
   turn = refl;
+  taken = refl;
   base = refl;
+  opening = refl;
   head = refl;
   history = λ k b q. q;
   whole = λ _. refl;
   published = le_refl v.seat.published;
   acked = t.1;
+  within = λ all. all;
   retired = refl;
 }
 
@@ -194,3 +231,7 @@ visible_no_less v v' r t = let a = ends_mono numbers v.base t.history v.seat.pub
 -- what was seen published is among the history that was seen
 pub seen_within : (v v' : View) (r : ℕ) → SeesVisible v r v' → v'.seat.published ≤ length v'.history
 seen_within v v' r t = subst (λ (x : View). x.seat.published ≤ length x.history) (sym t.view) t.grew.1
+
+-- no seat has seen more batches than a table takes
+pub seen_few : (v v' : View) (r : ℕ) → SeesVisible v r v' → length v'.history ≤ BATCHES_MAX
+seen_few v v' r t = subst (λ (x : View). length x.history ≤ BATCHES_MAX) (sym t.view) t.few

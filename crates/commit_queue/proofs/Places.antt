@@ -8,6 +8,7 @@ use lib.ListN.{get_elem?}
 use Rattle.atomic_table.specs.Table.{step, keeps, Allows}
 use Rattle.atomic_table.proofs.Lists.{at_longer}
 use Rattle.batch_repr.specs.declared.batch.Batch.{Batch}
+use Rattle.memtable_shards.specs.Versions.{touches}
 use Rattle.publish_core.specs.declared.seat.Kind.TheVariants.{Producer, Spent}
 use Rattle.publish_core.specs.declared.seat.Reading.{Reading}
 use Rattle.publish_core.specs.declared.seat.SeatState.{SeatState}
@@ -18,7 +19,7 @@ use Rattle.publish_core.proofs.Laws.{kept_admit}
 use Rattle.publish_core.proofs.Laws.{kept_load_slot}
 use Rattle.commit_queue.specs.declared.pipe_table.TableOpening.{TableOpening}
 use Rattle.commit_queue.specs.declared.view.View.{View}
-use Rattle.commit_queue.specs.Rule.{RingState, numbers, touches, IsPrefix, Linked}
+use Rattle.commit_queue.specs.Rule.{RingState, numbers, IsPrefix, Linked}
 use Rattle.commit_queue.specs.Views.{read_seat, read_view, placed_view, admitted_view}
 use Rattle.commit_queue.specs.Tells.{Seated, TellsSlot, TellsPlaced, TellsAdmitted}
 use Rattle.commit_queue.specs.Calls.{CanPlace, next_number}
@@ -41,7 +42,7 @@ module _ (o : TableOpening) where
         batches = refl;
         heads = refl;
         shows = shows_seats c _ s.words r.shows;
-        base_is = (refl, refl);
+        base_is = (refl, refl, refl);
         same_kind = refl;
         known = ok.known;
         absorbed = ok.absorbed;
@@ -51,6 +52,8 @@ module _ (o : TableOpening) where
         taken_is = refl;
         acked_is = (refl, refl, refl);
         same_hand = refl;
+        pieces = ok.pieces;
+        idle = ok.idle;
         dones = refl;
         turns = refl;
       })
@@ -116,6 +119,11 @@ module _ (o : TableOpening) where
           dones = refl;
           turns = refl;
           hand = ok.turn;
+          pieces = λ j k e. (
+            (λ a. let same : length v.history ≡ j = cc in let l = r.sound.known j k a in absurd (omega arith)),
+            λ a. absurd a,
+          );
+          idle = λ e. let q : Some (length v.history) ≡ None = e in cc;
           acked_known = ok.acked_known;
           acked_others = λ j a k _ h. h;
         },
@@ -157,6 +165,8 @@ module _ (o : TableOpening) where
           dones = refl;
           turns = refl;
           hand = ok.turn;
+          pieces = ok.pieces;
+          idle = ok.idle;
           acked_known = ok.acked_known;
           acked_others = λ j a k _ h. h;
         },

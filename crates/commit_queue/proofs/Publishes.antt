@@ -8,6 +8,7 @@ use prog.Atomic.{either}
 use Rattle.atomic_table.specs.Table.{step, keeps, Allows}
 use Rattle.atomic_table.proofs.Lists.{exchanged}
 use Rattle.batch_repr.specs.declared.batch.Batch.{Batch}
+use Rattle.memtable_shards.specs.Versions.{touches}
 use Rattle.publish_core.specs.declared.seat.Kind.TheVariants.{Producer}
 use Rattle.publish_core.specs.declared.seat.Claim.TheVariants.{Free, Taken, Emptied}
 use Rattle.publish_core.specs.declared.seat.Stage.TheVariants.{Held, Marked}
@@ -20,10 +21,10 @@ use Rattle.publish_core.proofs.Laws.{kept_claim_won, emptied_state, emptying, ra
 use Rattle.publish_core.proofs.Laws.{kept_load_ends, kept_load_visible, kept_claim_lost}
 use Rattle.commit_queue.specs.declared.pipe_table.TableOpening.{TableOpening}
 use Rattle.commit_queue.specs.declared.view.View.{View}
-use Rattle.commit_queue.specs.Rule.{RingState, TableState, numbers, touches, turn_word, Shows, IsPrefix, Linked}
+use Rattle.commit_queue.specs.Rule.{RingState, TableState, numbers, turn_word, Shows, IsPrefix, Linked}
 use Rattle.commit_queue.specs.Views.{marked_view, ends_view, lost_view, won_view, emptied_view, raised_view, visible_view, settled_view}
-use Rattle.commit_queue.specs.Tells.{Seated, high, low, TellsMarked, TellsEnds, TellsClaim, TellsEmptied, TellsRaised, TellsVisible, TellsSettled}
-use Rattle.commit_queue.specs.Calls.{KnowsApplied}
+use Rattle.commit_queue.specs.Tells.{Seated, high, low, TellsMarked, TellsEnds, TellsClaim, TellsEmptied, TellsRaised, TellsVisible, TellsSettled, TopsAt}
+use Rattle.commit_queue.specs.Calls.{IsAppliedAll}
 use Rattle.commit_queue.proofs.Becomes.{acts_live, turned, Goes, stays, shows_seats, shows_ring, shows_ends, prefix_at}
 
 pub at_end_of : (xs ys : List Batch) → IsPrefix xs ys → (v n : ℕ) → n ≤ length xs → ends numbers v xs n ≡ ends numbers v ys n
@@ -46,7 +47,7 @@ module _ (o : TableOpening) where
 
   pub marks : (n id : ℕ) (me : Seated) (at new i : ℕ) → at ≡ i % 64 → Acts me.0.seat → me.0.seat.held ≡ Some i
       → (me.0.seat.kind ≡ Producer → i < me.0.head)
-      → me.0.absorbed ≡ [] → KnowsApplied me.0 i → new ≡ 2 * ends numbers me.0.base me.0.history (suc i) + 1
+      → me.0.absorbed ≡ [] → IsAppliedAll me.0 i → new ≡ 2 * ends numbers me.0.base me.0.history (suc i) + 1
       → Allows (Linked o) n id me (at + 3) (λ _. new) (λ _. TellsMarked (step n (at + 3) new 0 none) me new)
   marks n id me at new i at_is acts holds admitted calm applied new_is s r wide has _ =
       let c : RingState = r.core in let v : View = me.0 in let ok = r.each_view id v has in let w : View = marked_view v i in
@@ -62,7 +63,7 @@ module _ (o : TableOpening) where
       let knows : (b : Batch) (k : ℕ) → get_elem? c.batches i ≡ some b → IsTrue (touches b k) → Among (record { batch = i; shard = k })
       (c.seats id).knows =
       λ b k e t. subst (λ (d : SeatState). Among (record { batch = i; shard = k }) d.knows) (sym seat)
-      (let there = prefix_at v.history c.batches ok.known i near b e in applied b k there t) in
+      ((ok.pieces i k holds).1 (applied b k (prefix_at v.history c.batches ok.known i near b e) t)) in
       let word = (word_at numbers touches c sound i (Held id) h.0 h.1 tt).0 in let r0 : ℕ = c.ring (i % 64) in
       let end_is : ends numbers v.base v.history (suc i) ≡ end_of numbers c i = at_end_of v.history c.batches ok.known v.base (suc i) near
       ∙ ap (λ (y : ℕ). ends numbers y c.batches (suc i)) (base_of s r id v has acts) in
@@ -80,7 +81,7 @@ module _ (o : TableOpening) where
           heads = refl;
           shows = shows_ring c (marked_state numbers touches c id i) s.words at new (omega arith) r.shows refl refl refl refl refl
               (ap₂ (updated c.ring) (sym at_is) is);
-          base_is = (refl, refl);
+          base_is = (refl, refl, refl);
           same_kind = refl;
           known = ok.known;
           absorbed = ok.absorbed;
@@ -90,6 +91,8 @@ module _ (o : TableOpening) where
           taken_is = refl;
           acked_is = (refl, refl, refl);
           same_hand = refl;
+          pieces = λ j k e. let z : None ≡ Some j = e in cc;
+          idle = λ _. refl;
           dones = refl;
           turns = refl;
         },
@@ -116,7 +119,7 @@ module _ (o : TableOpening) where
         batches = refl;
         heads = refl;
         shows = shows_seats c _ s.words r.shows;
-        base_is = (refl, refl);
+        base_is = (refl, refl, refl);
         same_kind = refl;
         known = ok.known;
         absorbed = ok.absorbed;
@@ -126,6 +129,8 @@ module _ (o : TableOpening) where
         taken_is = refl;
         acked_is = (refl, refl, refl);
         same_hand = refl;
+        pieces = ok.pieces;
+        idle = ok.idle;
         dones = refl;
         turns = refl;
       })
@@ -155,7 +160,7 @@ module _ (o : TableOpening) where
         batches = refl;
         heads = refl;
         shows = shows_seats c _ s.words r.shows;
-        base_is = (refl, refl);
+        base_is = (refl, refl, refl);
         same_kind = refl;
         known = λ k b q. q;
         absorbed = λ k b q. let l = at_below {A = Batch} [] k b q in absurd (omega arith);
@@ -165,6 +170,8 @@ module _ (o : TableOpening) where
         taken_is = refl;
         acked_is = (refl, refl, refl);
         same_hand = refl;
+        pieces = ok.pieces;
+        idle = ok.idle;
         dones = refl;
         turns = refl;
       }) (
@@ -223,7 +230,7 @@ module _ (o : TableOpening) where
           batches = refl;
           heads = refl;
           shows = shows_ends c (after_claim_won numbers touches c id) s.words new r.shows (omega arith) refl refl refl refl;
-          base_is = (refl, refl);
+          base_is = (refl, refl, refl);
           same_kind = refl;
           known = λ k b e. e;
           absorbed = ok.absorbed;
@@ -233,6 +240,8 @@ module _ (o : TableOpening) where
           taken_is = refl;
           acked_is = (refl, refl, refl);
           same_hand = refl;
+          pieces = ok.pieces;
+          idle = ok.idle;
           dones = refl;
           turns = refl;
         },
@@ -259,7 +268,7 @@ module _ (o : TableOpening) where
         batches = refl;
         heads = refl;
         shows = shows_seats c _ s.words r.shows;
-        base_is = (refl, refl);
+        base_is = (refl, refl, refl);
         same_kind = refl;
         known = ok.known;
         absorbed = ok.absorbed;
@@ -269,6 +278,8 @@ module _ (o : TableOpening) where
         taken_is = refl;
         acked_is = (refl, refl, refl);
         same_hand = refl;
+        pieces = ok.pieces;
+        idle = ok.idle;
         dones = refl;
         turns = refl;
       })
@@ -292,7 +303,7 @@ module _ (o : TableOpening) where
           heads = refl;
           shows = shows_ring c (emptied_state numbers touches c id t) s.words at 0 (omega arith) r.shows refl refl refl refl refl
               (ap (λ (y : ℕ). updated c.ring y 0) (sym at_is));
-          base_is = (refl, refl);
+          base_is = (refl, refl, refl);
           same_kind = refl;
           known = ok.known;
           absorbed = ok.absorbed;
@@ -302,6 +313,8 @@ module _ (o : TableOpening) where
           taken_is = refl;
           acked_is = (refl, refl, refl);
           same_hand = refl;
+          pieces = ok.pieces;
+          idle = ok.idle;
           dones = refl;
           turns = refl;
         },
@@ -355,7 +368,7 @@ module _ (o : TableOpening) where
           batches = refl;
           heads = refl;
           shows = shows_visible c c' s.words (max x e) r.shows is refl refl refl refl refl;
-          base_is = (refl, refl);
+          base_is = (refl, refl, refl);
           same_kind = refl;
           known = λ k b q. q;
           absorbed = ok.absorbed;
@@ -365,6 +378,8 @@ module _ (o : TableOpening) where
           taken_is = refl;
           acked_is = (refl, refl, refl);
           same_hand = refl;
+          pieces = ok.pieces;
+          idle = ok.idle;
           dones = refl;
           turns = refl;
         },
@@ -393,6 +408,11 @@ module _ (o : TableOpening) where
       let less = ends_less numbers c.base c.batches sound.counted c.published k lt l in
       let e' : ends numbers c.base c.batches k ≤ get_or s.words 1 0 = subst (λ (y : ℕ). ends numbers y c.batches k ≤ get_or s.words 1 0)
       vb e in absurd (omega arith)) in
+      let tops : TopsAt v.base c.batches c.published (get_or s.words 1 0) = λ k l e. dite
+      (dec_le c.published k) (λ le. le) (λ no. let lt = lt_of_not-le no in
+      let less = ends_less numbers c.base c.batches sound.counted k c.published lt (omega arith) in
+      let e' : get_or s.words 1 0 ≤ ends numbers c.base c.batches k = subst (λ (y : ℕ). get_or s.words 1 0 ≤ ends numbers y c.batches k)
+      vb e in absurd (omega arith)) in
       let sn : v.seat.seen ≤ length c.batches = subst (λ (d : SeatState). d.seen ≤ length c.batches) seat (sound.each_seat id).seen in
       stays o s 1 id me (TellsVisible (step n 1 0 0 none) me) w
       (turned o s r id s.words w v has record {
@@ -409,7 +429,7 @@ module _ (o : TableOpening) where
         batches = refl;
         heads = refl;
         shows = shows_seats c _ s.words r.shows;
-        base_is = (refl, refl);
+        base_is = (refl, refl, refl);
         same_kind = refl;
         known = λ k b q. q;
         absorbed = ok.absorbed;
@@ -419,6 +439,8 @@ module _ (o : TableOpening) where
         taken_is = refl;
         acked_is = (refl, refl, refl);
         same_hand = refl;
+        pieces = ok.pieces;
+        idle = ok.idle;
         dones = refl;
         turns = refl;
       }) (
@@ -431,5 +453,7 @@ module _ (o : TableOpening) where
           published = subst (λ (d : SeatState). d.published ≤ c.published) seat (sound.each_seat id).published.0;
           end_is = r.shows.visible_word ∙ ap (λ (y : ℕ). ends numbers y c.batches c.published) (sym (base_of s r id v has acts));
           reaches = reaches;
+          tops = tops;
+          few = r.few;
         },
       )

@@ -1,16 +1,18 @@
 -- Cutting a seat in two and joining two seats keep the rule of the table.
-use Rattle.std.proofs.Common.{Bool, List, None, Option, Some, [], ap, ap₂, arith, cond, false, inl, inr, length, length-append, length-set, max, refl, set, subst, suc, sym, true, zero, ℕ, ⊎_elim, ◌++◌, ◌+◌, ◌<◌, ◌^◌, ◌∙◌, ◌∷◌, ◌≡◌, ◌≢◌, ◌≤◌, ◌⊎◌}
+use Rattle.std.proofs.Common.{Bool, List, None, Option, Some, [], ap, ap₂, append-nil, arith, cond, false, inl, inr, length, length-append, length-set, max, refl, set, subst, suc, sym, true, zero, ℕ, ⊎_elim, ◌++◌, ◌+◌, ◌<◌, ◌^◌, ◌∙◌, ◌∷◌, ◌≡◌, ◌≢◌, ◌≤◌, ◌⊎◌}
 use mathlib.Core.Option.{some, some-injective}
 use lib.ListN.{get_elem?}
 use Rattle.atomic_table.specs.Table.{Splits, Joins}
 use Rattle.atomic_table.proofs.Lists.{at_set, set_else}
 use Rattle.batch_repr.specs.declared.batch.Batch.{Batch}
 use Rattle.memtable_shards.specs.declared.version.Version.{Version}
+use Rattle.memtable_shards.specs.Versions.{touches}
 use Rattle.publish_core.specs.declared.seat.Kind.{Kind}
 use Rattle.publish_core.specs.declared.seat.Kind.TheVariants.{Producer, Note, Worker, Spent}
 use Rattle.publish_core.specs.declared.seat.Claim.TheVariants.{Free}
+use Rattle.publish_core.specs.declared.seat.Pair.{Pair}
 use Rattle.publish_core.specs.declared.seat.SeatState.{SeatState}
-use Rattle.publish_core.specs.Machine.{updated, ends, shown_seat, joined, nobody, after_tell, after_hand, after_join}
+use Rattle.publish_core.specs.Machine.{Among, updated, ends, both_held, shown_seat, joined, nobody, after_tell, after_hand, after_join}
 use Rattle.publish_core.proofs.Laws.{put_here, put_else, at_below}
 use Rattle.publish_core.proofs.Laws.{kept_tell, kept_hand}
 use Rattle.publish_core.proofs.Laws.{CanJoin, kept_join}
@@ -19,8 +21,9 @@ use Rattle.commit_queue.specs.declared.pipe_table.TableOpening.{TableOpening}
 use Rattle.commit_queue.specs.declared.view.AckedKnown.{AckedKnown}
 use Rattle.commit_queue.specs.declared.view.View.{View}
 use Rattle.commit_queue.specs.Shards.{HasVersions}
-use Rattle.commit_queue.specs.Rule.{RingState, TableState, numbers, touches, IsSoundRing, Shows, IsPrefix, ViewOk, AckedKnownOk, Linked}
+use Rattle.commit_queue.specs.Rule.{RingState, TableState, numbers, IsSoundRing, Shows, IsPrefix, PiecesOk, ViewOk, AckedKnownOk, Linked}
 use Rattle.commit_queue.specs.Views.{no_acked, without_batch, handed_view, shown_view, telling_view, flush_view, later, joined_view, spent_view}
+use Rattle.commit_queue.proofs.Becomes.{same_pieces}
 
 -- the last of a list is known by its place
 snoc_at : {A : Type 0} (l : List A) (a b : A) (j : ℕ) → get_elem? (l ++ a ∷ []) j ≡ some b
@@ -63,7 +66,7 @@ same_view : (opening : List (List Version)) (c c' : RingState) (j : ℕ) (v : Vi
     → c'.batches ≡ c.batches → c'.head ≡ c.head → c'.done ≡ c.done → AckedKnownOk c'.acked c'.made j v.seat.acked v.acked_known → ViewOk opening c j v → ViewOk opening c' j v
 same_view opening c c' j v seat b l h dn dk ok = record {
   seat = seat ∙ ok.seat;
-  base = λ live. let e = ok.base live in (e.0 ∙ sym b, e.1 ∙ sym b);
+  base = λ live. let e = ok.base live in (e.0 ∙ sym b, e.1 ∙ sym b, e.2);
   known = subst (IsPrefix v.history) (sym l) ok.known;
   absorbed = subst (IsPrefix v.absorbed) (sym l) ok.absorbed;
   seen = ok.seen;
@@ -71,8 +74,49 @@ same_view opening c c' j v seat b l h dn dk ok = record {
   whole = λ z. ok.whole z ∙ sym l;
   head = λ z. ok.head z ∙ sym h;
   turn = λ k e. same_versions opening c c' l dn k v.taken (ok.turn k e);
+  pieces = same_pieces c c' v dn ok.pieces;
+  idle = ok.idle;
   acked_known = dk;
 }
+
+-- what stands in either of two lists stands in both together
+among_left : {A : Type 0} (x : A) (xs ys : List A) → Among x xs → Among x (xs ++ ys)
+among_left x [] ys h = absurd h
+among_left x (y ∷ xs) ys h = ⊎_elim (λ e. inl e) (λ m. inr (among_left x xs ys m)) h
+
+among_right : {A : Type 0} (x : A) (xs ys : List A) → Among x ys → Among x (xs ++ ys)
+among_right x [] ys h = h
+among_right x (y ∷ xs) ys h = inr (among_right x xs ys h)
+
+-- the batch that either of two seats holds is applied in the same shards once one has taken in the other
+joined_pieces : (c : RingState) (v w : View) → (v.seat.held ≡ None) ⊎ (w.seat.held ≡ None)
+    → (v.seat.held ≡ None → v.pieces ≡ []) → (w.seat.held ≡ None → w.pieces ≡ []) → PiecesOk c v → PiecesOk c w → PiecesOk c (joined_view v w)
+joined_pieces c v w one idle idle' ok ok' i k e = go v.seat.held refl e
+  where
+    pair : Pair
+    pair = record { batch = i; shard = k }
+
+    go : (h : Option ℕ) → v.seat.held ≡ h → both_held h w.seat.held ≡ Some i
+        → (Among i (c.done k) → Among k (v.pieces ++ w.pieces)) × (Among k (v.pieces ++ w.pieces) → Among pair (v.seat.knows ++ w.seat.knows))
+    go None is e = let p = ok' i k e in let none : v.pieces ≡ [] = idle is in (
+      (λ a. among_right k v.pieces w.pieces (p.0 a)),
+      λ a. among_right pair v.seat.knows w.seat.knows (p.1 (subst (λ (l : List ℕ). Among k (l ++ w.pieces)) none a)),
+    )
+    go (Some j) is e = let p = ok i k (is ∙ e) in
+        let none : w.pieces ≡ [] = idle' (⊎_elim (λ a. let q : Some j ≡ None = sym is ∙ a in cc) (λ b. b) one) in (
+          (λ a. among_left k v.pieces w.pieces (p.0 a)),
+          λ a. among_left pair v.seat.knows w.seat.knows
+              (p.1 (subst (Among k) (ap (λ (l : List ℕ). v.pieces ++ l) none ∙ append-nil v.pieces) a)),
+        )
+
+-- and where neither holds a batch, there are no such shards
+joined_idle : (v w : View) → (v.seat.held ≡ None → v.pieces ≡ []) → (w.seat.held ≡ None → w.pieces ≡ [])
+    → both_held v.seat.held w.seat.held ≡ None → v.pieces ++ w.pieces ≡ []
+joined_idle v w idle idle' e = go v.seat.held refl e
+  where
+    go : (h : Option ℕ) → v.seat.held ≡ h → both_held h w.seat.held ≡ None → v.pieces ++ w.pieces ≡ []
+    go None is e = ap₂ (λ (l m : List ℕ). l ++ m) (idle is) (idle' e)
+    go (Some j) is e = let q : Some j ≡ None = e in cc
 
 module _ (o : TableOpening) where
   -- a new seat, which leaves no other the first
@@ -97,10 +141,10 @@ module _ (o : TableOpening) where
 
   splits_off : (k : Kind) (id : ℕ) (v : View) (d : AckedKnown) → k ≢ Producer → v.seat.kind ≢ Spent
       → ((a m : ℕ) → AckedKnownOk a m id v.seat.acked v.acked_known → AckedKnownOk a (m + 1) m v.seat.acked d)
-      → Splits (Linked o) id v (telling_view v) (record v { seat = shown_seat v.seat k None; acked_known = d })
+      → Splits (Linked o) id v (telling_view v) (record v { seat = shown_seat v.seat k None; acked_known = d; pieces = [] })
   splits_off k id v d no_producer live fresh s r has =
       let c : RingState = r.core in let ok = r.each_view id v has in let left : View = telling_view v in
-      let right : View = record v { seat = shown_seat v.seat k None; acked_known = d } in let vs : List View = set s.views id left in
+      let right : View = record v { seat = shown_seat v.seat k None; acked_known = d; pieces = [] } in let vs : List View = set s.views id left in
       let n : length vs ≡ length s.views = length-set s.views id left in
       let c' : RingState = after_tell numbers touches c id k in let new : SeatState = shown_seat (c.seats id) k None in
       let not_zero : c.made ≢ 0 = λ e. let q = r.sound.unmade 0 (omega arith) in
@@ -128,6 +172,8 @@ module _ (o : TableOpening) where
         whole = ok.whole;
         head = ok.head;
         turn = ok.turn;
+        pieces = ok.pieces;
+        idle = ok.idle;
         acked_known = later_acked c.acked c.made id v.seat.acked v.acked_known ok.acked_known;
       })
       (λ (u : (j ≢ id) × (get_elem? s.views j ≡ some w)). let wo = r.each_view j w u.1 in same_view o.shards.value c c' j w
@@ -144,6 +190,8 @@ module _ (o : TableOpening) where
         whole = λ z. absurd (not_zero (sym m ∙ z));
         head = λ z. absurd (not_zero (sym m ∙ z));
         turn = λ q e. let z : None ≡ Some q = e in cc;
+        pieces = λ i q e. let z : None ≡ Some i = e in cc;
+        idle = λ _. refl;
         acked_known = subst (λ (x : ℕ). AckedKnownOk c.acked (c.made + 1) x v.seat.acked d) (sym m) (fresh c.acked c.made ok.acked_known);
       })
       (snoc_at vs right w j at))
@@ -196,6 +244,8 @@ module _ (o : TableOpening) where
         whole = λ _. ok.whole refl;
         head = λ _. ok.head refl;
         turn = ok.turn;
+        pieces = λ j q e. let z : None ≡ Some j = e in cc;
+        idle = λ _. refl;
         acked_known = later_acked c.acked c.made 0 v.seat.acked v.acked_known ok.acked_known;
       })
       (λ (u : (j ≢ id) × (get_elem? s.views j ≡ some w)). let l = t.1 in
@@ -216,6 +266,8 @@ module _ (o : TableOpening) where
         whole = λ y. absurd (made (sym m ∙ y));
         head = λ y. absurd (made (sym m ∙ y));
         turn = λ k e. let q : None ≡ Some k = e in cc;
+        pieces = ok.pieces;
+        idle = ok.idle;
         acked_known = plain_acked c.acked (c.made + 1) j v.seat.acked;
       })
       (snoc_at vs (handed_view v) w j at))
@@ -232,6 +284,12 @@ module _ (o : TableOpening) where
       ∙ e in cc)
       (λ (a : (id ≡ 0) × (w.seat.kind ≡ Worker) × (w.seat.held ≡ None) × (w.seat.turn ≡ None) ×
       (w.seat.claim ≡ Free)). let q : Worker ≡ Spent = sym a.1 ∙ e in cc) can
+
+  -- at most one of them holds a batch
+  holds_one : (id : ℕ) (v w : View) → CanTakeIn id v w → (v.seat.held ≡ None) ⊎ (w.seat.held ≡ None)
+  holds_one id v w can = ⊎_elim
+      (λ (a : (v.seat.kind ≡ Worker) × (w.seat.kind ≡ Note) × ((v.seat.held ≡ None) ⊎ (w.seat.held ≡ None))). a.2)
+      (λ (a : (id ≡ 0) × (w.seat.kind ≡ Worker) × (w.seat.held ≡ None) × (w.seat.turn ≡ None) × (w.seat.claim ≡ Free)). inr a.2) can
 
   pub joins : (id : ℕ) (v : View) (other : ℕ) (w : View)
       → CanTakeIn id v w
@@ -274,9 +332,10 @@ module _ (o : TableOpening) where
         | true ↦ λ q e. let i : w.acked_known.raised ≡ n = cc in let z = (wo.acked_known.raised q).1 in omega arith
         | false ↦ λ q e. let z : None ≡ Some n = e in cc
       ] q e in
+      let one = holds_one id v w can in
       let mine : ViewOk o.shards.value c' id m = record {
         seat = at_me ∙ ap₂ joined seat seat';
-        base = λ _. ((ok.base acts).0, (wo.base (live_other id v w can)).0);
+        base = λ _. ((ok.base acts).0, (wo.base (live_other id v w can)).0, (ok.base acts).2);
         known = ok.known;
         absorbed = wo.known;
         seen = λ z. let a = ok.seen calm.0 in let b = wo.seen calm.1 in let n : length w.history ≡ 0 = ap length z in omega arith;
@@ -284,6 +343,8 @@ module _ (o : TableOpening) where
         whole = λ z. ok.whole z;
         head = λ z. ok.head z;
         turn = ok.turn;
+        pieces = joined_pieces c v w one ok.idle wo.idle ok.pieces wo.pieces;
+        idle = joined_idle v w ok.idle wo.idle;
         acked_known = record {
           raised = ok.acked_known.raised;
           retired = λ n e. flushes n w.acked_known.is_flush refl e;
@@ -311,6 +372,8 @@ module _ (o : TableOpening) where
         whole = λ z. absurd (ask.away z);
         head = λ z. absurd (ask.away z);
         turn = λ k e. let q : None ≡ Some k = e in cc;
+        pieces = λ i k e. let q : None ≡ Some i = e in cc;
+        idle = λ _. refl;
         acked_known = plain_acked c.acked c.made other 0;
       })
       (λ (t : (j ≢ other) × (get_elem? (set s.views id m) j ≡ some x)). ⊎_elim

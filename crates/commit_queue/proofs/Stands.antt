@@ -1,16 +1,17 @@
 -- What holds of a seat between two calls holds after each call.
 use Rattle.std.proofs.Common.{◌≡◌, Option, Some, None, [], ◌∷◌, ◌++◌, ℕ, suc, ◌+◌, ◌<◌, ◌≤◌, ◌^◌, List, length, length-append, sym, refl, ap, ap₂, ◌∙◌, subst, arith, Bool, cond, false}
 use Rattle.batch_repr.specs.declared.batch.Batch.{Batch}
+use Rattle.memtable_shards.specs.declared.version.Version.{Version}
 use Rattle.publish_core.specs.declared.seat.Kind.TheVariants.{Worker}
 use Rattle.publish_core.specs.Machine.{ends, both_held}
 use Rattle.publish_core.proofs.Laws.{ends_snoc}
 use Rattle.commit_queue.specs.declared.view.AckedKnown.{AckedKnown}
 use Rattle.commit_queue.specs.declared.view.View.{View}
 use Rattle.commit_queue.specs.Rule.{Slot, numbers}
-use Rattle.commit_queue.specs.Views.{placed_view, admitted_view, without_batch, handed_view, telling_view, shown_view, flush_view, first_view, marked_view}
+use Rattle.commit_queue.specs.Views.{placed_view, admitted_view, without_batch, handed_view, telling_view, shown_view, flush_view, first_view, marked_view, but_turns}
 use Rattle.commit_queue.specs.Tells.{Seated}
-use Rattle.commit_queue.specs.Stands.{HasTicket, HoldsLast, ProducerStands, SessionStands, NoteStands, FlushStands}
-use Rattle.commit_queue.specs.Calls.{next_number, CanPlace, HasPlaced, TakesIn, ViewGoesOn}
+use Rattle.commit_queue.specs.Stands.{HasTicket, HoldsLast, slots_out, CarriesTurn, ProducerStands, SessionStands, NoteStands, FlushStands}
+use Rattle.commit_queue.specs.Calls.{next_number, CanPlace, HasPlaced, TakesBack, TakesIn, ViewGoesOn}
 use Rattle.commit_queue.proofs.Publishes.{at_end_of}
 use Rattle.commit_queue.proofs.GoesOn.{longer_prefix}
 
@@ -55,178 +56,253 @@ ticket_taken_in v w v' i e has g idle j h = let held : v'.seat.held ≡ w.seat.h
       t.3,
     )
 
--- the producer's seat
+-- ---- a seat's turn
 
-pub producer_goes_on : (id id' : ℕ) (m m' : Seated) (head end : ℕ) → ProducerStands id m head end → id' ≡ id → m'.1 ≡ m.1
-    → ViewGoesOn m.0 m'.0 → ProducerStands id' m' head end
-producer_goes_on id id' m m' head end p same carried g = let hist : m'.0.history ≡ m.0.history = g.whole p.kind in
+-- a seat that has no turn carries no slot
+pub none_carried : (m : Seated) (turn : Option ℕ) → CarriesTurn m turn → m.0.seat.turn ≡ None → m.1 ≡ []
+none_carried m turn t none = t.carries ∙ ap slots_out (sym t.turn_is ∙ none)
+
+pub carries_on : (m m' : Seated) (turn : Option ℕ) → CarriesTurn m turn → m'.1 ≡ m.1 → m'.0.seat.turn ≡ m.0.seat.turn → CarriesTurn m' turn
+carries_on m m' turn t carried same = record { turn_is = same ∙ t.turn_is; within = t.within; carries = carried ∙ t.carries }
+
+-- a seat has no turn
+pub carries_none : (m : Seated) → m.1 ≡ [] → m.0.seat.turn ≡ None → CarriesTurn m None
+carries_none m carried none = record { turn_is = none; within = λ k e. let z : ◌≡◌ {A = Option ℕ} None (Some k) = e in cc; carries = carried }
+
+-- a seat has the turn on this shard
+pub carries_shard : (m : Seated) (k : ℕ) → k < 8 → m.1 ≡ slots_out (Some k) → m.0.seat.turn ≡ Some k → CarriesTurn m (Some k)
+carries_shard m k small carried turn = record {
+  turn_is = turn;
+  within = λ j e. let same : k ≡ j = (let z : ◌≡◌ {A = Option ℕ} (Some k) (Some j) = e in cc) in omega arith;
+  carries = carried;
+}
+
+-- ---- the producer's seat
+
+pub producer_goes_on : (id id' : ℕ) (m m' : Seated) (head end : ℕ) (turn : Option ℕ) → ProducerStands id m head end turn → id' ≡ id
+    → m'.1 ≡ m.1 → ViewGoesOn m.0 m'.0 → ProducerStands id' m' head end turn
+producer_goes_on id id' m m' head end turn p same carried g = let hist : m'.0.history ≡ m.0.history = g.whole p.kind in
     let n : length m'.0.history ≡ length m.0.history = ap length hist in let a = p.admitted in let f = p.few in let h = g.head in record {
       id_is = same ∙ p.id_is;
       kind = g.kind ∙ p.kind;
       head_is = g.head ∙ p.head_is;
-      carries = carried ∙ p.carries;
       calm = g.absorbed ∙ p.calm;
       free = g.claim p.free;
-      no_turn = g.turn ∙ p.no_turn;
+      carries = carries_on m m' turn p.carries carried g.turn;
       admitted = omega arith;
       few = omega arith;
+      within = g.within p.within;
       holds = last_same m.0 m'.0 end g.held hist g.base p.holds;
     }
 
-pub producer_opens : (id : ℕ) (m : Seated) (base : ℕ) → id ≡ 0 → m ≡ (first_view base, []) → ProducerStands id m 0 0
-producer_opens id m base z e = subst (λ (x : Seated). ProducerStands id x 0 0) (sym e) record {
+pub producer_opens : (id : ℕ) (m : Seated) (base : ℕ) (opening : List (List Version)) → id ≡ 0 → m ≡ (first_view base opening, [])
+    → ProducerStands id m 0 0 None
+producer_opens id m base opening z e = subst (λ (x : Seated). ProducerStands id x 0 0 None) (sym e) record {
   id_is = z;
   kind = refl;
   head_is = refl;
-  carries = refl;
   calm = refl;
   free = refl;
-  no_turn = refl;
+  carries = carries_none (first_view base opening, []) refl refl;
   admitted = omega arith;
   few = omega arith;
-  holds = last_none (first_view base) 0 refl;
+  within = omega arith;
+  holds = last_none (first_view base opening) 0 refl;
 }
 
-pub producer_places : (id id' : ℕ) (m m' : Seated) (b : Batch) (head end new : ℕ) → ProducerStands id m head end → id' ≡ id → m'.1 ≡ m.1
-    → m'.0 ≡ placed_view m.0 b → CanPlace m.0 b → new ≡ b.first + numbers b → new < 2 ^ 56 → ProducerStands id' m' head new
-producer_places id id' m m' b head end new p same carried e can is small = let a = p.admitted in let f = can.few in
+pub producer_places : (id id' : ℕ) (m m' : Seated) (b : Batch) (head end new : ℕ) (turn : Option ℕ) → ProducerStands id m head end turn
+    → id' ≡ id → m'.1 ≡ m.1 → m'.0 ≡ placed_view m.0 b → CanPlace m.0 b → new ≡ b.first + numbers b → new < 2 ^ 56
+    → ProducerStands id' m' head new turn
+producer_places id id' m m' b head end new turn p same carried e can is small = let a = p.admitted in let f = can.few in let w = p.within in
     let n : length (m.0.history ++ b ∷ []) ≡ length m.0.history + 1 = length-append m.0.history (b ∷ []) in
-    subst (λ (x : View × List (ℕ × Slot)). ProducerStands id' x head new) (λ k. (sym e k, m'.1)) record {
+    subst (λ (x : View × List (ℕ × Slot)). ProducerStands id' x head new turn) (λ k. (sym e k, m'.1)) record {
       id_is = same ∙ p.id_is;
       kind = p.kind;
       head_is = p.head_is;
-      carries = carried ∙ p.carries;
       calm = p.calm;
       free = p.free;
-      no_turn = p.no_turn;
+      carries = carries_on m (placed_view m.0 b, m'.1) turn p.carries carried refl;
       admitted = omega arith;
       few = omega arith;
+      within = omega arith;
       holds = last_placed m.0 b new can.follows is small;
     }
 
-pub producer_admits : (id id' : ℕ) (m m' : Seated) (head end : ℕ) → ProducerStands id m head end → id' ≡ id → m'.1 ≡ m.1
-    → m'.0 ≡ admitted_view m.0 → HasPlaced m.0 → ProducerStands id' m' (head + 1) end
-producer_admits id id' m m' head end p same carried e placed = subst (λ (x : View × List (ℕ × Slot)). ProducerStands id' x (head + 1) end)
-    (λ k. (sym e k, m'.1)) record {
+pub producer_admits : (id id' : ℕ) (m m' : Seated) (head end : ℕ) (turn : Option ℕ) → ProducerStands id m head end turn → id' ≡ id
+    → m'.1 ≡ m.1 → m'.0 ≡ admitted_view m.0 → HasPlaced m.0 → ProducerStands id' m' (head + 1) end turn
+producer_admits id id' m m' head end turn p same carried e placed =
+    subst (λ (x : View × List (ℕ × Slot)). ProducerStands id' x (head + 1) end turn) (λ k. (sym e k, m'.1)) record {
       id_is = same ∙ p.id_is;
       kind = p.kind;
       head_is = ap (λ (x : ℕ). x + 1) p.head_is;
-      carries = carried ∙ p.carries;
       calm = p.calm;
       free = p.free;
-      no_turn = p.no_turn;
+      carries = carries_on m (admitted_view m.0, m'.1) turn p.carries carried refl;
       admitted = (let l : length m.0.history ≡ m.0.head + 1 = placed in omega arith);
       few = p.few;
+      within = p.within;
       holds = p.holds;
     }
 
-pub producer_hands : (id id' : ℕ) (m m' : Seated) (head end : ℕ) → ProducerStands id m head end → id' ≡ id → m' ≡ (without_batch m.0, m.1)
-    → ProducerStands id' m' head end
-producer_hands id id' m m' head end p same e = subst (λ (x : Seated). ProducerStands id' x head end) (sym e) record {
+pub producer_hands : (id id' : ℕ) (m m' : Seated) (head end : ℕ) (turn : Option ℕ) → ProducerStands id m head end turn → id' ≡ id
+    → m' ≡ (without_batch m.0, m.1) → ProducerStands id' m' head end turn
+producer_hands id id' m m' head end turn p same e = subst (λ (x : Seated). ProducerStands id' x head end turn) (sym e) record {
   id_is = same ∙ p.id_is;
   kind = p.kind;
   head_is = p.head_is;
-  carries = p.carries;
   calm = p.calm;
   free = p.free;
-  no_turn = p.no_turn;
+  carries = carries_on m (without_batch m.0, m.1) turn p.carries refl refl;
   admitted = p.admitted;
   few = p.few;
+  within = p.within;
   holds = last_none (without_batch m.0) end refl;
 }
 
-pub producer_tells : (id id' : ℕ) (m m' : Seated) (head end : ℕ) → ProducerStands id m head end → id' ≡ id → m' ≡ (telling_view m.0, m.1)
-    → ProducerStands id' m' head end
-producer_tells id id' m m' head end p same e = subst (λ (x : Seated). ProducerStands id' x head end) (sym e) record {
+pub producer_tells : (id id' : ℕ) (m m' : Seated) (head end : ℕ) (turn : Option ℕ) → ProducerStands id m head end turn → id' ≡ id
+    → m' ≡ (telling_view m.0, m.1) → ProducerStands id' m' head end turn
+producer_tells id id' m m' head end turn p same e = subst (λ (x : Seated). ProducerStands id' x head end turn) (sym e) record {
   id_is = same ∙ p.id_is;
   kind = p.kind;
   head_is = p.head_is;
-  carries = p.carries;
   calm = p.calm;
   free = p.free;
-  no_turn = p.no_turn;
+  carries = carries_on m (telling_view m.0, m.1) turn p.carries refl refl;
   admitted = p.admitted;
   few = p.few;
+  within = p.within;
   holds = p.holds;
 }
 
-pub producer_marks : (id id' : ℕ) (m m' : Seated) (i head end : ℕ) → ProducerStands id m head end → id' ≡ id → m'.1 ≡ m.1
-    → m'.0 ≡ marked_view m.0 i → ProducerStands id' m' head end
-producer_marks id id' m m' i head end p same carried e = subst (λ (x : View × List (ℕ × Slot)). ProducerStands id' x head end)
-    (λ k. (sym e k, m'.1)) record {
+pub producer_marks : (id id' : ℕ) (m m' : Seated) (i head end : ℕ) (turn : Option ℕ) → ProducerStands id m head end turn → id' ≡ id
+    → m'.1 ≡ m.1 → m'.0 ≡ marked_view m.0 i → ProducerStands id' m' head end turn
+producer_marks id id' m m' i head end turn p same carried e =
+    subst (λ (x : View × List (ℕ × Slot)). ProducerStands id' x head end turn) (λ k. (sym e k, m'.1)) record {
       id_is = same ∙ p.id_is;
       kind = p.kind;
       head_is = p.head_is;
-      carries = carried ∙ p.carries;
       calm = p.calm;
       free = p.free;
-      no_turn = p.no_turn;
+      carries = carries_on m (marked_view m.0 i, m'.1) turn p.carries carried refl;
       admitted = p.admitted;
       few = p.few;
+      within = p.within;
       holds = last_none (marked_view m.0 i) end refl;
     }
 
+-- the seat takes a shard, or gives it back
+pub producer_turns : (id id' : ℕ) (m m' : Seated) (head end : ℕ) (turn turn' : Option ℕ) → ProducerStands id m head end turn → id' ≡ id
+    → but_turns m'.0 ≡ but_turns m.0 → CarriesTurn m' turn' → ProducerStands id' m' head end turn'
+producer_turns id id' m m' head end turn turn' p same t carries = record {
+  id_is = same ∙ p.id_is;
+  kind = ap (λ (v : View). v.seat.kind) t ∙ p.kind;
+  head_is = ap (λ (v : View). v.head) t ∙ p.head_is;
+  calm = ap (λ (v : View). v.absorbed) t ∙ p.calm;
+  free = ap (λ (v : View). v.seat.claim) t ∙ p.free;
+  carries = carries;
+  admitted = subst (λ (v : View). v.head ≤ length v.history) (sym t) p.admitted;
+  few = subst (λ (v : View). length v.history ≤ 1048576) (sym t) p.few;
+  within = subst (λ (v : View). v.seat.published ≤ length v.history) (sym t) p.within;
+  holds = subst (λ (v : View). HoldsLast v end) (sym t) p.holds;
+}
+
+-- the seat took in another, for good
+pub producer_takes_back : (id id' : ℕ) (m m' : Seated) (w : View) (head end : ℕ) (turn : Option ℕ) → ProducerStands id m head end turn
+    → id' ≡ id → m'.1 ≡ m.1 → TakesBack m.0 w m'.0 → ProducerStands id' m' head end turn
+producer_takes_back id id' m m' w head end turn p same carried t =
+    let n : length m'.0.history ≡ length m.0.history = ap length t.history in let a = p.admitted in let f = p.few in let h = t.head in record {
+      id_is = same ∙ p.id_is;
+      kind = t.kind ∙ p.kind;
+      head_is = t.head ∙ p.head_is;
+      calm = t.calm;
+      free = t.claim ∙ p.free;
+      carries = carries_on m m' turn p.carries carried t.turn;
+      admitted = omega arith;
+      few = omega arith;
+      within = t.within;
+      holds = last_same m.0 m'.0 end t.held t.history t.base p.holds;
+    }
+
 -- the batch that the producer's seat holds, where it is admitted, is the one before head
-pub last_index : (id : ℕ) (m : Seated) (head end i : ℕ) → ProducerStands id m head end → m.0.seat.held ≡ Some i → i < m.0.head
-    → suc i ≡ head
-last_index id m head end i p holds below = let t = (p.holds i holds).0 in let a = p.admitted in let h = p.head_is in omega arith
+pub last_index : (id : ℕ) (m : Seated) (head end i : ℕ) (turn : Option ℕ) → ProducerStands id m head end turn → m.0.seat.held ≡ Some i
+    → i < m.0.head → suc i ≡ head
+last_index id m head end i turn p holds below = let t = (p.holds i holds).0 in let a = p.admitted in let h = p.head_is in omega arith
 
--- a session's seat
+-- ---- a session's seat
 
-pub session_goes_on : (m m' : Seated) (index end : ℕ) → SessionStands m index end → m'.1 ≡ m.1 → ViewGoesOn m.0 m'.0
-    → SessionStands m' index end
-session_goes_on m m' index end s carried g = record {
+pub session_goes_on : (m m' : Seated) (index end : ℕ) (turn : Option ℕ) → SessionStands m index end turn → m'.1 ≡ m.1
+    → ViewGoesOn m.0 m'.0 → SessionStands m' index end turn
+session_goes_on m m' index end turn s carried g = record {
   kind = g.kind ∙ s.kind;
-  carries = carried ∙ s.carries;
   calm = g.absorbed ∙ s.calm;
   free = g.claim s.free;
-  no_turn = g.turn ∙ s.no_turn;
+  carries = carries_on m m' turn s.carries carried g.turn;
   not_retired = g.retired ∙ s.not_retired;
+  within = g.within s.within;
   ticket = ticket_goes_on m.0 m'.0 index end s.ticket g;
 }
 
-pub session_opens : (m : Seated) (v : View) → m ≡ (shown_view Worker v, []) → v.absorbed ≡ [] → SessionStands m 0 0
-session_opens m v e calm = subst (λ (x : Seated). SessionStands x 0 0) (sym e) record {
+pub session_opens : (m : Seated) (v : View) → m ≡ (shown_view Worker v, []) → v.absorbed ≡ [] → v.seat.published ≤ length v.history
+    → SessionStands m 0 0 None
+session_opens m v e calm within = subst (λ (x : Seated). SessionStands x 0 0 None) (sym e) record {
   kind = refl;
-  carries = refl;
   calm = calm;
   free = refl;
-  no_turn = refl;
+  carries = carries_none (shown_view Worker v, []) refl refl;
   not_retired = refl;
+  within = within;
   ticket = ticket_none (shown_view Worker v) 0 0 refl;
 }
 
-pub session_marks : (m m' : Seated) (i index end : ℕ) → SessionStands m index end → m'.1 ≡ m.1 → m'.0 ≡ marked_view m.0 i
-    → SessionStands m' index end
-session_marks m m' i index end s carried e = subst (λ (x : View × List (ℕ × Slot)). SessionStands x index end) (λ k. (sym e k, m'.1))
-    record {
+pub session_marks : (m m' : Seated) (i index end : ℕ) (turn : Option ℕ) → SessionStands m index end turn → m'.1 ≡ m.1
+    → m'.0 ≡ marked_view m.0 i → SessionStands m' index end turn
+session_marks m m' i index end turn s carried e =
+    subst (λ (x : View × List (ℕ × Slot)). SessionStands x index end turn) (λ k. (sym e k, m'.1)) record {
       kind = s.kind;
-      carries = carried ∙ s.carries;
       calm = s.calm;
       free = s.free;
-      no_turn = s.no_turn;
+      carries = carries_on m (marked_view m.0 i, m'.1) turn s.carries carried refl;
       not_retired = s.not_retired;
+      within = s.within;
       ticket = ticket_none (marked_view m.0 i) index end refl;
     }
 
+-- the seat takes a shard, or gives it back
+pub session_turns : (m m' : Seated) (index end : ℕ) (turn turn' : Option ℕ) → SessionStands m index end turn
+    → but_turns m'.0 ≡ but_turns m.0 → CarriesTurn m' turn' → SessionStands m' index end turn'
+session_turns m m' index end turn turn' s t carries = record {
+  kind = ap (λ (v : View). v.seat.kind) t ∙ s.kind;
+  calm = ap (λ (v : View). v.absorbed) t ∙ s.calm;
+  free = ap (λ (v : View). v.seat.claim) t ∙ s.free;
+  carries = carries;
+  not_retired = ap (λ (v : View). v.acked_known.retired) t ∙ s.not_retired;
+  within = subst (λ (v : View). v.seat.published ≤ length v.history) (sym t) s.within;
+  ticket = subst (λ (v : View). HasTicket v index end) (sym t) s.ticket;
+}
+
+-- what a seat takes in with a note that is not the flush seat's
+not_retired_in : (v w v' : View) → TakesIn v w v' → w.acked_known.is_flush ≡ false → v'.acked_known.retired ≡ None
+not_retired_in v w v' g plain =
+    ap (λ (k : AckedKnown). k.retired) g.acked_known ∙ ap (λ (b : Bool). cond b (Some w.acked_known.raised) None) plain
+
 -- the seat took in a note that is not the flush seat's
-pub session_takes_in : (m m' : Seated) (w : View) (index end i e : ℕ) → SessionStands m index end → m'.1 ≡ m.1 → TakesIn m.0 w m'.0
-    → w.acked_known.is_flush ≡ false → HasTicket w i e → m.0.seat.held ≡ None → SessionStands m' i e
-session_takes_in m m' w index end i e s carried g plain has idle = record {
+pub session_takes_in : (m m' : Seated) (w : View) (index end i e : ℕ) (turn : Option ℕ) → SessionStands m index end turn → m'.1 ≡ m.1
+    → TakesIn m.0 w m'.0 → w.acked_known.is_flush ≡ false → HasTicket w i e → m.0.seat.held ≡ None → SessionStands m' i e turn
+session_takes_in m m' w index end i e turn s carried g plain has idle = record {
   kind = g.kind ∙ s.kind;
-  carries = carried ∙ s.carries;
   calm = g.calm;
   free = g.claim ∙ s.free;
-  no_turn = g.turn ∙ s.no_turn;
-  not_retired = ap (λ (k : AckedKnown). k.retired) g.acked_known ∙ ap (λ (b : Bool). cond b (Some w.acked_known.raised) None) plain;
+  carries = carries_on m m' turn s.carries carried g.turn;
+  not_retired = not_retired_in m.0 w m'.0 g plain;
+  within = g.within;
   ticket = ticket_taken_in m.0 w m'.0 i e has g idle;
 }
 
--- a note
+-- ---- a note
 
-pub note_opens : (m w : Seated) (head end index : ℕ) (id : ℕ) → ProducerStands id m head end → w ≡ (handed_view m.0, [])
-    → m.0.seat.held ≡ Some index → NoteStands w index end
-note_opens m w head end index id p e holds = subst (λ (x : Seated). NoteStands x index end) (sym e) record {
+pub note_opens : (m w : Seated) (head end index : ℕ) (id : ℕ) (turn : Option ℕ) → ProducerStands id m head end turn
+    → w ≡ (handed_view m.0, []) → m.0.seat.held ≡ Some index → NoteStands w index end
+note_opens m w head end index id turn p e holds = subst (λ (x : Seated). NoteStands x index end) (sym e) record {
   kind = refl;
   carries = refl;
   calm = p.calm;
@@ -236,10 +312,10 @@ note_opens m w head end index id p e holds = subst (λ (x : Seated). NoteStands 
       (sym same, (let l = t.0 in omega arith), t.1, t.2);
 }
 
--- the flush seat
+-- ---- the flush seat
 
-pub flush_opens : (m : Seated) (v : View) → m ≡ (flush_view v, []) → v.absorbed ≡ [] → FlushStands m
-flush_opens m v e calm = subst FlushStands (sym e) record {
+pub flush_opens : (m : Seated) (v : View) → m ≡ (flush_view v, []) → v.absorbed ≡ [] → v.seat.published ≤ length v.history → FlushStands m
+flush_opens m v e calm within = subst FlushStands (sym e) record {
   kind = refl;
   carries = refl;
   calm = calm;
@@ -247,4 +323,5 @@ flush_opens m v e calm = subst FlushStands (sym e) record {
   no_turn = refl;
   is_flush = refl;
   idle = refl;
+  within = within;
 }

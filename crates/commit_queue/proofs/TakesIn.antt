@@ -19,6 +19,9 @@ takes_in v w m1 m2 e s = let t = subst (λ (m : View). SettlesView m m2) e s in 
       turn = refl;
       base = refl;
       knows = refl;
+      opening = refl;
+      taken = refl;
+      pieces = refl;
       behind = by.behind;
       held = refl;
       own = refl;

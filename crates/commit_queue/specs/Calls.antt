@@ -1,18 +1,22 @@
 -- What the calls ask and answer, over what a seat knows before and after.
-use Rattle.std.specs.Prelude.{◌≡◌, ◌≢◌, ◌⊎◌, ◌↔◌, ℕ, suc, ◌+◌, ◌*◌, ◌%◌, ◌<◌, ◌≤◌, min, max, Bool, IsTrue, List, [], ◌++◌, length, Some, None}
+use Rattle.std.specs.Prelude.{◌≡◌, ◌≢◌, ◌⊎◌, ◌↔◌, ℕ, suc, ◌+◌, ◌*◌, ◌%◌, ◌<◌, ◌≤◌, min, max, Bool, true, false, IsTrue, List, [], ◌++◌, length, Some, None, unwrap_or}
 use mathlib.Core.Option.{some}
 use lib.ListN.{get_elem?}
 use Rattle.batch_repr.specs.declared.batch.Batch.{Batch}
 use Rattle.batch_repr.specs.declared.limits.TheConstants.{BATCHES_MAX}
 use Rattle.publish_core.specs.declared.seat.Claim.TheVariants.{Free}
 use Rattle.publish_core.specs.declared.seat.Kind.TheVariants.{Note, Producer}
-use Rattle.publish_core.specs.Machine.{Among, ends, both_held}
+use Rattle.publish_core.specs.Machine.{Among, ends, both_held, held_or}
 use Rattle.commit_queue.specs.declared.published.Published.{Published}
 use Rattle.commit_queue.specs.declared.published.Published.TheVariants.{Raised, NotReady, Raced}
 use Rattle.commit_queue.specs.declared.view.View.{View}
-use Rattle.commit_queue.specs.Rule.{numbers, touches, IsPrefix}
+use Rattle.memtable_shards.specs.declared.version.Version.{Version}
+use Rattle.memtable_shards.specs.Pieces.{PiecesLeft}
+use Rattle.memtable_shards.specs.Versions.{piece_in, touches, Gains, HasSameVersions}
+use Rattle.commit_queue.specs.Rule.{numbers, IsPrefix}
 use Rattle.commit_queue.specs.Views.{read_view, marked_view, ends_view, lost_view, won_view, emptied_view, raised_view}
 use Rattle.commit_queue.specs.Views.{raising_view, acked_view, told_acked, telling_view, shown_view, settled_view}
+use Rattle.commit_queue.specs.Views.{given_view, applied_view}
 use Rattle.commit_queue.specs.Tells.{high, low, IsSettledBy}
 
 -- The slot at head was read, and was found free exactly where the word was 0.
@@ -47,10 +51,37 @@ pub record HoldsAdmitted (v : View) : Type 0 where
   pub holds : v.seat.held ≡ Some index
   pub admitted : v.seat.kind ≡ Producer → index < v.head
 
--- The seat knows that the batch i is applied in each shard that it touches.
-abbrev pub KnowsApplied : View → ℕ → Type 0
-KnowsApplied v i = (b : Batch) (k : ℕ) → get_elem? v.history i ≡ some b → IsTrue (touches b k)
-    → Among (record { batch = i; shard = k }) v.seat.knows
+-- The batch i, which the seat holds, is applied in each shard where it leaves a version.
+abbrev pub IsAppliedAll : View → ℕ → Type 0
+IsAppliedAll v i = (b : Batch) (k : ℕ) → get_elem? v.history i ≡ some b → IsTrue (touches b k) → Among k v.pieces
+
+-- The seat holds a batch that is admitted, and applied in each shard where it leaves a version.
+pub record CanMark (v : View) : Type 0 where
+  pub holds : HoldsAdmitted v
+  pub applied : IsAppliedAll v holds.index
+
+-- The seat holds a batch, these are all its pieces, and none of them is applied.
+pub record HoldsUnapplied (v : View) (pieces : PiecesLeft) : Type 0 where
+  pub index : ℕ
+  pub batch : Batch
+  pub holds : v.seat.held ≡ Some index
+  pub at : get_elem? v.history index ≡ some batch
+  pub entries : pieces.entries ≡ batch.entries
+  pub first : pieces.first ≡ Some batch.first
+  pub all : pieces.from ≡ 0
+  pub none : v.pieces ≡ []
+
+-- the batch of these pieces, where they are numbered
+abbrev pub batch_cut : PiecesLeft → Batch
+batch_cut pieces = record { first = unwrap_or pieces.first 0; entries = pieces.entries }
+
+-- The same as one fact, which a ghost field can keep.
+pub record IsUnapplied (v : View) (pieces : PiecesLeft) : Type 0 where
+  pub holds : v.seat.held ≡ Some (held_or 0 v.seat.held)
+  pub at : get_elem? v.history (held_or 0 v.seat.held) ≡ some (batch_cut pieces)
+  pub first : pieces.first ≡ Some (unwrap_or pieces.first 0)
+  pub all : pieces.from ≡ 0
+  pub none : v.pieces ≡ []
 
 -- The batch that the seat held is marked.
 abbrev pub MarksHeld : View → View → Type 0
@@ -123,6 +154,9 @@ pub record TakesIn (v w v' : View) : Type 0 where
   pub turn : v'.seat.turn ≡ v.seat.turn
   pub base : v'.base ≡ v.base
   pub knows : v'.seat.knows ≡ v.seat.knows ++ w.seat.knows
+  pub opening : v'.opening ≡ v.opening
+  pub taken : v'.taken ≡ v.taken
+  pub pieces : v'.pieces ≡ v.pieces ++ w.pieces
   -- the batch that it holds is not among those that it has seen published
   pub behind : (i : ℕ) → v'.seat.held ≡ Some i → v'.seat.published ≤ i
   pub held : v'.seat.held ≡ both_held v.seat.held w.seat.held
@@ -147,13 +181,18 @@ pub record ViewGoesOn (v v' : View) : Type 0 where
   pub held : v'.seat.held ≡ v.seat.held
   pub own : v'.seat.own ≡ v.seat.own
   pub knows : v'.seat.knows ≡ v.seat.knows
+  pub pieces : v'.pieces ≡ v.pieces
   pub turn : v'.seat.turn ≡ v.seat.turn
+  pub taken : v'.taken ≡ v.taken
   pub base : v'.base ≡ v.base
+  pub opening : v'.opening ≡ v.opening
   pub head : v'.head ≡ v.head
   pub history : IsPrefix v.history v'.history
   pub whole : v.seat.kind ≡ Producer → v'.history ≡ v.history
   pub published : v.seat.published ≤ v'.seat.published
   pub acked : v.seat.acked ≤ v'.seat.acked
+  -- what it has seen published is among its history still
+  pub within : v.seat.published ≤ length v.history → v'.seat.published ≤ length v'.history
   pub retired : v'.acked_known.retired ≡ v.acked_known.retired
 
 -- The batch of this index is among the history, and ends here.
@@ -164,4 +203,57 @@ pub record IsEndOf (v : View) (index end : ℕ) : Type 0 where
 -- The batches that the seat has seen published are among its history; where this is the end of n batches, they are n at least.
 pub record PublishesTo (v : View) (end : ℕ) (v' : View) : Type 0 where
   pub within : v'.seat.published ≤ length v'.history
+  pub few : length v'.history ≤ BATCHES_MAX
   pub past : (n : ℕ) → n ≤ length v.history → end ≡ ends numbers v.base v.history n → n ≤ v'.seat.published
+
+-- The seat has a turn, and gives back the versions that it took.
+pub record GivesSame (v : View) (versions : List Version) : Type 0 where
+  pub shard : ℕ
+  pub turn : v.seat.turn ≡ Some shard
+  pub same : HasSameVersions v.taken versions
+
+-- The seat has a turn, and gives back the versions that it took and those of the batch that it holds, whose piece for the shard
+-- was not applied.
+pub record GivesApplied (v : View) (versions : List Version) : Type 0 where
+  pub shard : ℕ
+  pub turn : v.seat.turn ≡ Some shard
+  pub index : ℕ
+  pub batch : Batch
+  pub holds : v.seat.held ≡ Some index
+  pub at : get_elem? v.history index ≡ some batch
+  pub has_piece : IsTrue (touches batch shard)
+  pub new : Among shard v.pieces → ⊥
+  pub gains : Gains v.taken (piece_in shard batch) versions
+
+-- what a seat may give back, and whether it has applied a piece
+abbrev pub GivesBack : View → List Version → Bool → Type 0
+GivesBack v versions false = GivesSame v versions
+GivesBack v versions true = GivesApplied v versions
+
+-- The turn is ended, and with `applied` the batch that the seat holds is applied in the shard.
+abbrev pub EndsTurn : View → Bool → View → Type 0
+EndsTurn v false v' = v' ≡ given_view v
+EndsTurn v true v' = (i k : ℕ) → v.seat.held ≡ Some i → v.seat.turn ≡ Some k → v' ≡ applied_view v i k
+
+-- The producer's seat of p has taken in the seat of w, for good: it has seen what both had seen, and what that seat had seen
+-- was among what it had seen. Where that was the flush seat, no more is seen acked than it had raised the word to.
+pub record TakesBack (p w p' : View) : Type 0 where
+  pub history : p'.history ≡ p.history
+  pub has_both : IsPrefix w.history p.history
+  pub same_base : w.base ≡ p.base
+  pub calm : p'.absorbed ≡ []
+  pub published : p'.seat.published ≡ max p.seat.published w.seat.published
+  pub acked : p'.seat.acked ≡ max p.seat.acked w.seat.acked
+  pub within : p'.seat.published ≤ length p'.history
+  pub within_back : w.seat.published ≤ length w.history
+  pub own : p'.seat.own ≡ p.seat.own ++ w.seat.own
+  pub kind : p'.seat.kind ≡ p.seat.kind
+  pub held : p'.seat.held ≡ p.seat.held
+  pub pieces : p'.pieces ≡ p.pieces ++ w.pieces
+  pub claim : p'.seat.claim ≡ p.seat.claim
+  pub turn : p'.seat.turn ≡ p.seat.turn
+  pub taken : p'.taken ≡ p.taken
+  pub base : p'.base ≡ p.base
+  pub opening : p'.opening ≡ p.opening
+  pub head : p'.head ≡ p.head
+  pub flushed : w.acked_known.is_flush ≡ true → p'.seat.acked ≤ w.acked_known.raised

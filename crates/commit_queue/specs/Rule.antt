@@ -1,5 +1,5 @@
 -- The rule of the table: its words, the shards at home and all views are one sound state of the ring's machine.
-use Rattle.std.specs.Prelude.{◌≡◌, ◌≢◌, ℕ, zero, suc, ◌+◌, ◌*◌, ◌^◌, ◌<◌, ◌≤◌, Bool, List, [], length, Option, Some, slice_index, true, false}
+use Rattle.std.specs.Prelude.{◌≡◌, ◌≢◌, ℕ, zero, suc, ◌+◌, ◌*◌, ◌^◌, ◌<◌, ◌≤◌, List, [], length, Option, Some, None, slice_index, true}
 use mathlib.Core.Option.{some}
 use mathlib.Core.Option as maybe
 use lib.ListN.{get_elem?}
@@ -7,8 +7,9 @@ use Rattle.atomic_table.specs.Table as table
 use Rattle.batch_repr.specs.declared.batch.Batch.{Batch}
 use Rattle.batch_repr.specs.Batches.{count_of}
 use Rattle.memtable_shards.specs.declared.version.Version.{Version}
+use Rattle.memtable_shards.specs.Versions.{touches}
 use Rattle.publish_core.specs.declared.seat.Kind.TheVariants.{Producer, Spent}
-use Rattle.publish_core.specs.Machine.{CoreState, ends, visible}
+use Rattle.publish_core.specs.Machine.{Among, CoreState, ends, visible}
 use Rattle.publish_core.specs.Sound.{Sound}
 use Rattle.commit_queue.specs.declared.view.AckedKnown.{AckedKnown}
 use Rattle.commit_queue.specs.declared.view.View.{View}
@@ -30,10 +31,6 @@ TableState = table.State Slot View
 -- how many numbers a batch takes
 abbrev pub numbers : Batch → ℕ
 numbers batch = count_of batch.entries
-
--- The batch is to be applied in the shard k before it is marked: none is, until a call takes a shard out.
-abbrev pub touches : Batch → ℕ → Bool
-touches batch k = false
 
 -- The state of the machine is sound.
 abbrev pub IsSoundRing : RingState → Type 0
@@ -63,10 +60,15 @@ pub record AckedKnownOk (acked made j seen : ℕ) (k : AckedKnown) : Type 0 wher
   pub retired : (n : ℕ) → k.retired ≡ Some n → seen ≤ n
   pub alone : k.alone ≡ true → (made ≡ 1) × (acked ≡ 0)
 
+-- The shards where the batch that the seat holds is applied are those of the view, and the seat knows of each.
+abbrev pub PiecesOk : RingState → View → Type 0
+PiecesOk c v = (i k : ℕ) → v.seat.held ≡ Some i
+    → (Among i (c.done k) → Among k v.pieces) × (Among k v.pieces → Among (record { batch = i; shard = k }) v.seat.knows)
+
 -- The view v of the seat j holds.
 pub record ViewOk (opening : List (List Version)) (c : RingState) (j : ℕ) (v : View) : Type 0 where
   pub seat : c.seats j ≡ v.seat
-  pub base : v.seat.kind ≢ Spent → (v.base ≡ c.base) × (v.absorbed_base ≡ c.base)
+  pub base : v.seat.kind ≢ Spent → (v.base ≡ c.base) × (v.absorbed_base ≡ c.base) × (v.opening ≡ opening)
   pub known : IsPrefix v.history c.batches
   pub absorbed : IsPrefix v.absorbed c.batches
   pub seen : v.absorbed ≡ [] → v.seat.seen ≤ length v.history
@@ -74,6 +76,8 @@ pub record ViewOk (opening : List (List Version)) (c : RingState) (j : ℕ) (v :
   pub whole : j ≡ 0 → v.history ≡ c.batches
   pub head : j ≡ 0 → v.head ≡ c.head
   pub turn : (k : ℕ) → v.seat.turn ≡ Some k → HasVersions opening c.batches (c.done k) k v.taken
+  pub pieces : PiecesOk c v
+  pub idle : v.seat.held ≡ None → v.pieces ≡ []
   pub acked_known : AckedKnownOk c.acked c.made j v.seat.acked v.acked_known
 
 -- The shard k is at home, with the versions of the opening and of what is applied there.

@@ -1,7 +1,8 @@
 -- What is seen of each kind of seat: the table that it is of, and what it knows.
-use Rattle.std.specs.Prelude.{◌≡◌, ℕ, List, All, length}
+use Rattle.std.specs.Prelude.{◌≡◌, ℕ, List, All, length, None}
 use Rattle.atomic_table.specs.Seated.{TableId}
 use Rattle.publish_core.specs.declared.seat.Kind.TheVariants.{Worker}
+use Rattle.memtable_shards.specs.declared.version.Version.{Version}
 use Rattle.commit_queue.specs.declared.pipe_table.PipeTable.{PipeTable}
 use Rattle.commit_queue.specs.declared.seats.ProducerSeat.{ProducerSeat}
 use Rattle.commit_queue.specs.declared.seats.SessionSeat.{SessionSeat}
@@ -40,22 +41,26 @@ flush_table f = f.seat.table_id
 abbrev pub flush_seat_view : FlushSeat → View
 flush_seat_view f = f.seat.me.0
 
+-- The seat holds no batch and has no turn.
+abbrev pub HoldsNothing : View → Type 0
+HoldsNothing v = (v.seat.held ≡ None) × (v.seat.turn ≡ None)
+
 -- The producer's seat of a new table.
-abbrev pub IsNewProducer : PipeTable → ℕ → ProducerSeat → Type 0
-IsNewProducer table base p = IsOfTable table (producer_table p) × (producer_view p ≡ opened_view base)
+abbrev pub IsNewProducer : PipeTable → ℕ → List (List Version) → ProducerSeat → Type 0
+IsNewProducer table base opening p = IsOfTable table (producer_table p) × (producer_view p ≡ opened_view base opening)
 
 -- The flush seat of a new table.
-abbrev pub IsNewFlush : PipeTable → ℕ → FlushSeat → Type 0
-IsNewFlush table base f = IsOfTable table (flush_table f) × (flush_seat_view f ≡ flush_view (first_view base))
+abbrev pub IsNewFlush : PipeTable → ℕ → List (List Version) → FlushSeat → Type 0
+IsNewFlush table base opening f = IsOfTable table (flush_table f) × (flush_seat_view f ≡ flush_view (first_view base opening))
 
 -- A session's seat of a new table.
-abbrev pub IsNewSession : PipeTable → ℕ → SessionSeat → Type 0
-IsNewSession table base s = IsOfTable table (session_table s) × (session_view s ≡ shown_view Worker (opened_view base))
+abbrev pub IsNewSession : PipeTable → ℕ → List (List Version) → SessionSeat → Type 0
+IsNewSession table base opening s = IsOfTable table (session_table s) × (session_view s ≡ shown_view Worker (opened_view base opening))
 
 -- So many seats of new sessions.
-pub record AreNewSessions (table : PipeTable) (base count : ℕ) (seats : List SessionSeat) : Type 0 where
+pub record AreNewSessions (table : PipeTable) (base : ℕ) (opening : List (List Version)) (count : ℕ) (seats : List SessionSeat) : Type 0 where
   pub all : length seats ≡ count
-  pub each : All (IsNewSession table base) seats
+  pub each : All (IsNewSession table base opening) seats
 
 -- The batch went from the producer's seat to the note.
 pub record HandsOver (p : ProducerSeat) (h : Handed) (p' : ProducerSeat) : Type 0 where

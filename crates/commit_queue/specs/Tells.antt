@@ -1,15 +1,21 @@
 -- What each step tells, of the view before, the word found and the view after.
-use Rattle.std.specs.Prelude.{◌≡◌, ◌≢◌, ℕ, suc, ◌+◌, ◌-◌, ◌*◌, ◌/◌, ◌%◌, ◌≤◌, List, length, Some}
-use Rattle.atomic_table.specs.Table.{Me, Step}
+use Rattle.std.specs.Prelude.{◌≡◌, ◌≢◌, ℕ, suc, ◌+◌, ◌-◌, ◌*◌, ◌/◌, ◌%◌, ◌≤◌, List, ◌∷◌, length, Some}
+use Rattle.atomic_table.specs.Table.{Me, Step, rest}
 use Rattle.batch_repr.specs.declared.batch.Batch.{Batch}
+use Rattle.batch_repr.specs.declared.limits.TheConstants.{BATCHES_MAX}
+use Rattle.memtable_shards.specs.declared.version.Version.{Version}
 use Rattle.publish_core.specs.declared.seat.Claim.TheVariants.{Taken, Emptied}
 use Rattle.publish_core.specs.declared.seat.Kind.TheVariants.{Producer}
 use Rattle.publish_core.specs.declared.seat.Reading.{Reading}
-use Rattle.publish_core.specs.Machine.{ends}
+use mathlib.Core.Option.{some}
+use lib.ListN.{get_elem?}
+use Rattle.publish_core.specs.Machine.{Among, ends}
 use Rattle.commit_queue.specs.declared.view.View.{View}
 use Rattle.commit_queue.specs.Rule.{Slot, numbers, IsPrefix}
 use Rattle.commit_queue.specs.Views.{read_view, placed_view, admitted_view, marked_view, ends_view, lost_view, won_view}
 use Rattle.commit_queue.specs.Views.{emptied_view, raised_view, visible_view, settled_view, raising_view, acked_view}
+use Rattle.commit_queue.specs.Views.{taking_view, busy_view, given_view, applied_view}
+use Rattle.commit_queue.specs.Shards.{HasVersions, AreApplied, ShowsBelow, LacksPiece}
 
 -- a view, and the slots that are out with the seat
 abbrev pub Seated : Type 0
@@ -30,6 +36,10 @@ Grew v h n = IsPrefix v.history h × (n ≤ length h) × (v.seat.kind ≡ Produc
 -- Each batch that ends at or below r is among the first n.
 abbrev pub ReachesTo : ℕ → List Batch → ℕ → ℕ → Type 0
 ReachesTo base h n r = (k : ℕ) → k ≤ length h → ends numbers base h k ≤ r → k ≤ n
+
+-- Of the batches that end at or above r, none comes before the first n: where r is their end, n are the fewest that end there.
+abbrev pub TopsAt : ℕ → List Batch → ℕ → ℕ → Type 0
+TopsAt base h n r = (k : ℕ) → k ≤ length h → r ≤ ends numbers base h k → n ≤ k
 
 -- A ring slot was read.
 abbrev pub TellsSlot : Step Slot → Seated → ℕ → Seated → Type 0
@@ -78,6 +88,8 @@ pub record SeesVisible (v : View) (r : ℕ) (v' : View) : Type 0 where
   pub published : v.seat.published ≤ count
   pub end_is : r ≡ ends numbers v.base history count
   pub reaches : ReachesTo v.base history count r
+  pub tops : TopsAt v.base history count r
+  pub few : length history ≤ BATCHES_MAX
 
 abbrev pub TellsVisible : Step Slot → Seated → ℕ → Seated → Type 0
 TellsVisible st m r m' = (m'.1 ≡ m.1) × SeesVisible m.0 r m'.0
@@ -106,3 +118,29 @@ pub record IsSettledBy (v : View) (h : List Batch) : Type 0 where
 abbrev pub TellsSettled : Step Slot → Seated → ℕ → Seated → Type 0
 TellsSettled st m r m' = (m'.1 ≡ m.1)
     × ((h : List Batch) × (m'.0 ≡ settled_view (ends_view m.0 (high r) (low r)) h) × IsSettledBy m.0 h)
+
+-- The seat has the turn on the shard k, with these versions. They are those of the opening and of the batches applied there,
+-- among them each that the seat has seen published; and the batch that it holds is not among them, unless it applied it there.
+pub record TakesShard (v : View) (k : ℕ) (versions : List Version) (v' : View) : Type 0 where
+  pub view : v' ≡ taking_view v k versions
+  pub batches : List Batch
+  pub done : List ℕ
+  pub goes_on : IsPrefix v.history batches
+  pub has : HasVersions v.opening batches done k versions
+  pub covers : AreApplied v.history v.seat.published done k
+  pub below : ShowsBelow v.opening v.history v.seat.published (ends numbers v.base v.history v.seat.published) k versions
+  pub lacks : (i : ℕ) (b : Batch) → v.seat.held ≡ Some i → get_elem? v.history i ≡ some b → (Among k v.pieces → ⊥) → LacksPiece b k versions
+
+-- The shard was taken, with these versions; or it was found taken.
+abbrev pub TellsTaken : Step Slot → Seated → ℕ → Seated → Type 0
+TellsTaken st m r m' = let k = st.word - 67 in
+    (r ≡ 0 → (x : List Version) × (m'.1 ≡ (k, Some x) ∷ m.1) × TakesShard m.0 k x m'.0)
+    × (r ≢ 0 → (m'.1 ≡ m.1) × (m'.0 ≡ busy_view m.0))
+
+-- The shard was given back as it was.
+abbrev pub TellsGiven : Step Slot → Seated → ℕ → Seated → Type 0
+TellsGiven st m r m' = (m'.1 ≡ rest m.1) × (m'.0 ≡ given_view m.0)
+
+-- The shard was given back, with the batch applied that the seat holds.
+abbrev pub TellsApplied : Step Slot → Seated → ℕ → Seated → Type 0
+TellsApplied st m r m' = (m'.1 ≡ rest m.1) × ((i : ℕ) → m.0.seat.held ≡ Some i → m'.0 ≡ applied_view m.0 i (st.word - 67))

@@ -14,12 +14,14 @@
 
 mod acking;
 mod holder;
+mod lending;
 mod meeting;
 mod opening;
 mod pipe_table;
 mod producer;
 mod published;
 mod publishing;
+mod retiring;
 mod seats;
 mod steps;
 mod view;
@@ -28,6 +30,7 @@ mod waiting;
 pub use holder::Holder;
 pub use pipe_table::{PipeTable, Shards};
 pub use published::Published;
+pub use retiring::Retired;
 pub use seats::{FlushSeat, Handed, ProducerSeat, SessionSeat, SessionSeats};
 pub use view::{AckedKnown, View};
 

@@ -4,7 +4,7 @@ ghost use Rattle.publish_core.specs.declared.seat.Kind.TheVariants.{Note, Worker
 ghost use Rattle.publish_core.specs.Machine.{Acts};
 
 use crate::pipe_table::{PipeTable, TableSeat};
-use crate::seats::{Handed, SessionSeat};
+use crate::seats::{Handed, ProducerSeat, SessionSeat};
 use crate::steps::{Settle, TakeIn, Tell};
 use wal_base::NoMemory;
 
@@ -14,6 +14,7 @@ impl PipeTable {
     ghost use Rattle.commit_queue.specs.Tables.{IsOfTable, IsSeatOf, IsSameSeat};
     ghost use Rattle.commit_queue.specs.Seats.{session_table, session_view, HasMet, HasSeenNoLess};
     ghost use Rattle.commit_queue.specs.Seats.{note_table, note_view};
+    ghost use Rattle.commit_queue.specs.Seats.{producer_table, producer_view};
 
     /// Takes the note in. The seat then holds the note's batch, and has seen all that the note has
     /// seen.
@@ -49,6 +50,20 @@ impl PipeTable {
         self.take_in_at(&mut a.seat, from_b);
         self.take_in_at(&mut b.seat, from_a);
         Ok(())
+    }
+
+    /// Shows a session all that the producer's seat has seen, which is each batch that was placed.
+    pub fn show(&self, p: &mut ProducerSeat, s: &mut SessionSeat)
+        requires producer { IsOfTable self.now (producer_table p.old) }
+        requires table { IsOfTable self.now (session_table s.old) }
+        requires idle { (session_view s.old).seat.held ≡ None }
+        ensures same_producer { producer_table p.new ≡ producer_table p.old }
+        ensures same { session_table s.new ≡ session_table s.old }
+        ensures left { producer_view p.new ≡ telling_view (producer_view p.old) }
+        ensures shown { TakesIn (session_view s.old) (shown_view Note (producer_view p.old)) (session_view s.new) }
+    {
+        let note = self.tell_at(&mut p.seat);
+        self.take_in_at(&mut s.seat, note);
     }
 
     /// A note that shows what the seat has seen.
@@ -90,7 +105,7 @@ impl PipeTable {
     }
 
     /// What the seat took in is among what it has seen.
-    fn settle_at(&self, seat: &mut TableSeat)
+    pub(crate) fn settle_at(&self, seat: &mut TableSeat)
         requires table { IsSeatOf self.now seat.old }
         requires acts { Acts seat.old.me.0.seat }
         ensures same { IsSameSeat seat.old seat.new }

@@ -4,7 +4,7 @@ ghost use Rattle.publish_core.specs.declared.seat.Kind.TheVariants.{Worker};
 ghost use Rattle.batch_repr.specs.declared.limits.TheConstants.{SESSIONS_MAX};
 ghost use Rattle.memtable_shards.specs.declared.sharding.TheConstants.{SHARDS};
 ghost use Rattle.commit_queue.specs.Shards.{NumberedBelow};
-ghost use Rattle.commit_queue.specs.Views.{first_view, opened_view};
+ghost use Rattle.commit_queue.specs.Views.{first_view, IsJustOpened};
 ghost use Rattle.commit_queue.specs.Views.{telling_view, shown_view, flush_view};
 
 use crate::pipe_table::{AtomicTable, PipeTable, Shards, TableOpening, TableSeat};
@@ -33,9 +33,9 @@ impl PipeTable {
         requires sessions { (1 ≤ sessions) × (sessions ≤ SESSIONS_MAX) }
         requires eight { length shards ≡ SHARDS }
         requires below { NumberedBelow base shards }
-        ensures producer { IfOk result (λ made. IsNewProducer made.0 base made.1) }
-        ensures flush { IfOk result (λ made. IsNewFlush made.0 base made.2) }
-        ensures sessions { IfOk result (λ made. AreNewSessions made.0 base sessions made.3) }
+        ensures producer { IfOk result (λ made. IsNewProducer made.0 base shards made.1) }
+        ensures flush { IfOk result (λ made. IsNewFlush made.0 base shards made.2) }
+        ensures sessions { IfOk result (λ made. AreNewSessions made.0 base shards sessions made.3) }
     {
         let (table, mut p) = PipeTable::over(alloc, base, shards)?;
         let flush = table.seat_flush(&mut p);
@@ -48,7 +48,7 @@ impl PipeTable {
         requires eight { length shards ≡ SHARDS }
         requires below { NumberedBelow base shards }
         ensures table { IfOk result (λ made. IsOfTable made.0 (producer_table made.1)) }
-        ensures view { IfOk result (λ made. producer_view made.1 ≡ first_view base) }
+        ensures view { IfOk result (λ made. producer_view made.1 ≡ first_view base shards) }
     {
         let mut words = [0u64; 75];
         words[1] = base;
@@ -65,6 +65,7 @@ impl PipeTable {
             seat,
             head: 0,
             end: 0,
+            turn: None,
         };
         Ok((PipeTable { table }, p))
     }
@@ -96,6 +97,7 @@ impl PipeTable {
             seat: self.table.shared.split_seat::<SeatSession>(&mut p.seat),
             index: 0,
             end: 0,
+            turn: None,
         }
     }
 
@@ -107,10 +109,10 @@ impl PipeTable {
         sessions: u32,
     ) -> Result<SessionSeats, NoMemory>
         requires table { IsOfTable self.now (producer_table p.old) }
-        requires opened { producer_view p.old ≡ opened_view (producer_view p.old).base }
+        requires opened { IsJustOpened (producer_view p.old) }
         ensures same { producer_table p.new ≡ producer_table p.old }
         ensures view { producer_view p.new ≡ producer_view p.old }
-        ensures new { IfOk result (AreNewSessions self.now (producer_view p.old).base sessions) }
+        ensures new { IfOk result (AreNewSessions self.now (producer_view p.old).base (producer_view p.old).opening sessions) }
     {
         let mut seats = ListOf::with_capacity(alloc, sessions as usize)?;
         for _ in 0..sessions {

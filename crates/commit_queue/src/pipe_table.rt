@@ -32,7 +32,7 @@ impl TableRule<Option<Shard>, View, TableOpening> for RingRule {
 
     ghost holds = { Linked };
 
-    ghost first = { λ (opening : TableOpening). first_view opening.base };
+    ghost first = { λ (opening : TableOpening). first_view opening.base opening.shards.value };
 }
 
 pub(crate) type AtomicTable = Table<Option<Shard>, View, TableOpening, RingRule, Global>;

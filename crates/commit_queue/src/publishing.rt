@@ -12,7 +12,7 @@ impl PipeTable {
     ghost use Rattle.commit_queue.specs.Rule.{numbers};
     ghost use Rattle.commit_queue.specs.Views.{marked_view};
     ghost use Rattle.commit_queue.specs.Tells.{SeesVisible};
-    ghost use Rattle.commit_queue.specs.Calls.{Tries};
+    ghost use Rattle.commit_queue.specs.Calls.{Tries, IsAppliedAll};
     ghost use Rattle.commit_queue.specs.Tables.{IsSeatOf, IsSameSeat};
 
     /// Marks the batch of the index, which the seat holds.
@@ -22,6 +22,7 @@ impl PipeTable {
         requires holds { seat.old.me.0.seat.held ≡ Some index }
         requires admitted { seat.old.me.0.seat.kind ≡ Producer → index < seat.old.me.0.head }
         requires calm { seat.old.me.0.absorbed ≡ [] }
+        requires applied { IsAppliedAll seat.old.me.0 index }
         requires end { end ≡ ends numbers seat.old.me.0.base seat.old.me.0.history (suc index) }
         requires small { end < 2 ^ 56 }
         ensures same { IsSameSeat seat.old seat.new × (seat.new.me.1 ≡ seat.old.me.1) }

@@ -11,7 +11,9 @@ pub struct ProducerSeat {
     pub(crate) head: u64,
     /// The end of the batch that it holds.
     pub(crate) end: u64,
-    ghost stands: { ProducerStands seat.id seat.me head end },
+    /// The shard whose turn it has.
+    pub(crate) turn: Option<usize>,
+    ghost stands: { ProducerStands seat.id seat.me head end turn },
 }
 
 /// A session's seat. Between two calls it claims no batch of the front.
@@ -22,7 +24,9 @@ pub struct SessionSeat {
     pub(crate) index: u64,
     /// The end of the batch that it holds.
     pub(crate) end: u64,
-    ghost stands: { SessionStands seat.me index end },
+    /// The shard whose turn it has.
+    pub(crate) turn: Option<usize>,
+    ghost stands: { SessionStands seat.me index end turn },
 }
 
 /// The seats of all sessions.

@@ -9,6 +9,7 @@ ghost use Rattle.commit_queue.specs.Tells.{TellsSlot, TellsPlaced, TellsAdmitted
 ghost use Rattle.commit_queue.specs.Tells.{TellsEnds, TellsClaim, TellsEmptied, TellsRaised};
 ghost use Rattle.commit_queue.specs.Tells.{TellsVisible, TellsSettled};
 ghost use Rattle.commit_queue.specs.Tells.{TellsAckedRaised, TellsAcked};
+ghost use Rattle.commit_queue.specs.Tells.{TellsTaken, TellsGiven, TellsApplied};
 
 use crate::view::View;
 use atomic_table::{Join, Play, Split};
@@ -108,6 +109,27 @@ pub(crate) struct Settle;
 
 impl Play<Option<Shard>, View> for Settle {
     ghost then = { TellsSettled };
+}
+
+/// A shard is taken, or found taken.
+pub(crate) struct TakeShard;
+
+impl Play<Option<Shard>, View> for TakeShard {
+    ghost then = { TellsTaken };
+}
+
+/// A shard is given back as it was.
+pub(crate) struct GiveShard;
+
+impl Play<Option<Shard>, View> for GiveShard {
+    ghost then = { TellsGiven };
+}
+
+/// A shard is given back with a batch applied.
+pub(crate) struct GiveApplied;
+
+impl Play<Option<Shard>, View> for GiveApplied {
+    ghost then = { TellsApplied };
 }
 
 /// The producer's batch goes to a note.

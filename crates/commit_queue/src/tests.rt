@@ -1,14 +1,17 @@
 //! What the ring does, by examples.
-ghost use Rattle.std.specs.Prelude.{◌≡◌, ◌<◌, [], All, None, length, replicate};
+ghost use Rattle.std.specs.Prelude.{◌≡◌, ◌<◌, ℕ, [], All, None, Some, length, replicate};
 ghost use Rattle.memtable_shards.specs.declared.sharding.TheConstants.{SHARDS};
-ghost use Rattle.commit_queue.specs.Calls.{AwaitsBatch};
+ghost use Rattle.memtable_shards.specs.Pieces.{whole_pieces};
+ghost use Rattle.commit_queue.specs.Calls.{AwaitsBatch, HoldsUnapplied, IsUnapplied, IsAppliedAll};
 ghost use Rattle.commit_queue.specs.Tables.{IsOfTable};
 ghost use Rattle.commit_queue.specs.Seats.{producer_table, producer_view, flush_table};
-ghost use Rattle.commit_queue.specs.Seats.{session_table, session_view, note_table};
+ghost use Rattle.commit_queue.specs.Seats.{session_table, session_view, note_table, note_view};
+ghost use Rattle.commit_queue.specs.Seats.{HoldsNothing};
+ghost use Rattle.commit_queue.specs.Views.{but_turns};
 
-use crate::{FlushSeat, Handed, PipeTable, ProducerSeat, Published, SessionSeat, Shards};
+use crate::{FlushSeat, Handed, Holder, PipeTable, ProducerSeat, Published, SessionSeat, Shards};
 use batch_repr::{BATCHES_MAX, BatchBuilder, NUMBER_MAX, Numbered, Unnumbered};
-use memtable_shards::{SHARDS, Shard};
+use memtable_shards::{Found, Pieces, SHARDS, Shard, shard_index, split};
 use std::alloc::Global;
 use std::process::Abort;
 use std::sync::Wait;
@@ -16,8 +19,16 @@ use wal_base::ListOf;
 
 const FIRST: u64 = 10;
 
-/// A table whose first number is 10, with two sessions, and the notes of batches that no session
-/// adopted yet.
+/// A batch on its way to a session, with its pieces, of which none is applied.
+#[derive(Drop)]
+struct Parcel {
+    note: Handed,
+    pieces: Pieces,
+    ghost unapplied: { IsUnapplied (note_view note) pieces },
+}
+
+/// A table whose first number is 10, with two sessions, and the batches that no session adopted
+/// yet.
 #[derive(Drop)]
 struct Rig {
     alloc: Global,
@@ -26,17 +37,20 @@ struct Rig {
     flush: FlushSeat,
     one: SessionSeat,
     other: SessionSeat,
-    notes: Vec<Handed>,
+    parcels: Vec<Parcel>,
     next: u64,
     placed: u64,
     ghost producer_of: { IsOfTable table (producer_table producer) },
     ghost flush_of: { IsOfTable table (flush_table flush) },
     ghost one_of: { IsOfTable table (session_table one) },
     ghost other_of: { IsOfTable table (session_table other) },
-    ghost notes_of: { All (λ note. IsOfTable table (note_table note)) notes.items },
+    ghost parcels_of: { All (λ parcel. IsOfTable table (note_table parcel.note)) parcels.items },
     ghost awaits: { AwaitsBatch (producer_view producer) next placed },
-    ghost one_idle: { (session_view one).seat.held ≡ None },
-    ghost other_idle: { (session_view other).seat.held ≡ None },
+    ghost no_turn: { (producer_view producer).seat.turn ≡ None },
+    ghost one_idle: { HoldsNothing (session_view one) },
+    ghost one_clean: { (session_view one).pieces ≡ [] },
+    ghost other_idle: { HoldsNothing (session_view other) },
+    ghost other_clean: { (session_view other).pieces ≡ [] },
 }
 
 /// Eight shards without a version.
@@ -64,6 +78,42 @@ fn one_set(rt: &impl Abort, alloc: Global) -> Unnumbered {
     }
 }
 
+/// Applies all pieces of the batch that the seat holds. No shard is with another seat.
+fn apply_all<H: Holder>(rt: &impl Abort, table: &PipeTable, h: &mut H, mut pieces: Pieces)
+    requires table { IsOfTable table.now (H.table_id h.old) }
+    requires no_turn { (H.view h.old).seat.turn ≡ None }
+    requires unapplied { HoldsUnapplied (H.view h.old) pieces }
+    ensures same { H.table_id h.new ≡ H.table_id h.old }
+    ensures only { but_turns (H.view h.new) ≡ but_turns (H.view h.old) }
+    ensures no_turn { (H.view h.new).seat.turn ≡ None }
+    ensures applied { (i : ℕ) → (H.view h.old).seat.held ≡ Some i → IsAppliedAll (H.view h.new) i }
+{
+    while let Some((index, piece)) = pieces.take() {
+        let Some(mut shard) = table.take_shard(h, index) else {
+            panic!(rt; "a shard at home");
+        };
+        shard.apply(piece);
+        table.give_shard(h, shard, true);
+    }
+}
+
+/// Whether the seat gets the shard, which it gives back at once.
+fn gets<H: Holder>(table: &PipeTable, h: &mut H, index: usize) -> bool
+    requires table { IsOfTable table.now (H.table_id h.old) }
+    requires small { index < SHARDS }
+    requires no_turn { (H.view h.old).seat.turn ≡ None }
+    ensures same { H.table_id h.new ≡ H.table_id h.old }
+    ensures only { but_turns (H.view h.new) ≡ but_turns (H.view h.old) }
+    ensures no_turn { (H.view h.new).seat.turn ≡ None }
+    ensures pieces { (H.view h.new).pieces ≡ (H.view h.old).pieces }
+{
+    let Some(shard) = table.take_shard(h, index) else {
+        return false;
+    };
+    table.give_shard(h, shard, false);
+    true
+}
+
 impl Rig {
     fn open(rt: &impl Abort, alloc: Global) -> Rig {
         let made = PipeTable::new(alloc, 2, FIRST, eight(rt, alloc));
@@ -80,26 +130,29 @@ impl Rig {
             flush,
             one,
             other,
-            notes: Vec::new(alloc),
+            parcels: Vec::new(alloc),
             next: FIRST,
             placed: 0,
         }
     }
 
-    /// The next batch, which takes one number.
-    fn batch(&self, rt: &impl Abort) -> Numbered
-        ensures { result.first ≡ self.now.next }
+    /// The next batch, which takes one number, and its pieces.
+    fn batch(&self, rt: &impl Abort) -> (Numbered, Pieces)
+        ensures first { result.0.first ≡ self.now.next }
+        ensures pieces { result.1 ≡ record (whole_pieces result.0.entries) { first = Some result.0.first } }
     {
         let batch = one_set(rt, self.alloc);
         if self.next > NUMBER_MAX || u64::from(batch.count()) > NUMBER_MAX - self.next {
             panic!(rt; "a number left");
         }
-        batch.number(self.next)
+        let mut pieces = split(self.alloc, &batch).expect(rt, "memory");
+        pieces.number(self.next);
+        (batch.number(self.next), pieces)
     }
 
     /// Places, admits and hands over the next batch, and answers its index, where its slot is free.
     fn send_next(&mut self, rt: &impl Abort) -> Option<u64> {
-        let batch = self.batch(rt);
+        let (batch, pieces) = self.batch(rt);
         if self.placed >= BATCHES_MAX {
             panic!(rt; "a batch left");
         }
@@ -111,19 +164,21 @@ impl Rig {
         let Ok(note) = self.table.hand(&mut self.producer) else {
             panic!(rt; "memory");
         };
-        self.notes.push(note).expect(rt, "memory");
+        let parcel = Parcel { note, pieces };
+        self.parcels.push(parcel).expect(rt, "memory");
         self.next = batch.end();
         self.placed += 1;
         Some(index)
     }
 
-    /// The session adopts the batch of the note at that place, and marks it.
+    /// The session adopts the batch of the parcel at that place, applies it, and marks it.
     fn mark(&mut self, rt: &impl Abort, at: usize) {
-        if at >= self.notes.len() {
-            panic!(rt; "a note");
+        if at >= self.parcels.len() {
+            panic!(rt; "a parcel");
         }
-        let note = self.notes.remove(at);
+        let Parcel { note, pieces } = self.parcels.remove(at);
         self.table.adopt(&mut self.one, note);
+        apply_all(rt, &self.table, &mut self.one, pieces);
         self.table.mark(&mut self.one);
     }
 
@@ -139,7 +194,7 @@ impl Rig {
 
     /// The producer commits the next batch by itself, and tries to publish.
     fn commit_alone(&mut self, rt: &impl Abort) -> Option<Published> {
-        let batch = self.batch(rt);
+        let (batch, pieces) = self.batch(rt);
         if self.placed >= BATCHES_MAX {
             panic!(rt; "a batch left");
         }
@@ -148,6 +203,7 @@ impl Rig {
         }
         self.table.place(&mut self.producer, &batch);
         self.table.admit(&mut self.producer);
+        apply_all(rt, &self.table, &mut self.producer, pieces);
         self.table.mark(&mut self.producer);
         self.next = batch.end();
         self.placed += 1;
@@ -159,6 +215,11 @@ impl Rig {
         if self.table.meet(&mut self.one, &mut self.other).is_err() {
             panic!(rt; "memory");
         }
+    }
+
+    /// The producer shows the other session what it has seen.
+    fn show(&mut self) {
+        self.table.show(&mut self.producer, &mut self.other);
     }
 
     /// What the other session sees published.
@@ -174,6 +235,49 @@ impl Rig {
     /// What the other session sees acked.
     fn other_acked(&mut self) -> u64 {
         self.table.acked(&mut self.other)
+    }
+
+    /// Whether the other session gets the shard that the one has, and then once it is back.
+    fn other_gets(&mut self, rt: &impl Abort, index: usize) -> [bool; 2]
+        requires { index < SHARDS }
+    {
+        let Some(shard) = self.table.take_shard(&mut self.one, index) else {
+            panic!(rt; "a shard at home");
+        };
+        let meanwhile = gets(&self.table, &mut self.other, index);
+        self.table.give_shard(&mut self.one, shard, false);
+        let then = gets(&self.table, &mut self.other, index);
+        [meanwhile, then]
+    }
+
+    /// The number of the version that the other session finds of the key of each batch.
+    fn other_finds(&mut self, rt: &impl Abort, below: u64) -> Option<u64> {
+        let Some(shard) = self.table.take_shard(&mut self.other, shard_index(b"k")) else {
+            panic!(rt; "a shard at home");
+        };
+        let found = match shard.newest(b"k", below) {
+            Found::Value { seq, .. } => Some(seq),
+            Found::Gone { .. } | Found::Nothing => None,
+        };
+        self.table.give_shard(&mut self.other, shard, false);
+        found
+    }
+
+    /// The sessions go back to the producer's seat, and then the flush seat. Answers what the
+    /// producer's seat sees published.
+    fn close(self) -> u64 {
+        let Rig {
+            table,
+            mut producer,
+            flush,
+            one,
+            other,
+            ..
+        } = self;
+        table.retire(&mut producer, one);
+        table.retire(&mut producer, other);
+        table.retire(&mut producer, flush);
+        table.visible(&mut producer)
     }
 }
 
@@ -229,7 +333,10 @@ fn a_table_is_shared_by_threads_and_seats_go_to_them(rt: HostRuntime) {
     assert!(rt; is_sent(&rig.producer));
     assert!(rt; is_sent(&rig.flush));
     assert!(rt; is_sent(&rig.one));
-    assert!(rt; is_sent(&rig.notes));
+    let Some(parcel) = rig.parcels.first() else {
+        panic!(rt; "a parcel");
+    };
+    assert!(rt; is_sent(&parcel.note));
 }
 
 #[test]
@@ -277,6 +384,54 @@ fn a_full_ring_is_freed_from_the_front(rt: HostRuntime) {
         assert_eq!(rt; rig.publish(), raised);
         assert_eq!(rt; rig.send_next(&rt), Some(index + 64));
     }
+}
+
+#[test]
+fn a_session_is_shown_what_the_producer_has_seen(rt: HostRuntime) {
+    let mut rig = Rig::open(&rt, rt.alloc());
+    let raised = Published::Raised {
+        index: 0,
+        visible: 11,
+    };
+    assert_eq!(rt; rig.commit_alone(&rt), Some(raised));
+    rig.show();
+    assert_eq!(rt; rig.other_visible(), 11);
+}
+
+#[test]
+fn a_shard_is_with_one_seat_at_a_time(rt: HostRuntime) {
+    let mut rig = Rig::open(&rt, rt.alloc());
+    for index in 0..SHARDS {
+        assert_eq!(rt; rig.other_gets(&rt, index), [false, true]);
+    }
+}
+
+#[test]
+fn what_one_seat_applies_another_finds(rt: HostRuntime) {
+    let mut rig = Rig::open(&rt, rt.alloc());
+    assert_eq!(rt; rig.send_next(&rt), Some(0));
+    assert_eq!(rt; rig.send_next(&rt), Some(1));
+    assert_eq!(rt; rig.other_finds(&rt, 12), None);
+    rig.mark(&rt, 1);
+    assert_eq!(rt; rig.other_finds(&rt, 12), Some(11));
+    assert_eq!(rt; rig.other_finds(&rt, 11), None);
+    rig.mark(&rt, 0);
+    assert_eq!(rt; rig.other_finds(&rt, 12), Some(11));
+    assert_eq!(rt; rig.other_finds(&rt, 11), Some(10));
+}
+
+#[test]
+fn each_seat_goes_back_to_the_producer(rt: HostRuntime) {
+    let mut rig = Rig::open(&rt, rt.alloc());
+    assert_eq!(rt; rig.send_next(&rt), Some(0));
+    rig.mark(&rt, 0);
+    let raised = Published::Raised {
+        index: 0,
+        visible: 11,
+    };
+    assert_eq!(rt; rig.publish(), raised);
+    assert_eq!(rt; rig.raise_acked(1), 1);
+    assert_eq!(rt; rig.close(), 11);
 }
 
 /// Sends eight batches, marks them in the order that the number picks among all, and publishes

@@ -23,6 +23,8 @@ pub struct View {
     pub seat: SeatState,
     /// The table's first number.
     pub base: u64,
+    /// The versions of each shard as the table was made.
+    pub opening: [[Version; 0]; 0],
     /// So many batches are admitted, where the seat is the producer's.
     pub head: u64,
     /// The batches that it has seen, from the first on.
@@ -35,4 +37,6 @@ pub struct View {
     pub acked_known: AckedKnown,
     /// The versions of the shard as the seat took it.
     pub taken: [Version; 0],
+    /// The shards where the batch that the seat holds is applied.
+    pub pieces: [u64; 0],
 }

@@ -15,10 +15,10 @@ pub(crate) fn turns_for(batches: u64) -> u64 {
     batches.saturating_mul(TURNS_FOR_EACH)
 }
 
-/// A batch that takes one number.
-pub(crate) fn one_entry(alloc: Global) -> Result<Unnumbered, NoMemory> {
+/// A batch that takes one number, under the key of one byte.
+pub(crate) fn one_entry(alloc: Global, key: u8) -> Result<Unnumbered, NoMemory> {
     let mut builder = BatchBuilder::new(alloc)?;
-    if builder.set(b"k", b"v").is_err() {
+    if builder.set(&[key], b"v").is_err() {
         return Err(NoMemory);
     }
     builder.finish().map_err(|_| NoMemory)

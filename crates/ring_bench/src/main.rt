@@ -2,11 +2,11 @@
 //! with no word 2,000 batches by 4 threads, and it prints what each run came to; with a word after the program's name
 //! many batches by 1, 2 and 4 threads, with the microseconds of both.
 //!
-//! Stands on `commit_queue` for the ring, on `batch_repr` for the batches, on `memtable_shards` for the table's empty
-//! shards, and on `crossbeam_queue` for the queue. The bench beside it in `bench/ring` runs it with that word.
+//! Stands on `commit_queue` for the ring, on `shard_gate` and `memtable_shards` for the shards where batches are applied
+//! before they are marked, on `batch_repr` for the batches, and on `crossbeam_queue` for the queue. The bench beside it in `bench/ring` runs it with that word.
 //!
 //! In both runs a thread takes a lock, gives its batch the next number and puts it in, and lets the lock go. Over the
-//! ring it then marks its batch and publishes from the front; over the queue it takes out what is at the front. The
+//! ring it then applies its batch, marks it and publishes from the front; over the queue it takes out what is at the front. The
 //! number of turns of each thread is bounded.
 #![tactic(auto)]
 

@@ -103,7 +103,7 @@ impl Popper {
     ) -> Result<bool, NoMemory> {
         let batch = match self.ready.take() {
             Some(batch) => batch,
-            None => one_entry(self.alloc)?,
+            None => one_entry(self.alloc, b'k')?,
         };
         let pushing = lock.lock(rt).push_next(rt, queue, batch);
         let mut full = false;

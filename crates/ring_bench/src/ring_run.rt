@@ -59,7 +59,7 @@ fn over_table<N: RingName + Send + Sync, R: Threads + Wait + Sync>(
     batches: u64,
 ) -> Result<u64, NoMemory>
     requires named { table_id_of table ≡ N.table }
-    requires producer { IsNewProducer table NUMBER_FIRST producer }
+    requires producer { IsNewProducer table NUMBER_FIRST (replicate SHARDS []) producer }
     requires sessions { All (IsIdleOf N.table) seats }
 {
     let lock = Mutex::new(Locked::<N> {
@@ -97,10 +97,13 @@ fn seated<N: RingName>(alloc: Global, seats: SessionSeats) -> Result<Vec<Worker<
 {
     let mut seats = seats.into_vec();
     let mut workers = Vec::with_capacity(alloc, seats.len())?;
+    let mut key = 0u8;
     while let Some(seat) = seats.pop() {
+        key = key.wrapping_add(1);
         workers.push(Worker::<N> {
             alloc,
             seat,
+            key,
             ready: None,
             starved: false,
             name: PhantomData,

@@ -1,13 +1,16 @@
 //! A thread of a run over the ring.
-ghost use Rattle.std.specs.Prelude.{◌≡◌, None};
+ghost use Rattle.std.specs.Prelude.{◌≡◌};
 ghost use Rattle.commit_queue.specs.Tables.{table_id_of};
 ghost use Rattle.commit_queue.specs.Seats.{session_table, session_view};
+ghost use Rattle.ring_bench.specs.Placings.{IsVacant};
 
 use crate::batches::{TRIES, one_entry};
 use crate::locked::{Locked, Placing};
 use crate::ring_name::RingName;
 use batch_repr::Unnumbered;
 use commit_queue::{PipeTable, Published, SessionSeat};
+use memtable_shards::split;
+use shard_gate::ShardGate;
 use std::alloc::Global;
 use std::marker::PhantomData;
 use std::sync::{Mutex, Wait};
@@ -27,13 +30,15 @@ pub(crate) struct Ring<N: RingName> {
 pub(crate) struct Worker<N: RingName> {
     pub(crate) alloc: Global,
     pub(crate) seat: SessionSeat,
+    /// The key of its next batch.
+    pub(crate) key: u8,
     /// A batch that was made and found the ring full.
     pub(crate) ready: Option<Unnumbered>,
     /// It ran out of memory and stopped.
     pub(crate) starved: bool,
     pub(crate) name: PhantomData<N>,
     ghost named: { session_table seat ≡ N.table },
-    ghost idle: { (session_view seat).seat.held ≡ None },
+    ghost idle: { IsVacant (session_view seat) },
 }
 
 impl<N: RingName> Worker<N> {
@@ -55,16 +60,20 @@ impl<N: RingName> Worker<N> {
     fn turn<R: Wait>(&mut self, rt: &R, ring: &Ring<N>) -> Result<bool, NoMemory> {
         let batch = match self.ready.take() {
             Some(batch) => batch,
-            None => one_entry(self.alloc)?,
+            None => self.make()?,
         };
+        let pieces = split(self.alloc, &batch)?;
         let placing = ring
             .lock
             .lock(rt)
-            .place_next(&ring.table, &mut self.seat, batch);
+            .place_next(rt, &ring.table, &mut self.seat, batch, pieces);
         let mut full = false;
         match placing {
-            Placing::Adopted => ring.table.mark(&mut self.seat),
-            Placing::Marked => {}
+            Placing::Adopted { pieces } => {
+                let gate = ShardGate::over(self.alloc, &ring.table);
+                gate.apply_all(rt, &mut self.seat, pieces);
+                ring.table.mark(&mut self.seat);
+            }
             Placing::Full { batch } => {
                 self.ready = Some(batch);
                 full = true;
@@ -75,6 +84,12 @@ impl<N: RingName> Worker<N> {
             thread::yield_now();
         }
         Ok(true)
+    }
+
+    /// A batch under the next key, which goes to the next shard.
+    fn make(&mut self) -> Result<Unnumbered, NoMemory> {
+        self.key = self.key.wrapping_add(1);
+        one_entry(self.alloc, self.key)
     }
 
     /// Publishes from the front, so many batches at most. Answers whether it published one.

@@ -5,6 +5,6 @@ use Rattle.commit_queue.proofs.holder.ProducerSeatHolder.try_publish_on.Goals as
 pub invariant_of-self : goal.invariant_of-self
 invariant_of-self c = let s = c.args.self.now in let t = c.try_publish_at.ensures in
     record {
-      stands = producer_goes_on s.seat.id _ s.seat.me _ s.head s.end s.stands t.same.0.1 t.same.1
+      stands = producer_goes_on s.seat.id _ s.seat.me _ s.head s.end s.turn s.stands t.same.0.1 t.same.1
           (tries_goes_on s.seat.me.0 _ _ t.tried);
     }

@@ -9,4 +9,4 @@ fetch_add-p-requires c = let p = c.args.p.now in
 
 pub invariant_of-p : goal.invariant_of-p
 invariant_of-p c = let p = c.args.p.now in let s = c.fetch_add-p.ensures in
-    record { stands = producer_admits p.seat.id _ p.seat.me _ p.head p.end p.stands s.1 s.2.0 s.2.1 c.requires.placed }
+    record { stands = producer_admits p.seat.id _ p.seat.me _ p.head p.end p.turn p.stands s.1 s.2.0 s.2.1 c.requires.placed }

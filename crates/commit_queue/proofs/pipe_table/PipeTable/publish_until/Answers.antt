@@ -1,6 +1,6 @@
 use Rattle.std.proofs.Common.{◌∙◌, refl}
 use Rattle.commit_queue.specs.declared.view.View.{View}
-use Rattle.commit_queue.proofs.GoesOn.{goes_on_same, goes_on_both, sees_goes_on, tries_goes_on, past_all, seen_within}
+use Rattle.commit_queue.proofs.GoesOn.{goes_on_same, goes_on_both, sees_goes_on, tries_goes_on, past_all, seen_few, seen_within}
 use Rattle.commit_queue.proofs.pipe_table.PipeTable.publish_until.Goals as goal
 
 pub loop-init : goal.loop-init
@@ -18,6 +18,7 @@ returns-then-end-visible-clause-published g c = let a : View = c.args.s.now.seat
     let v : View = c.try_publish-tried.new.h.seat.me.0 in let v' : View = c.visible-visible.new.h.seat.me.0 in
     let sees = c.visible-visible.ensures.seen in record {
       within = seen_within v v' c.visible-visible.result sees;
+      few = seen_few v v' c.visible-visible.result sees;
       past = λ n few end. past_all a v v' c.visible-visible.result n c.args.end
           (goes_on_both a l v c.loop.invariant.on (tries_goes_on l v c.try_publish-tried.result c.try_publish-tried.ensures.tried))
           sees few end c.if-end-visible.true;

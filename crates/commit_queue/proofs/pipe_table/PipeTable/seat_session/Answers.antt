@@ -15,7 +15,8 @@ split_seat-requires c = let p = c.args.p.now in (
 
 pub invariant_of-p : goal.invariant_of-p
 invariant_of-p c = let p = c.args.p.now in let s = c.split_seat.ensures in
-    record { stands = producer_tells p.seat.id _ p.seat.me _ p.head p.end p.stands s.1 s.2 }
+    record { stands = producer_tells p.seat.id _ p.seat.me _ p.head p.end p.turn p.stands s.1 s.2 }
 
 pub invariant_of-result : goal.invariant_of-result
-invariant_of-result c = record { stands = session_opens c.split_seat.result.me c.args.p.now.seat.me.0 c.split_seat.ensures.4 c.args.p.now.stands.calm }
+invariant_of-result c = let p = c.args.p.now in
+    record { stands = session_opens c.split_seat.result.me p.seat.me.0 c.split_seat.ensures.4 p.stands.calm p.stands.within }

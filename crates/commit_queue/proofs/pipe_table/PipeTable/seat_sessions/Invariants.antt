@@ -6,5 +6,5 @@ abbrev pub invariant-loop : goal.invariant-loop
 invariant-loop l = record {
   table : producer_table l.p ≡ producer_table l.initial.p;
   view : producer_view l.p ≡ producer_view l.initial.p;
-  new : AreNewSessions l.self (producer_view l.initial.p).base l.counter l.seats;
+  new : AreNewSessions l.self (producer_view l.initial.p).base (producer_view l.initial.p).opening l.counter l.seats;
 }

@@ -13,4 +13,4 @@ load-word-requires c = let p = c.args.p.now in let small : p.head % 64 < 64 = om
 pub invariant_of-p : goal.invariant_of-p
 invariant_of-p c = let p = c.args.p.now in let v : View = p.seat.me.0 in let s = c.load-word.ensures in
     let on : ViewGoesOn v c.load-word.new.seat.me.0 = subst (ViewGoesOn v) (sym s.2.1) (goes_on_read v _ _) in
-    record { stands = producer_goes_on p.seat.id _ p.seat.me _ p.head p.end p.stands s.1 s.2.0 on }
+    record { stands = producer_goes_on p.seat.id _ p.seat.me _ p.head p.end p.turn p.stands s.1 s.2.0 on }

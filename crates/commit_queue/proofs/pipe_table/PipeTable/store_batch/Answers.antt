@@ -17,6 +17,6 @@ store-requires g c = let p = c.args.p.now in let b : Batch = c.args.batch.now in
 pub invariant_of-p : goal.invariant_of-p
 invariant_of-p g c = let p = c.args.p.now in let s = c.store.ensures in let b : Batch = c.args.batch.now in let last = c.end-end.ensures in
     record {
-      stands = producer_places p.seat.id _ p.seat.me _ b p.head p.end _ p.stands s.1 s.2.0
+      stands = producer_places p.seat.id _ p.seat.me _ b p.head p.end _ p.turn p.stands s.1 s.2.0
           (s.2.1 ∙ ap (placed_view p.seat.me.0) (sym c.requires.named)) c.requires.fits last.end (omega arith);
     }

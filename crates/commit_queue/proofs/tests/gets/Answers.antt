@@ -1,0 +1,6 @@
+use Rattle.commit_queue.proofs.GivesSame.{gives_same, same_versions}
+use Rattle.commit_queue.proofs.tests.gets.Goals as goal
+
+pub give_shard-requires-clause-gives : goal.give_shard-requires-clause-gives
+give_shard-requires-clause-gives g c = gives_same (g.H.Holder.view c.args.h.now) _ c.args.index c.in-Some.shard c.in-Some.shard
+    c.in-Some.ensures.taken (same_versions c.in-Some.shard)
