@@ -37,10 +37,10 @@ module _ {B : Type 0} (count : B → ℕ) (touches : B → ℕ → Bool) where
     where
       go : (b : Bool) → is_same_ends count touches (s.seats j).loaded s.head s.tail ≡ b → Sound count touches (cond b (after_claim_won count touches s j) (after_claim_lost count touches s j))
       go false is = kept_claim_lost count touches s sound j p.0
-      go true is = let e : Ends = p.2.0 in let w : Reading = p.2.1 in let l = same_ends_true (s.seats j).loaded s.head s.tail is in let q : e ≡ record { head = s.head; tail = s.tail } = let c : Some e ≡ Some record { head = s.head; tail = s.tail } = sym p.2.2 ∙ l in cc in
-          let hd : e.head ≡ s.head = ap (λ (x : Ends). x.head) q in let tl : e.tail ≡ s.tail = ap (λ (x : Ends). x.tail) q in let lt : e.tail < e.head = p.2.3 in
-          kept_claim_won count touches s sound j p.0 p.1 (omega arith)
-          (⊎_elim (λ (a : e.tail < s.tail). absurd (omega arith)) (λ (a : (s.stage e.tail ≡ Marked) × (w.word ≡ 2 * end_of count s e.tail + 1)). ap s.stage (sym tl) ∙ a.0) ((sound.each_seat j).front e w p.2.2 p.2.4 lt p.2.5 p.2.6))
+      go true is = let e : Ends = p.1.1 in let w : Reading = p.1.2 in let l = same_ends_true (s.seats j).loaded s.head s.tail is in let q : e ≡ record { head = s.head; tail = s.tail } = let c : Some e ≡ Some record { head = s.head; tail = s.tail } = sym p.1.3 ∙ l in cc in
+          let hd : e.head ≡ s.head = ap (λ (x : Ends). x.head) q in let tl : e.tail ≡ s.tail = ap (λ (x : Ends). x.tail) q in let lt : e.tail < e.head = p.1.4 in
+          kept_claim_won count touches s sound j p.0 p.1.0 (omega arith)
+          (⊎_elim (λ (a : e.tail < s.tail). absurd (omega arith)) (λ (a : (s.stage e.tail ≡ Marked) × (w.word ≡ 2 * end_of count s e.tail + 1)). ap s.stage (sym tl) ∙ a.0) ((sound.each_seat j).front e w p.1.3 p.1.5 lt p.1.6 p.1.7))
 
   kept_split : (s : CoreState B) → Sound count touches s → (from : ℕ) (note : Bool) → Possible count touches s (split from note) → Sound count touches (after count touches s (split from note))
   kept_split s sound from note p = dite (ℕ_discrete from 0)

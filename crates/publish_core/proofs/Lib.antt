@@ -17,3 +17,4 @@ mod Whose
 mod Rises
 mod Soundness
 mod Knows
+mod Limits

@@ -11,7 +11,8 @@ abbrev pub state_of : Core → CoreState BatchShape
 state_of c = kept_state c.kept
 
 -- an event is done exactly where it is possible, and else nothing changes
-pub record Answers (s : CoreState BatchShape) (e : Event BatchShape) (b : Bool) (t : CoreState BatchShape) : Type 0 where
+pub record Answers (s : CoreState BatchShape) (e : Event BatchShape) (b : Bool) (t : CoreState BatchShape)
+    : Type 0 where
   pub possible : IsTrue b ↔ IsPossible s e
   pub done : IsTrue b → t ≡ next_state s e
   pub unchanged : IsFalse b → t ≡ s

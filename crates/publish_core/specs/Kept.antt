@@ -1,9 +1,6 @@
 -- What a kept machine stands for.
-use Rattle.std.specs.Prelude.{◌≡◌, ◌<◌, ◌%◌, Some, [], map, reverse, length, slice_index_or, vec_items}
+use Rattle.std.specs.Prelude.{[], map, reverse, length, slice_index_or, vec_items}
 use Rattle.publish_core.specs.declared.seat.BatchShape.{BatchShape}
-use Rattle.publish_core.specs.declared.seat.Claim.TheVariants.{Free}
-use Rattle.publish_core.specs.declared.seat.Ends.{Ends}
-use Rattle.publish_core.specs.declared.seat.Reading.{Reading}
 use Rattle.publish_core.specs.declared.seat.SeatState.{SeatState}
 use Rattle.publish_core.specs.declared.seat.Stage.TheVariants.{Out}
 use Rattle.publish_core.specs.declared.state.KeptState.{KeptState}
@@ -12,7 +9,21 @@ use Rattle.publish_core.specs.Machine.{CoreState, nobody}
 
 -- the seat that a kept seat stands for: the lists that it keeps are read newest first
 abbrev pub seat_of : KeptSeat → SeatState
-seat_of d = record { kind = d.kind; held = d.held; seen = d.seen; published = d.published; acked = d.acked; loaded = d.loaded; reading = d.reading; claim = d.claim; turn = d.turn; knows = reverse d.knows.items; own = reverse d.own.items; counts = d.counts }
+seat_of d =
+    record {
+      kind = d.kind;
+      held = d.held;
+      seen = d.seen;
+      published = d.published;
+      acked = d.acked;
+      loaded = d.loaded;
+      reading = d.reading;
+      claim = d.claim;
+      turn = d.turn;
+      knows = reverse d.knows.items;
+      own = reverse d.own.items;
+      counts = d.counts;
+    }
 
 -- the state that a kept state stands for: past its lists nothing is done, and no seat is made
 abbrev pub kept_state : KeptState → CoreState BatchShape
@@ -32,7 +43,3 @@ kept_state c =
       made = length c.seats.items;
       seats = λ j. slice_index_or (map seat_of c.seats.items) j nobody;
     }
-
--- the seat claims nothing, and after its loads of the ends it read the slot of the front as marked
-abbrev pub SawFront : SeatState → Type 0
-SawFront d = (d.claim ≡ Free) × ((e : Ends) × (w : Reading) × (d.loaded ≡ Some e) × (e.tail < e.head) × (d.reading ≡ Some w) × (w.at ≡ e.tail % 64) × (w.word % 2 ≡ 1))

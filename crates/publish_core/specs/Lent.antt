@@ -9,8 +9,13 @@ use Rattle.publish_core.specs.Parts.{has_part}
 
 -- the batch i has entries in the shard k that are not applied there yet
 abbrev pub CanApply : CoreState BatchShape → ℕ → ℕ → Type 0
-CanApply s i k = (b : BatchShape) × (get_elem? s.batches i ≡ some b) × IsTrue (has_part b k) × (Among i (s.done k) → ⊥)
+CanApply s i k =
+    (b : BatchShape)
+    × (get_elem? s.batches i ≡ some b)
+    × IsTrue (has_part b k)
+    × (Among i (s.done k) → ⊥)
 
 -- the state, once the seat j knows one more pair
 abbrev pub learned : CoreState BatchShape → ℕ → Pair → CoreState BatchShape
-learned s j p = record s { seats = updated s.seats j (record (s.seats j) { knows = p ∷ (s.seats j).knows }) }
+learned s j p = let d = s.seats j in
+    record s { seats = updated s.seats j (record d { knows = p ∷ d.knows }) }

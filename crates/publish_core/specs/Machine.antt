@@ -1,5 +1,5 @@
 -- The commit ring as a pure machine: its states, its events, when each is possible and what it changes.
-use Rattle.std.specs.Prelude.{◌≡◌, ◌≢◌, ◌⊎◌, ℕ, zero, suc, ◌+◌, ◌*◌, ◌%◌, ◌^◌, ◌<◌, ◌≤◌, min, max, Bool, true, false, cond, ◌==◌, nat_lt, IsTrue, IsFalse, List, [], ◌∷◌, ◌++◌, length, Option, Some, None}
+use Rattle.std.specs.Prelude.{◌≡◌, ◌≢◌, ◌⊎◌, ℕ, zero, suc, ◌+◌, ◌*◌, ◌%◌, ◌<◌, ◌≤◌, min, max, Bool, true, false, cond, ◌==◌, nat_lt, IsTrue, IsFalse, List, [], ◌∷◌, ◌++◌, length, Option, Some, None}
 use mathlib.Core.Option.{some}
 use lib.ListN.{get_elem?}
 use Rattle.publish_core.specs.declared.seat.Kind.{Kind}
@@ -12,6 +12,7 @@ use Rattle.publish_core.specs.declared.seat.Ends.{Ends}
 use Rattle.publish_core.specs.declared.seat.Reading.{Reading}
 use Rattle.publish_core.specs.declared.seat.Counts.{Counts}
 use Rattle.publish_core.specs.declared.seat.SeatState.{SeatState}
+use Rattle.publish_core.specs.declared.state.TheConstants.{SLOTS, SHARDS, MOST_BATCHES, END_LIMIT}
 
 -- f, and x at i
 abbrev pub updated : {A : Type 0} → (ℕ → A) → ℕ → A → ℕ → A
@@ -49,7 +50,21 @@ no_counts = record { slots = 0; ends = 0; visibles = 0; ackeds = 0; lost = 0; bu
 
 -- a seat that is no more, or was not made yet
 abbrev pub nobody : SeatState
-nobody = record { kind = Spent; held = None; seen = 0; published = 0; acked = 0; loaded = None; reading = None; claim = Free; turn = None; knows = []; own = []; counts = no_counts }
+nobody =
+    record {
+      kind = Spent;
+      held = None;
+      seen = 0;
+      published = 0;
+      acked = 0;
+      loaded = None;
+      reading = None;
+      claim = Free;
+      turn = None;
+      knows = [];
+      own = [];
+      counts = no_counts;
+    }
 
 -- a count that stops at the greatest number of 64 bits
 abbrev pub one_more : ℕ → ℕ
@@ -105,7 +120,21 @@ held_or d None = d
 
 -- a new seat of the kind k that has seen what d has seen
 abbrev pub shown_seat : SeatState → Kind → Option ℕ → SeatState
-shown_seat d k held = record { kind = k; held = held; seen = d.seen; published = d.published; acked = d.acked; loaded = None; reading = None; claim = Free; turn = None; knows = d.knows; own = []; counts = no_counts }
+shown_seat d k held =
+    record {
+      kind = k;
+      held = held;
+      seen = d.seen;
+      published = d.published;
+      acked = d.acked;
+      loaded = None;
+      reading = None;
+      claim = Free;
+      turn = None;
+      knows = d.knows;
+      own = [];
+      counts = no_counts;
+    }
 
 -- what either of two seats holds, where not both do
 abbrev pub both_held : Option ℕ → Option ℕ → Option ℕ
@@ -114,7 +143,21 @@ both_held (Some i) y = Some i
 
 -- the seat d, once it has taken in the seat e
 abbrev pub joined : SeatState → SeatState → SeatState
-joined d e = record { kind = d.kind; held = both_held d.held e.held; seen = max d.seen e.seen; published = max d.published e.published; acked = max d.acked e.acked; loaded = None; reading = None; claim = d.claim; turn = d.turn; knows = d.knows ++ e.knows; own = d.own ++ e.own; counts = d.counts }
+joined d e =
+    record {
+      kind = d.kind;
+      held = both_held d.held e.held;
+      seen = max d.seen e.seen;
+      published = max d.published e.published;
+      acked = max d.acked e.acked;
+      loaded = None;
+      reading = None;
+      claim = d.claim;
+      turn = d.turn;
+      knows = d.knows ++ e.knows;
+      own = d.own ++ e.own;
+      counts = d.counts;
+    }
 
 -- a batch that the note holds is held by the seat that the note is joined into
 abbrev pub renamed : ℕ → ℕ → Stage → Stage
@@ -131,35 +174,77 @@ abbrev pub turn_or : ℕ → Option ℕ → ℕ
 turn_or d (Some k) = k
 turn_or d None = d
 
+-- the seat claims nothing, and after its loads of the ends it read the slot of the front as marked
+abbrev pub SawFront : SeatState → Type 0
+SawFront d =
+    (d.claim ≡ Free)
+    × (e : Ends) × (w : Reading)
+    × (d.loaded ≡ Some e)
+    × (e.tail < e.head)
+    × (d.reading ≡ Some w)
+    × (w.at ≡ e.tail % SLOTS)
+    × (w.word % 2 ≡ 1)
+
 module _ {B : Type 0} (count : B → ℕ) (touches : B → ℕ → Bool) where
   -- the seat knows the batch to be applied in each shard where it has entries
   abbrev pub KnowsAll : CoreState B → SeatState → ℕ → Type 0
-  KnowsAll s d i = (b : B) (k : ℕ) → get_elem? s.batches i ≡ some b → IsTrue (touches b k) → Among (record { batch = i; shard = k }) d.knows
+  KnowsAll s d i =
+      (b : B) (k : ℕ)
+      → get_elem? s.batches i ≡ some b
+      → IsTrue (touches b k)
+      → Among (record { batch = i; shard = k }) d.knows
+
+  -- the seat holds a batch that has entries in the shard k, not applied there yet
+  abbrev pub HoldsUnapplied : CoreState B → SeatState → ℕ → Type 0
+  HoldsUnapplied s d k =
+      (i : ℕ) × (b : B)
+      × (d.held ≡ Some i)
+      × (get_elem? s.batches i ≡ some b)
+      × IsTrue (touches b k)
+      × (Among i (s.done k) → ⊥)
 
   -- the event may be done in the state s
   abbrev pub Possible : CoreState B → Event B → Type 0
-  Possible s (load_slot j at) = Acts (s.seats j) × (at < 64)
-  Possible s (place b) = (length s.batches ≡ s.head) × ((s.seats 0).kind ≡ Producer) × ((s.seats 0).held ≡ None) × ((s.seats 0).reading ≡ Some record { at = s.head % 64; word = 0 }) × (0 < count b) × (length s.batches < 1048576)
-      × (ends count s.base s.batches (length s.batches) + count b < 2 ^ 56)
+  Possible s (load_slot j at) = Acts (s.seats j) × (at < SLOTS)
+  Possible s (place b) =
+      (length s.batches ≡ s.head)
+      × ((s.seats 0).kind ≡ Producer)
+      × ((s.seats 0).held ≡ None)
+      × ((s.seats 0).reading ≡ Some record { at = s.head % SLOTS; word = 0 })
+      × (0 < count b)
+      × (length s.batches < MOST_BATCHES)
+      × (ends count s.base s.batches (length s.batches) + count b < END_LIMIT)
   Possible s admit = (length s.batches ≡ s.head + 1) × ((s.seats 0).kind ≡ Producer)
   Possible s (load_ends j) = Acts (s.seats j)
-  Possible s (mark j) = Acts (s.seats j) × ((i : ℕ) × ((s.seats j).held ≡ Some i) × (i < s.head) × KnowsAll s (s.seats j) i)
-  Possible s (claim j) = Acts (s.seats j) × ((s.seats j).claim ≡ Free) × ((e : Ends) × (w : Reading) × ((s.seats j).loaded ≡ Some e) × (e.tail < e.head) × ((s.seats j).reading ≡ Some w) × (w.at ≡ e.tail % 64) × (w.word % 2 ≡ 1))
+  Possible s (mark j) =
+      Acts (s.seats j)
+      × ((i : ℕ) × ((s.seats j).held ≡ Some i) × (i < s.head) × KnowsAll s (s.seats j) i)
+  Possible s (claim j) = Acts (s.seats j) × SawFront (s.seats j)
   Possible s (empty_slot j) = Acts (s.seats j) × ((i : ℕ) × ((s.seats j).claim ≡ Taken i))
   Possible s (raise_visible j) = Acts (s.seats j) × ((i : ℕ) × ((s.seats j).claim ≡ Emptied i))
   Possible s (load_visible j) = Acts (s.seats j)
   Possible s (raise_acked n) = n ≤ s.head
   Possible s (load_acked j) = Acts (s.seats j)
-  Possible s (split from note) = Acts (s.seats from) × (IsFalse note → (from ≡ 0) × ((s.seats 0).held ≡ None))
-  Possible s (join into note) = ((into ≢ 0) × ((s.seats into).kind ≡ Worker) × ((s.seats note).kind ≡ Note) × (((s.seats into).held ≡ None) ⊎ ((s.seats note).held ≡ None)))
-      ⊎ ((into ≡ 0) × ((s.seats note).kind ≡ Worker) × ((s.seats note).held ≡ None) × ((s.seats note).turn ≡ None) × ((s.seats note).claim ≡ Free))
-  Possible s (take_shard j k) = Acts (s.seats j) × (k < 8) × ((s.seats j).turn ≡ None)
-  Possible s (give_shard j apply) = Acts (s.seats j) × ((k : ℕ) × ((s.seats j).turn ≡ Some k)
-      × (IsTrue apply → (i : ℕ) × (b : B) × ((s.seats j).held ≡ Some i) × (get_elem? s.batches i ≡ some b) × IsTrue (touches b k) × (Among i (s.done k) → ⊥)))
+  Possible s (split from note) =
+      Acts (s.seats from)
+      × (IsFalse note → (from ≡ 0) × ((s.seats 0).held ≡ None))
+  Possible s (join into note) = let d = s.seats into in let e = s.seats note in
+      ((into ≢ 0) × (d.kind ≡ Worker) × (e.kind ≡ Note) × ((d.held ≡ None) ⊎ (e.held ≡ None)))
+      ⊎ ((into ≡ 0) × (e.kind ≡ Worker) × (e.held ≡ None) × (e.turn ≡ None) × (e.claim ≡ Free))
+  Possible s (take_shard j k) = Acts (s.seats j) × (k < SHARDS) × ((s.seats j).turn ≡ None)
+  Possible s (give_shard j apply) =
+      Acts (s.seats j)
+      × ((k : ℕ) × ((s.seats j).turn ≡ Some k) × (IsTrue apply → HoldsUnapplied s (s.seats j) k))
 
   -- the seat j has read the slot
   abbrev pub after_load_slot : CoreState B → ℕ → ℕ → CoreState B
-  after_load_slot s j at = let d = s.seats j in record s { seats = updated s.seats j (record d { reading = Some record { at = at; word = s.ring at }; counts = record d.counts { slots = one_more d.counts.slots } }) }
+  after_load_slot s j at = let d = s.seats j in
+      record s {
+        seats = updated s.seats j (record d {
+          reading = Some record { at = at; word = s.ring at };
+          counts = record d.counts { slots = one_more d.counts.slots };
+        });
+      }
 
   -- the producer's seat, once it has placed the batch i
   abbrev pub placed_seat : SeatState → ℕ → SeatState
@@ -172,7 +257,7 @@ module _ {B : Type 0} (count : B → ℕ) (touches : B → ℕ → Bool) where
         batches = s.batches ++ b ∷ [];
         stage = updated s.stage i (Held 0);
         owner = updated s.owner i 0;
-        ring = updated s.ring (s.head % 64) (2 * (ends count s.base s.batches i + count b));
+        ring = updated s.ring (s.head % SLOTS) (2 * (ends count s.base s.batches i + count b));
         seats = updated s.seats 0 (placed_seat (s.seats 0) i);
       }
 
@@ -182,14 +267,21 @@ module _ {B : Type 0} (count : B → ℕ) (touches : B → ℕ → Bool) where
 
   -- the seat j has loaded head and tail, and forgets the ring word
   abbrev pub after_load_ends : CoreState B → ℕ → CoreState B
-  after_load_ends s j = let d = s.seats j in record s { seats = updated s.seats j (record d { loaded = Some record { head = s.head; tail = s.tail }; reading = None; counts = record d.counts { ends = one_more d.counts.ends } }) }
+  after_load_ends s j = let d = s.seats j in
+      record s {
+        seats = updated s.seats j (record d {
+          loaded = Some record { head = s.head; tail = s.tail };
+          reading = None;
+          counts = record d.counts { ends = one_more d.counts.ends };
+        });
+      }
 
   -- the batch of the seat j is marked, and its word odd
   abbrev pub after_mark : CoreState B → ℕ → CoreState B
   after_mark s j = let d = s.seats j in let i = held_or 0 d.held in
       record s {
         stage = updated s.stage i Marked;
-        ring = updated s.ring (i % 64) (s.ring (i % 64) + 1);
+        ring = updated s.ring (i % SLOTS) (s.ring (i % SLOTS) + 1);
         seats = updated s.seats j (record d { held = None; own = i ∷ d.own });
       }
 
@@ -199,7 +291,12 @@ module _ {B : Type 0} (count : B → ℕ) (touches : B → ℕ → Bool) where
 
   -- the seat d, once its claim found the ends h and t
   abbrev pub lost : SeatState → ℕ → ℕ → SeatState
-  lost d h t = record d { loaded = Some record { head = h; tail = t }; reading = None; counts = record d.counts { lost = one_more d.counts.lost } }
+  lost d h t =
+      record d {
+        loaded = Some record { head = h; tail = t };
+        reading = None;
+        counts = record d.counts { lost = one_more d.counts.lost };
+      }
 
   -- the claim succeeds where the ends are still those that were loaded
   abbrev pub is_same_ends : Option Ends → ℕ → ℕ → Bool
@@ -208,7 +305,12 @@ module _ {B : Type 0} (count : B → ℕ) (touches : B → ℕ → Bool) where
 
   -- the batch at the front is the seat j's to publish
   abbrev pub after_claim_won : CoreState B → ℕ → CoreState B
-  after_claim_won s j = record s { tail = s.tail + 1; stage = updated s.stage s.tail (Claimed j); seats = updated s.seats j (won (s.seats j) s.tail) }
+  after_claim_won s j =
+      record s {
+        tail = s.tail + 1;
+        stage = updated s.stage s.tail (Claimed j);
+        seats = updated s.seats j (won (s.seats j) s.tail);
+      }
 
   -- no word has changed
   abbrev pub after_claim_lost : CoreState B → ℕ → CoreState B
@@ -216,29 +318,55 @@ module _ {B : Type 0} (count : B → ℕ) (touches : B → ℕ → Bool) where
 
   -- the claim is one exchange of the ends, which succeeds or not
   abbrev pub after_claim : CoreState B → ℕ → CoreState B
-  after_claim s j = cond (is_same_ends (s.seats j).loaded s.head s.tail) (after_claim_won s j) (after_claim_lost s j)
+  after_claim s j =
+      cond (is_same_ends (s.seats j).loaded s.head s.tail) (after_claim_won s j) (after_claim_lost s j)
 
   -- the slot of the batch that the seat j claims is empty
   abbrev pub after_empty : CoreState B → ℕ → CoreState B
   after_empty s j = let d = s.seats j in let t = taken_or 0 d.claim in
-      record s { stage = updated s.stage t (Cleared j); ring = updated s.ring (t % 64) 0; seats = updated s.seats j (record d { claim = Emptied t }) }
+      record s {
+        stage = updated s.stage t (Cleared j);
+        ring = updated s.ring (t % SLOTS) 0;
+        seats = updated s.seats j (record d { claim = Emptied t });
+      }
 
   -- the batch that the seat j claims is published, with all before it
   abbrev pub after_raise : CoreState B → ℕ → CoreState B
   after_raise s j = let d = s.seats j in let t = taken_or 0 d.claim in let n = max s.published (suc t) in
-      record s { stage = updated s.stage t Out; published = n; seats = updated s.seats j (record d { claim = Free; published = n; seen = max d.seen n }) }
+      record s {
+        stage = updated s.stage t Out;
+        published = n;
+        seats = updated s.seats j (record d { claim = Free; published = n; seen = max d.seen n });
+      }
 
   -- the seat j has seen the published batches
   abbrev pub after_load_visible : CoreState B → ℕ → CoreState B
-  after_load_visible s j = let d = s.seats j in record s { seats = updated s.seats j (record d { published = s.published; seen = max d.seen s.published; counts = record d.counts { visibles = one_more d.counts.visibles } }) }
+  after_load_visible s j = let d = s.seats j in
+      record s {
+        seats = updated s.seats j (record d {
+          published = s.published;
+          seen = max d.seen s.published;
+          counts = record d.counts { visibles = one_more d.counts.visibles };
+        });
+      }
 
   -- the seat j has seen the acked number
   abbrev pub after_load_acked : CoreState B → ℕ → CoreState B
-  after_load_acked s j = let d = s.seats j in record s { seats = updated s.seats j (record d { acked = s.acked; counts = record d.counts { ackeds = one_more d.counts.ackeds } }) }
+  after_load_acked s j = let d = s.seats j in
+      record s {
+        seats = updated s.seats j (record d {
+          acked = s.acked;
+          counts = record d.counts { ackeds = one_more d.counts.ackeds };
+        });
+      }
 
   -- a new seat of the kind k has seen what the seat from has seen
   abbrev pub after_tell : CoreState B → ℕ → Kind → CoreState B
-  after_tell s from k = record s { made = s.made + 1; seats = updated s.seats s.made (shown_seat (s.seats from) k None) }
+  after_tell s from k =
+      record s {
+        made = s.made + 1;
+        seats = updated s.seats s.made (shown_seat (s.seats from) k None);
+      }
 
   -- a new note holds the batch i of the producer's seat
   abbrev pub after_hand : CoreState B → ℕ → CoreState B
@@ -247,7 +375,8 @@ module _ {B : Type 0} (count : B → ℕ) (touches : B → ℕ → Bool) where
         made = s.made + 1;
         stage = updated s.stage i (Held s.made);
         owner = updated s.owner i s.made;
-        seats = updated (updated s.seats 0 (record (s.seats 0) { held = None })) s.made (shown_seat (s.seats 0) Note (Some i));
+        seats = updated (updated s.seats 0 (record (s.seats 0) { held = None })) s.made
+            (shown_seat (s.seats 0) Note (Some i));
       }
 
   -- the note is handed a batch, or only told
@@ -266,15 +395,26 @@ module _ {B : Type 0} (count : B → ℕ) (touches : B → ℕ → Bool) where
 
   -- the seat j has the turn on the shard k
   abbrev pub after_take : CoreState B → ℕ → ℕ → CoreState B
-  after_take s j k = record s { turn = updated s.turn k (suc j); seats = updated s.seats j (record (s.seats j) { turn = Some k }) }
+  after_take s j k =
+      record s {
+        turn = updated s.turn k (suc j);
+        seats = updated s.seats j (record (s.seats j) { turn = Some k });
+      }
 
   -- the seat j found a shard taken
   abbrev pub after_busy : CoreState B → ℕ → CoreState B
-  after_busy s j = let d = s.seats j in record s { seats = updated s.seats j (record d { counts = record d.counts { busy = one_more d.counts.busy } }) }
+  after_busy s j = let d = s.seats j in
+      record s {
+        seats = updated s.seats j (record d { counts = record d.counts { busy = one_more d.counts.busy } });
+      }
 
   -- the seat j has ended its turn
   abbrev pub after_give : CoreState B → ℕ → CoreState B
-  after_give s j = let d = s.seats j in record s { turn = updated s.turn (turn_or 0 d.turn) 0; seats = updated s.seats j (record d { turn = None }) }
+  after_give s j = let d = s.seats j in
+      record s {
+        turn = updated s.turn (turn_or 0 d.turn) 0;
+        seats = updated s.seats j (record d { turn = None });
+      }
 
   -- the batch of the seat j is applied in the shard of its turn, which has ended
   abbrev pub after_apply : CoreState B → ℕ → CoreState B
@@ -282,12 +422,16 @@ module _ {B : Type 0} (count : B → ℕ) (touches : B → ℕ → Bool) where
       record s {
         turn = updated s.turn k 0;
         done = updated s.done k (i ∷ s.done k);
-        seats = updated s.seats j (record d { turn = None; knows = record { batch = i; shard = k } ∷ d.knows });
+        seats = updated s.seats j (record d {
+          turn = None;
+          knows = record { batch = i; shard = k } ∷ d.knows;
+        });
       }
 
   -- the state after the event, where that is possible
   abbrev pub after : CoreState B → Event B → CoreState B
-  after s (split from note) = after_split s from note (cond (from == 0) (handed s.head (s.seats 0).held note) None)
+  after s (split from note) =
+      after_split s from note (cond (from == 0) (handed s.head (s.seats 0).held note) None)
   after s (join into note) = after_join s into note
   after s (take_shard j k) = cond (s.turn k == 0) (after_take s j k) (after_busy s j)
   after s (give_shard j apply) = cond apply (after_apply s j) (after_give s j)

@@ -30,10 +30,13 @@ module _ {B : Type 0} (count : B → ℕ) (touches : B → ℕ → Bool) where
   takes s (claim j) = cond (is_same_ends count touches (s.seats j).loaded s.head s.tail) (s.tail ∷ []) []
   takes s _ = []
 
-  -- The events es lead from s to t, and take the batches xs from the front, in that order. An event that is not possible changes nothing
+  -- The events es lead from s to t, and take the batches xs from the front, in that order.
+  -- An event that is not possible changes nothing
   abbrev pub Leads : CoreState B → List (Event B) → CoreState B → List ℕ → Type 0
   Leads s [] t xs = (t ≡ s) × (xs ≡ [])
-  Leads s (e ∷ es) t xs = (Possible count touches s e × ((ys : List ℕ) × (xs ≡ takes s e ++ ys) × Leads (after count touches s e) es t ys)) ⊎ ((Possible count touches s e → ⊥) × Leads s es t xs)
+  Leads s (e ∷ es) t xs = let can = Possible count touches s e in let u = after count touches s e in
+      (can × ((ys : List ℕ) × (xs ≡ takes s e ++ ys) × Leads u es t ys))
+      ⊎ ((can → ⊥) × Leads s es t xs)
 
   -- the numbers from n on
   abbrev pub from : ℕ → List ℕ → Type 0
@@ -48,8 +51,15 @@ module _ {B : Type 0} (count : B → ℕ) (touches : B → ℕ → Bool) where
 
   -- all is well after every list of events
   abbrev pub Law : Type 0
-  Law = (v0 : ℕ) (es : List (Event B)) (t : CoreState B) (xs : List ℕ) → Leads (opening v0) es t xs → AllWell t xs
+  Law =
+      (v0 : ℕ) (es : List (Event B)) (t : CoreState B) (xs : List ℕ)
+      → Leads (opening v0) es t xs
+      → AllWell t xs
 
   -- the visible number never falls
   abbrev pub NeverFalls : Type 0
-  NeverFalls = (v0 : ℕ) (es fs : List (Event B)) (s t : CoreState B) (xs ys : List ℕ) → Leads (opening v0) es s xs → Leads s fs t ys → visible count s ≤ visible count t
+  NeverFalls =
+      (v0 : ℕ) (es fs : List (Event B)) (s t : CoreState B) (xs ys : List ℕ)
+      → Leads (opening v0) es s xs
+      → Leads s fs t ys
+      → visible count s ≤ visible count t

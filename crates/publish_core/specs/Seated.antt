@@ -10,7 +10,11 @@ renamed_owner note into owner = cond (owner == note) into owner
 
 -- the state, once the batch i goes over
 abbrev pub passed : CoreState BatchShape → ℕ → ℕ → ℕ → CoreState BatchShape
-passed s i note into = record s { stage = updated s.stage i (renamed note into (s.stage i)); owner = updated s.owner i (renamed_owner note into (s.owner i)) }
+passed s i note into =
+    record s {
+      stage = updated s.stage i (renamed note into (s.stage i));
+      owner = updated s.owner i (renamed_owner note into (s.owner i));
+    }
 
 -- the same of the batch that a seat holds, if any
 abbrev pub passed_held : CoreState BatchShape → Option ℕ → ℕ → ℕ → CoreState BatchShape
@@ -20,7 +24,8 @@ passed_held s (Some i) note into = passed s i note into
 -- The batches xs went over, and nothing else changed. Another batch may have gone over too
 pub record HandsOn (note into : ℕ) (xs : List ℕ) (s t : CoreState BatchShape) : Type 0 where
   pub rest : t ≡ record s { stage = t.stage; owner = t.owner }
-  pub each : (i : ℕ) → ((t.stage i ≡ renamed note into (s.stage i)) × (t.owner i ≡ renamed_owner note into (s.owner i)))
+  pub each : (i : ℕ)
+      → ((t.stage i ≡ renamed note into (s.stage i)) × (t.owner i ≡ renamed_owner note into (s.owner i)))
       ⊎ ((Among i xs → ⊥) × (t.stage i ≡ s.stage i) × (t.owner i ≡ s.owner i))
 
 -- a list that may be replaced

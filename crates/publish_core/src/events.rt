@@ -10,12 +10,14 @@ use wal_base::NoMemory;
 ///
 /// Seats are numbered as they are made; seat 0 is the producer's. No event is possible whose seat
 /// wasn't made yet or is spent, nor one whose seat is a note, other than the `note` of a `Join`.
+/// Slots are below `SLOTS`, shards below `SHARDS`, and head, tail and the acked number count batches.
 #[derive(Clone, Copy, Debug, PartialEq, Eq, Drop)]
 pub enum CoreEvent {
-    /// The seat reads the ring word `at`, which is below 64.
+    /// The seat reads the ring word of the slot `at`, which is below `SLOTS`.
     LoadSlot { seat: u64, at: u32 },
-    /// The producer places a batch of `count` numbers, with entries in the shards whose bits are
-    /// set, in the slot of head, which it has just read as 0.
+    /// The producer places a batch of `count` numbers, one at least, with entries in the shards whose
+    /// bits are set, in the slot of head, which it has just read as 0. Fewer than `MOST_BATCHES` batches
+    /// were placed before, and its end is below `END_LIMIT`.
     Place { count: u32, shards: u8 },
     /// The producer lets the others come to the batch that it placed.
     Admit,
@@ -36,11 +38,11 @@ pub enum CoreEvent {
     RaiseVisible { seat: u64 },
     /// The seat loads the visible number.
     LoadVisible { seat: u64 },
-    /// The acked number rises to `to`, which is at most head.
+    /// The acked number rises to `to` batches, which is at most head.
     RaiseAcked { to: u32 },
     /// The seat loads the acked number.
     LoadAcked { seat: u64 },
-    /// The seat takes the shard's turn, or finds the shard taken.
+    /// The seat takes the turn of the shard, which is below `SHARDS`, or finds the shard taken.
     TakeShard { seat: u64, shard: u8 },
     /// The seat ends its turn. With `apply` the batch that it holds is in that shard from then on.
     GiveShard { seat: u64, apply: bool },

@@ -32,7 +32,7 @@ impl KeptState {
     /// The seat takes the shard where it is free, and else counts that it found it taken.
     fn lend(&mut self, seat: u64, shard: u8)
         requires made { seat < length self.old.seats.items }
-        requires within { shard < 8 }
+        requires within { shard < SHARDS }
         ensures { kept_state self.new ≡
             after shape_count has_part (kept_state self.old) (take_shard seat shard) }
     {
@@ -48,7 +48,7 @@ impl KeptState {
     /// The seat gives the shard back.
     fn end_turn(&mut self, seat: u64, shard: u64)
         requires made { seat < length self.old.seats.items }
-        requires within { shard < 8 }
+        requires within { shard < SHARDS }
         requires turn { ((kept_state self.old).seats seat).turn ≡ Some shard }
         ensures { kept_state self.new ≡ after_give shape_count has_part (kept_state self.old) seat }
     {
@@ -59,7 +59,7 @@ impl KeptState {
     /// Whether the batch has entries in the shard that are not yet applied there.
     fn can_apply(&self, batch: u64, shard: u64) -> bool
         requires placed { batch < length self.now.batches.items }
-        requires within { shard < 8 }
+        requires within { shard < SHARDS }
         ensures { IsTrue result ↔ CanApply (kept_state self.now) batch shard }
     {
         self.batches[batch as usize].touches(shard as u8)
@@ -79,7 +79,7 @@ impl KeptState {
 
     /// The batch is applied in the shard.
     fn note_done(&mut self, batch: u64, shard: u64) -> Result<(), NoMemory>
-        requires { shard < 8 }
+        requires { shard < SHARDS }
         ensures seats { self.new.seats.items ≡ self.old.seats.items }
         ensures ok { OnOk result (kept_state self.new ≡ record (kept_state self.old) {
           done = updated (kept_state self.old).done shard (batch ∷ (kept_state self.old).done shard);
@@ -103,7 +103,7 @@ impl KeptState {
     /// The batch that the seat holds is applied in the shard whose turn it has, and the turn ends.
     fn apply(&mut self, seat: u64, batch: u64, shard: u64) -> Result<(), NoMemory>
         requires made { seat < length self.old.seats.items }
-        requires within { shard < 8 }
+        requires within { shard < SHARDS }
         requires turn { ((kept_state self.old).seats seat).turn ≡ Some shard }
         requires held { ((kept_state self.old).seats seat).held ≡ Some batch }
         ensures ok { OnOk result

@@ -1,5 +1,5 @@
-//! The commit ring as a pure machine: seats that place batches in a ring of 64 slots, mark them as applied, and take
-//! them from the front to publish them, in fifteen kinds of atomic step.
+//! The commit ring as a pure machine: seats that place batches in a ring of `SLOTS` slots, mark them as applied, and
+//! take them from the front to publish them, in fifteen kinds of atomic step.
 //!
 //! Stands on `wal_base` for `NoMemory` and on `atomic_table` for a lemma on remainders. The layer above uses the
 //! definitions of the machine (its state, its events, when each is possible and what it changes) and one contract:
@@ -26,6 +26,7 @@ pub use events::CoreEvent;
 pub use law::{all_schedules, every_core_is_sound};
 pub use machine::Core;
 pub use seat::{BatchShape, Claim, Counts, Ends, Kind, Pair, Reading, SeatState, Stage};
+pub use state::{END_LIMIT, MOST_BATCHES, SHARDS, SLOTS};
 
 #[cfg(test)]
 mod tests;

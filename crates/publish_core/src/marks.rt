@@ -62,7 +62,7 @@ impl KeptState {
     fn mark_batch(&mut self, seat: u64, batch: u64) -> Result<(), NoMemory>
         requires held { ((kept_state self.old).seats seat).held ≡ Some batch }
         requires within { batch < length self.old.batches.items }
-        requires word { (kept_state self.old).ring (batch % 64) < 2 ^ 58 }
+        requires word { (kept_state self.old).ring (batch % SLOTS) < 2 ^ 58 }
         ensures ok { OnOk result (kept_state self.new ≡ next_state (kept_state self.old) (mark seat)) }
         ensures err { OnErr result (kept_state self.new ≡ kept_state self.old) }
     {

@@ -1,7 +1,7 @@
 //! The steps that take a batch from the front and publish it, and the raise of the acked word.
 ghost use Rattle.std.specs.Prelude.{◌≡◌, ◌<◌, ◌≤◌, ◌↔◌, IsTrue, IfSome, IfNone, length, max};
 ghost use Rattle.publish_core.specs.declared.seat.Claim.TheVariants.{Free, Taken, Emptied};
-ghost use Rattle.publish_core.specs.Machine.{claim, empty_slot, raise_visible, raise_acked, after_claim_won, after_claim_lost, is_same_ends, Acts};
+ghost use Rattle.publish_core.specs.Machine.{claim, empty_slot, raise_visible, raise_acked, after_claim_won, after_claim_lost, is_same_ends, Acts, SawFront};
 ghost use Rattle.publish_core.specs.Parts.{shape_count, has_part, IsPossible, next_state};
 
 use crate::machine::Core;
@@ -21,7 +21,7 @@ impl Claim {
 }
 
 impl KeptSeat {
-    ghost use Rattle.publish_core.specs.Kept.{seat_of, SawFront};
+    ghost use Rattle.publish_core.specs.Kept.{seat_of};
 
     /// Whether it claims nothing, and its loads showed the batch at the front as marked.
     fn saw_front(&self) -> bool

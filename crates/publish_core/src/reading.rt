@@ -12,7 +12,7 @@ impl KeptState {
 
     fn read_slot(&mut self, seat: u64, at: u32)
         requires made { seat < length self.old.seats.items }
-        requires within { at < 64 }
+        requires within { at < SLOTS }
         ensures { kept_state self.new ≡ next_state (kept_state self.old) (load_slot seat at) }
     {
         let word = self.ring[at as usize];

@@ -1,4 +1,6 @@
-//! What one seat holds and knows, and how far a batch has come.
+//! What one seat holds and knows, and how far a batch has come. Batches are numbered from 0 as they are placed, below
+//! `MOST_BATCHES`, and seats from 0 as they are made.
+ghost use Rattle.publish_core.specs.declared.state.TheConstants.{SHARDS};
 
 /// What a seat may do.
 #[derive(Clone, Copy, Drop)]
@@ -39,7 +41,7 @@ pub enum Stage {
     Out,
 }
 
-/// Head and tail, as they were loaded together.
+/// Head and tail, as they were loaded together: counts of batches, at most `MOST_BATCHES`.
 #[derive(Clone, Copy, Drop)]
 pub struct Ends {
     /// So many batches are admitted.
@@ -51,9 +53,9 @@ pub struct Ends {
 /// A slot of the ring, and the word that was read there.
 #[derive(Clone, Copy, Drop)]
 pub struct Reading {
-    /// The slot.
+    /// The slot, below `SLOTS`.
     pub at: u64,
-    /// The word.
+    /// The word: 0 of an empty slot, else twice the end of the batch that stands there, and 1 more once it is marked.
     pub word: u64,
 }
 
@@ -62,11 +64,11 @@ pub struct Reading {
 pub struct Pair {
     /// The batch.
     pub batch: u64,
-    /// The shard.
+    /// The shard, below `SHARDS`.
     pub shard: u64,
 }
 
-/// How often a seat took each kind of step that a caller may have to bound. A count stops at the greatest number.
+/// How often a seat took each kind of step that a caller may have to bound. A count stops at `u64::MAX`.
 #[derive(Clone, Copy, Drop)]
 pub struct Counts {
     /// Loads of a ring slot.
@@ -93,7 +95,7 @@ pub struct SeatState {
     pub seen: u64,
     /// It has seen so many batches published.
     pub published: u64,
-    /// The greatest acked number that it has seen.
+    /// The greatest acked number that it has seen: so many batches are acked.
     pub acked: u64,
     /// The ends that it loaded last, where it may still claim by them.
     pub loaded: Option<Ends>,
@@ -101,7 +103,7 @@ pub struct SeatState {
     pub reading: Option<Reading>,
     /// The batch that it took from the front.
     pub claim: Claim,
-    /// The shard whose turn it has.
+    /// The shard whose turn it has, below `SHARDS`.
     pub turn: Option<u64>,
     /// The batches that it knows to be applied, each in a shard.
     pub knows: [Pair; 0],
@@ -114,9 +116,9 @@ pub struct SeatState {
 /// A batch, as the machine sees it.
 #[derive(Clone, Copy, Drop)]
 pub struct BatchShape {
-    /// How many numbers it takes.
+    /// How many numbers it takes, one at least where it is placed.
     pub count: u32,
-    /// A bit for each shard where it has entries.
+    /// A bit for each of the `SHARDS` shards, set where it has entries: the bit `k` for the shard `k`.
     pub shards: u8,
 }
 
@@ -144,7 +146,7 @@ impl BatchShape {
 
     /// Whether it has entries in this shard.
     pub(crate) fn touches(&self, shard: u8) -> bool
-        requires { shard < 8 }
+        requires { shard < SHARDS }
         ensures { result ≡ has_part self.now shard }
     {
         (self.shards >> shard) % 2 == 1

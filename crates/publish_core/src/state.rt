@@ -1,5 +1,6 @@
 //! The state as it is kept: numbers and lists.
 ghost use Rattle.std.specs.Prelude.{◌≡◌, ℕ, ◌<◌, ◌≤◌, ◌^◌, ◌↔◌, [], IsTrue, IfOk, length, map, slice_index_or, vec_items, vec_len, vec_capacity, ◌++◌, ◌∷◌};
+ghost use Rattle.publish_core.specs.declared.state.TheConstants.{SLOTS, SHARDS, MOST_BATCHES, END_LIMIT};
 ghost use Rattle.publish_core.specs.Machine.{Acts, ends};
 ghost use Rattle.publish_core.specs.Parts.{shape_count};
 
@@ -7,17 +8,17 @@ use crate::seat::{BatchShape, Claim, Counts, Ends, Kind, Pair, Reading, Stage};
 use std::alloc::Global;
 use wal_base::NoMemory;
 
-/// How many slots the ring has.
-pub(crate) const SLOTS: u64 = 64;
+/// How many slots the ring has. The batch `i` stands in the slot `i % SLOTS`.
+pub const SLOTS: u64 = 64;
 
-/// The most batches of one run.
-pub(crate) const MOST_BATCHES: u64 = 1_048_576;
+/// The most batches that are placed in one machine, over all its time.
+pub const MOST_BATCHES: u64 = 1_048_576;
 
-/// Every end is below it.
-pub(crate) const END_LIMIT: u64 = 1 << 56;
+/// Every batch's end is below it, and so is every visible number.
+pub const END_LIMIT: u64 = 1 << 56;
 
 /// How many shards there are.
-pub(crate) const SHARDS: u8 = 8;
+pub const SHARDS: u8 = 8;
 
 /// A seat, as it is kept. What it knows and what it marked stand oldest first.
 #[derive(Drop)]
@@ -53,14 +54,14 @@ pub(crate) struct KeptState {
     pub(crate) ring: Vec<u64>,
     pub(crate) turns: Vec<u64>,
     pub(crate) seats: Vec<KeptSeat>,
-    ghost ring_wide: { length ring.items ≡ 64 },
-    ghost turns_wide: { length turns.items ≡ 8 },
-    ghost done_wide: { length done.items ≡ 8 },
+    ghost ring_wide: { length ring.items ≡ SLOTS },
+    ghost turns_wide: { length turns.items ≡ SHARDS },
+    ghost done_wide: { length done.items ≡ SHARDS },
     ghost stage_each: { length stages.items ≡ length batches.items },
     ghost owner_each: { length owners.items ≡ length batches.items },
-    ghost few: { length batches.items ≤ 1048576 },
+    ghost few: { length batches.items ≤ MOST_BATCHES },
     ghost end_is: { end ≡ ends shape_count base batches.items (length batches.items) },
-    ghost end_small: { end < 2 ^ 56 },
+    ghost end_small: { end < END_LIMIT },
 }
 
 impl KeptSeat {
@@ -107,7 +108,7 @@ impl KeptState {
 
     /// The opening state, of the visible number `v0`.
     pub(crate) fn opening(alloc: Global, v0: u64) -> Result<KeptState, NoMemory>
-        requires { v0 < 2 ^ 56 }
+        requires { v0 < END_LIMIT }
         ensures { IfOk result (λ s. kept_state s ≡ opening v0) }
     {
         let mut seats = Vec::new(alloc);
@@ -141,7 +142,7 @@ impl KeptState {
 /// For each shard an empty list of batches.
 #[tactic(auto, using(crate::proofs::Stored::empty_pushed))]
 fn nothing_done(alloc: Global) -> Result<Vec<Vec<u64>>, NoMemory>
-    ensures wide { IfOk result (λ done. length done.items ≡ 8) }
+    ensures wide { IfOk result (λ done. length done.items ≡ SHARDS) }
     ensures empty { IfOk result
         (λ done. (k : ℕ) → slice_index_or (map vec_items done.items) k [] ≡ []) }
 {
