@@ -4,3 +4,4 @@ pub use Rattle.commit_queue.proofs.AwaitsBatch.{awaits_first, awaits_goes_on, aw
 pub use Rattle.commit_queue.proofs.GivesSame.{gives_same, same_versions}
 pub use Rattle.commit_queue.proofs.GoesOn.{acked_goes_on, goes_on_both, goes_on_same, longer_prefix, past_all, seen_few, seen_within, sees_goes_on, tries_goes_on, visible_no_less}
 pub use Rattle.commit_queue.proofs.Publishes.{at_end_of}
+pub use Rattle.commit_queue.proofs.Versioned.{ends_next}

@@ -8,6 +8,7 @@ use prog.Atomic.{either}
 use Rattle.atomic_table.specs.Table.{step, keeps, Allows}
 use Rattle.atomic_table.proofs.Lists.{exchanged}
 use Rattle.batch_repr.specs.declared.batch.Batch.{Batch}
+use Rattle.batch_repr.specs.Batches.{IsContiguous}
 use Rattle.memtable_shards.specs.Versions.{touches}
 use Rattle.publish_core.specs.declared.seat.Kind.TheVariants.{Producer}
 use Rattle.publish_core.specs.declared.seat.Claim.TheVariants.{Free, Taken, Emptied}
@@ -19,6 +20,7 @@ use Rattle.publish_core.proofs.Laws.{word_at, at_stage}
 use Rattle.publish_core.proofs.Laws.{marked_state, marking}
 use Rattle.publish_core.proofs.Laws.{kept_claim_won, emptied_state, emptying, raised_state, raising}
 use Rattle.publish_core.proofs.Laws.{kept_load_ends, kept_load_visible, kept_claim_lost}
+use Rattle.publish_core.proofs.Laws.{has_all}
 use Rattle.commit_queue.specs.declared.pipe_table.TableOpening.{TableOpening}
 use Rattle.commit_queue.specs.declared.view.View.{View}
 use Rattle.commit_queue.specs.Rule.{RingState, TableState, numbers, turn_word, Shows, IsPrefix, Linked}
@@ -26,6 +28,7 @@ use Rattle.commit_queue.specs.Views.{marked_view, ends_view, lost_view, won_view
 use Rattle.commit_queue.specs.Tells.{Seated, high, low, TellsMarked, TellsEnds, TellsClaim, TellsEmptied, TellsRaised, TellsVisible, TellsSettled, TopsAt}
 use Rattle.commit_queue.specs.Calls.{IsAppliedAll}
 use Rattle.commit_queue.proofs.Becomes.{acts_live, turned, Goes, stays, shows_seats, shows_ring, shows_ends, prefix_at}
+use Rattle.commit_queue.proofs.Versioned.{in_row}
 
 pub at_end_of : (xs ys : List Batch) → IsPrefix xs ys → (v n : ℕ) → n ≤ length xs → ends numbers v xs n ≡ ends numbers v ys n
 at_end_of xs ys pre v zero l = refl
@@ -189,6 +192,9 @@ module _ (o : TableOpening) where
                 let b : c.tail ≤ i = (at_stage numbers touches c r.sound i (Held id) h.0 h.1).0 in omega arith;
             retired = ok.acked_known.retired;
             whole = λ k. sym (ok.whole (ok.producer k));
+            all = subst
+                (λ (d : SeatState). length c.batches ≤ length d.own → (i : ℕ) → i < length c.batches → Among i d.own)
+                seat (has_all numbers touches c r.sound id);
           },
         ),
       )
@@ -455,5 +461,6 @@ module _ (o : TableOpening) where
           reaches = reaches;
           tops = tops;
           few = r.few;
+          row = subst (λ (y : ℕ). IsContiguous y c.batches) (sym vb) (in_row c.base c.batches r.first sound.counted);
         },
       )

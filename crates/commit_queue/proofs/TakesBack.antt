@@ -24,6 +24,7 @@ takes_back p w m1 m2 e s kind idle within = let t = subst (λ (m : View). Settle
       within = by.published_within;
       within_back = within;
       own = refl;
+      all = by.all;
       kind = refl;
       held = ap (both_held p.seat.held) idle ∙ held_alone p.seat.held;
       pieces = refl;

@@ -9,6 +9,7 @@ use Rattle.std.proofs.lemmas.Option.{slice_get_within, get_or_from_slice_get}
 use Rattle.std.proofs.lemmas.List.Elements.{Contains-append_left, Contains-append_right, Contains-append_cases, filter-append}
 use Rattle.wal_base.proofs.Laws.{none_within}
 use Rattle.batch_repr.specs.declared.batch.Batch.{Batch}
+use Rattle.batch_repr.specs.Batches.{IsContiguous, end_of}
 use Rattle.memtable_shards.specs.declared.version.Version.{Version}
 use Rattle.memtable_shards.specs.Versions.{versions_of, versions_in, of_shard, piece_in, Gains, HasSameVersions}
 use Rattle.memtable_shards.proofs.Laws.{version_within, in_piece, touched}
@@ -53,11 +54,25 @@ abbrev pub BeginInOrder : ℕ → List Batch → Type 0
 BeginInOrder base batches = (i : ℕ) (b : Batch) → get_elem? batches i ≡ some b → b.first ≡ ends numbers base batches i
 
 -- a batch ends so many numbers after the one before
-ends_next : (base : ℕ) (batches : List Batch) (i : ℕ) (b : Batch) → get_elem? batches i ≡ some b
+pub ends_next : (base : ℕ) (batches : List Batch) (i : ℕ) (b : Batch) → get_elem? batches i ≡ some b
     → ends numbers base batches (suc i) ≡ ends numbers base batches i + numbers b
 ends_next base [] i b at = absurd (some-ne-none b (sym at))
 ends_next base (x ∷ batches) zero b at = ap (λ (y : Batch). base + numbers y) (some-injective x b at)
 ends_next base (x ∷ batches) (suc i) b at = ends_next (base + numbers x) batches i b at
+
+-- Where each of them takes a number too, they are in one row.
+pub in_row : (base : ℕ) (batches : List Batch) → BeginInOrder base batches
+    → ((i : ℕ) (b : Batch) → get_elem? batches i ≡ some b → 0 < numbers b) → IsContiguous base batches
+unfolding IsContiguous
+in_row base [] in_order counted = tt
+in_row base (b ∷ batches) in_order counted =
+    let first : b.first ≡ base = in_order 0 b refl in (
+      first,
+      counted 0 b refl,
+      in_row (end_of b) batches
+          (λ i x at. in_order (suc i) x at ∙ ap (λ (n : ℕ). ends numbers (n + numbers b) batches i) (sym first))
+          (λ i x at. counted (suc i) x at),
+    )
 
 piece_within : (base : ℕ) (batches : List Batch) → BeginInOrder base batches → (i : ℕ) (b : Batch) (k : ℕ) (v : Version)
     → get_elem? batches i ≡ some b → Contains (piece_in k b) v

@@ -167,13 +167,7 @@ pub record TakesIn (v w v' : View) : Type 0 where
 abbrev pub SeesBoth : View → View → View → Type 0
 SeesBoth v w v' = TakesIn (telling_view v) (shown_view Note w) v'
 
--- A seat has seen no less than before.
-pub record SeesNoLess (v v' : View) : Type 0 where
-  pub history : IsPrefix v.history v'.history
-  pub published : v.seat.published ≤ v'.seat.published
-  pub acked : v.seat.acked ≤ v'.seat.acked
-
--- What a call that publishes or reads leaves of a view.
+-- What a call that publishes or reads leaves of a view, and a meeting for which there was no memory.
 pub record ViewGoesOn (v v' : View) : Type 0 where
   pub kind : v'.seat.kind ≡ v.seat.kind
   pub absorbed : v'.absorbed ≡ v.absorbed
@@ -247,6 +241,8 @@ pub record TakesBack (p w p' : View) : Type 0 where
   pub within : p'.seat.published ≤ length p'.history
   pub within_back : w.seat.published ≤ length w.history
   pub own : p'.seat.own ≡ p.seat.own ++ w.seat.own
+  -- where its own batches are as many as there are, it has them all
+  pub all : length p'.history ≤ length p'.seat.own → (i : ℕ) → i < length p'.history → Among i p'.seat.own
   pub kind : p'.seat.kind ≡ p.seat.kind
   pub held : p'.seat.held ≡ p.seat.held
   pub pieces : p'.pieces ≡ p.pieces ++ w.pieces

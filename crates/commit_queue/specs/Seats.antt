@@ -11,7 +11,7 @@ use Rattle.commit_queue.specs.declared.seats.FlushSeat.{FlushSeat}
 use Rattle.commit_queue.specs.declared.view.View.{View}
 use Rattle.commit_queue.specs.Tables.{IsOfTable}
 use Rattle.commit_queue.specs.Views.{first_view, opened_view, shown_view, flush_view, without_batch, handed_view}
-use Rattle.commit_queue.specs.Calls.{SeesBoth, SeesNoLess}
+use Rattle.commit_queue.specs.Calls.{SeesBoth, ViewGoesOn}
 
 abbrev pub producer_table : ProducerSeat → TableId
 producer_table p = p.seat.table_id
@@ -72,6 +72,6 @@ pub record HandsOver (p : ProducerSeat) (h : Handed) (p' : ProducerSeat) : Type 
 abbrev pub HasMet : SessionSeat → SessionSeat → SessionSeat → Type 0
 HasMet a b a' = SeesBoth (session_view a) (session_view b) (session_view a')
 
--- The session has seen no less than before.
+-- The session has seen no less than before, and what it holds and owns is the same.
 abbrev pub HasSeenNoLess : SessionSeat → SessionSeat → Type 0
-HasSeenNoLess a a' = SeesNoLess (session_view a) (session_view a')
+HasSeenNoLess a a' = ViewGoesOn (session_view a) (session_view a')

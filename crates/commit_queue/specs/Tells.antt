@@ -1,8 +1,9 @@
 -- What each step tells, of the view before, the word found and the view after.
-use Rattle.std.specs.Prelude.{◌≡◌, ◌≢◌, ℕ, suc, ◌+◌, ◌-◌, ◌*◌, ◌/◌, ◌%◌, ◌≤◌, List, ◌∷◌, length, Some}
+use Rattle.std.specs.Prelude.{◌≡◌, ◌≢◌, ℕ, suc, ◌+◌, ◌-◌, ◌*◌, ◌/◌, ◌%◌, ◌<◌, ◌≤◌, List, ◌∷◌, length, Some}
 use Rattle.atomic_table.specs.Table.{Me, Step, rest}
 use Rattle.batch_repr.specs.declared.batch.Batch.{Batch}
 use Rattle.batch_repr.specs.declared.limits.TheConstants.{BATCHES_MAX}
+use Rattle.batch_repr.specs.Batches.{IsContiguous}
 use Rattle.memtable_shards.specs.declared.version.Version.{Version}
 use Rattle.publish_core.specs.declared.seat.Claim.TheVariants.{Taken, Emptied}
 use Rattle.publish_core.specs.declared.seat.Kind.TheVariants.{Producer}
@@ -90,6 +91,8 @@ pub record SeesVisible (v : View) (r : ℕ) (v' : View) : Type 0 where
   pub reaches : ReachesTo v.base history count r
   pub tops : TopsAt v.base history count r
   pub few : length history ≤ BATCHES_MAX
+  -- each batch begins where the one before it ends, the first one at the table's first number
+  pub row : IsContiguous v.base history
 
 abbrev pub TellsVisible : Step Slot → Seated → ℕ → Seated → Type 0
 TellsVisible st m r m' = (m'.1 ≡ m.1) × SeesVisible m.0 r m'.0
@@ -113,6 +116,8 @@ pub record IsSettledBy (v : View) (h : List Batch) : Type 0 where
   pub behind : (i : ℕ) → v.seat.held ≡ Some i → v.seat.published ≤ i
   pub retired : (n : ℕ) → v.acked_known.retired ≡ Some n → v.seat.acked ≤ n
   pub whole : v.seat.kind ≡ Producer → h ≡ v.history
+  -- where its own batches are as many as there are, it has them all
+  pub all : length h ≤ length v.seat.own → (i : ℕ) → i < length h → Among i v.seat.own
 
 -- Head and tail were read, and the history is now that of both seats.
 abbrev pub TellsSettled : Step Slot → Seated → ℕ → Seated → Type 0

@@ -1,6 +1,5 @@
 -- The loop by which a layer above applies a batch's pieces.
 use Rattle.std.proofs.Common.{sym, subst, ◌∙◌}
-use Rattle.memtable_shards.specs.Pieces.{PiecesLeft}
 use Rattle.commit_queue.specs.declared.view.View.{View}
 use Rattle.commit_queue.proofs.AppliesSome.{AppliesSome, all_applied, next_apart, next_gives, next_applied}
 use Rattle.commit_queue.proofs.tests.apply_all.Goals as goal

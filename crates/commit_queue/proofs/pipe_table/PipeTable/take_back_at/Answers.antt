@@ -1,4 +1,4 @@
-use Rattle.std.proofs.Common.{ap, sym, subst, ◌∙◌}
+use Rattle.std.proofs.Common.{ap, ◌∙◌}
 use Rattle.commit_queue.specs.Tells.{Seated}
 use Rattle.commit_queue.proofs.TakesBack.{takes_back}
 use Rattle.commit_queue.proofs.Stands.{producer_takes_back}
