@@ -1,0 +1,64 @@
+-- What the end of a pipeline tells (docs/FORMATS.md, "Sessions beside one another").
+use Rattle.std.specs.Prelude.{◌≡◌, ◌≢◌, ℕ, ◌+◌, ◌<◌, ◌≤◌, Bool, List, [], ◌∷◌, ◌++◌, length, None, Contains}
+use Rattle.batch_repr.specs.declared.batch.Batch.{Batch}
+use Rattle.batch_repr.specs.declared.limits.TheConstants.{NUMBER_MAX, BATCHES_MAX}
+use Rattle.disk_face.specs.View.{DiskView}
+use Rattle.failover_writer.specs.State.{State, JournalView, acked}
+use Rattle.publish_core.specs.Machine.{Among}
+use Rattle.commit_queue.specs.declared.view.View.{View}
+use Rattle.commit_queue.specs.Rule.{IsPrefix}
+use Rattle.commit_pipeline.specs.Holding.{Opening, IsOpened, KeepsJournal}
+use Rattle.shared_pipeline.specs.declared.standing.Standing.{Standing}
+use Rattle.shared_pipeline.specs.Commits.{end_at}
+
+-- the places that the sessions call their own
+abbrev pub owned : List Standing → List ℕ
+owned [] = []
+owned (s ∷ ss) = owned ss ++ s.own
+
+-- how many of their commits were answered that the journal is dead
+abbrev pub all_dead : List Standing → ℕ
+all_dead [] = 0
+all_dead (s ∷ ss) = all_dead ss + s.dead
+
+-- The n places below n are the sessions' own, each once: so many are named, and each is among them.
+pub record EachOnce (n : ℕ) (places : List ℕ) : Type 0 where
+  pub as_many : length places ≡ n
+  pub each : (i : ℕ) → i < n → Among i places
+
+-- The journal holds these batches since the opening, and they are within both limits. What each session has seen is a prefix of
+-- them, each of them is one session's own, once, and each that a session has seen acked is. A session was told of a death only where
+-- the journal is dead.
+pub record Finishes (tells : Bool) (opening : Opening) (batches : List Batch) (ss : List Standing) (state : State) (v : DiskView)
+    (visible count : ℕ) : Type 0 where
+  pub opened : IsOpened tells opening
+  pub keeps : KeepsJournal tells opening batches state v
+  pub seen : (s : Standing) → Contains ss s → IsPrefix s.seen batches
+  pub own : EachOnce (length batches) (owned ss)
+  pub acked_is : (s : Standing) → Contains ss s → s.acked ≤ acked state
+  pub dead : (s : Standing) → Contains ss s → 0 < s.dead → state.dead ≢ None
+  pub visible_is : visible ≡ end_at opening batches (length batches)
+  pub count_is : count ≡ length batches
+  pub small : visible ≤ NUMBER_MAX
+  pub few : count ≤ BATCHES_MAX
+
+-- What a pipeline ends with, for some batches.
+abbrev pub EndsPipeline : {Disk : Type 0} → Bool → (Disk → DiskView) → Opening → List Standing → JournalView Disk → ℕ → ℕ → Type 0
+EndsPipeline tells view opening ss journal visible count =
+    (batches : List Batch) × Finishes tells opening batches ss journal.state (view journal.disk) visible count
+
+-- A journal that is given up holds some batches since the opening.
+abbrev pub StillKeeps : {Disk : Type 0} → Bool → (Disk → DiskView) → Opening → JournalView Disk → Type 0
+StillKeeps tells view opening journal = (batches : List Batch) × KeepsJournal tells opening batches journal.state (view journal.disk)
+
+-- ---- inside
+
+-- The producer's seat has taken in the seats of these sessions: what each has seen is a prefix of its history, and it has seen
+-- acked what any of them has.
+pub record TakesAllBack (p : View) (ss : List Standing) (p' : View) : Type 0 where
+  pub history : p'.history ≡ p.history
+  pub base : p'.base ≡ p.base
+  pub own : p'.seat.own ≡ p.seat.own ++ owned ss
+  pub acked_on : p.seat.acked ≤ p'.seat.acked
+  pub seen : (s : Standing) → Contains ss s → IsPrefix s.seen p.history
+  pub acked : (s : Standing) → Contains ss s → s.acked ≤ p'.seat.acked

@@ -1,0 +1,10 @@
+pub mod Names
+pub mod Standings
+pub mod Ties
+pub mod Numbering
+pub mod Commits
+pub mod Desks
+pub mod Waits
+pub mod Meeting
+pub mod Ending
+pub mod Parts

@@ -1,0 +1,257 @@
+//! The pipeline, and its commits.
+ghost use Rattle.std.specs.Prelude.{◌≡◌, ◌+◌, None, Err, true};
+ghost use Rattle.batch_repr.specs.Batches.{count_of};
+ghost use Rattle.commit_queue.specs.Tables.{table_id_of};
+ghost use Rattle.commit_queue.specs.Calls.{HoldsUnapplied};
+ghost use Rattle.commit_queue.specs.Seats.{session_table, session_view};
+ghost use Rattle.shared_pipeline.specs.Commits.{TellsCommit};
+ghost use Rattle.shared_pipeline.specs.Desks.{IsDeskIdle, Raises, TellsFault};
+ghost use Rattle.shared_pipeline.specs.Desks.{deaths_stepped};
+ghost use Rattle.shared_pipeline.specs.Ending.{StillKeeps};
+ghost use Rattle.shared_pipeline.specs.Waits.{GetsNumber, StartsCommit, IsHeldEnd, PublishesHeld};
+ghost use Rattle.shared_pipeline.specs.Waits.{WaitsFor, IsUnsynced};
+ghost use Rattle.shared_pipeline.specs.Waits.{numbers_got, numbers_started, deaths_refused};
+ghost use Rattle.shared_pipeline.specs.Waits.{deaths_started, deaths_waited};
+
+use crate::desk::Desk;
+use crate::lock::{Locked, Numbering};
+use crate::name::PipeName;
+use crate::session::Session;
+use batch_repr::{BATCHES_MAX, Unnumbered};
+use commit_pipeline::{CommitFault, Committed, Gate, GatePoint};
+use commit_queue::PipeTable;
+use disk_face::{Disk, Side, StallDisk};
+use failover_writer::{DeadMark, Journal, JournalFault, Step};
+use memtable_shards::{Pieces, split};
+use shard_gate::ShardGate;
+use std::alloc::Global;
+use std::sync::ledger::Ledger;
+use std::sync::{Mutex, Wait};
+use std::thread;
+
+/// Why a batch got no number.
+#[derive(Drop)]
+pub(crate) enum Refusal {
+    /// The journal is dead.
+    Dead { mark: DeadMark },
+    /// The journal has as many records as it may have, of which this is the end.
+    TooMany { next: u64 },
+    /// The batch would end past the numbers, of which this one comes next.
+    Exhausted { next: u64 },
+    /// Out of memory.
+    NoMemory,
+}
+
+/// A commit pipeline that its sessions share.
+#[derive(Drop)]
+pub struct Pipeline<'a, D: Disk, G: Gate, N: PipeName, M: Ledger> {
+    pub(crate) alloc: Global,
+    pub(crate) table: PipeTable,
+    pub(crate) lock: Mutex<Locked<D, N, M>>,
+    pub(crate) gate: &'a G,
+    ghost named: { table_id_of table ≡ N.table },
+}
+
+impl<'a, D: Disk, G: Gate, N: PipeName, M: Ledger> Pipeline<'a, D, G, N, M> {
+    /// Commits a batch. With `sync` it waits until a sync covers the batch. `Dead`,
+    /// `TooManyBatches` and `SeqExhausted` are looked for in this order, before the batch is
+    /// numbered; a batch that is numbered is visible, whatever is answered.
+    pub fn commit<R: Wait>(
+        &self,
+        rt: &R,
+        session: &mut Session<N, M>,
+        batch: Unnumbered,
+        sync: bool,
+    ) -> Result<Committed, CommitFault>
+        ensures { TellsCommit N.opening batch sync session.old result session.new }
+    {
+        let count = batch.count();
+        let mut pieces = split(self.alloc, &batch)?;
+        let desk = &mut session.desk;
+        let (first, index) = self.start(rt, desk, batch, sync)?;
+        self.gate.pass(session.number, GatePoint::Numbered);
+        pieces.number(first);
+        self.publish(rt, session.number, desk, pieces, first + u64::from(count));
+        if sync {
+            let numbers = Numbers {
+                first,
+                count,
+                index,
+            };
+            self.wait_acked(rt, desk, numbers)?;
+        }
+        Ok(Committed {
+            first,
+            count,
+            synced: sync,
+        })
+    }
+
+    /// Numbers the batch, or tells why not. A limit is told once all that made it is published.
+    fn start<R: Wait>(
+        &self,
+        rt: &R,
+        desk: &mut Desk<N, M>,
+        batch: Unnumbered,
+        sync: bool,
+    ) -> Result<(u64, u64), CommitFault>
+        requires desk { IsDeskIdle N.table N.opening desk.old }
+        ensures same { session_table desk.new.seat ≡ session_table desk.old.seat }
+        ensures started { StartsCommit N.opening batch (session_view desk.old.seat) result (session_view desk.new.seat) }
+        ensures own { Raises desk.old.own (numbers_started result) desk.new.own }
+        ensures dead { Raises desk.old.dead (deaths_started result) desk.new.dead }
+    {
+        match self.take_number(rt, desk, batch, sync) {
+            Ok(numbers) => Ok(numbers),
+            Err(Refusal::Dead { mark }) => Err(CommitFault::Dead {
+                side: mark.side,
+                faults: mark.faults,
+            }),
+            Err(Refusal::TooMany { next }) => {
+                self.table.publish_until(rt, &mut desk.seat, next);
+                Err(CommitFault::TooManyBatches { count: BATCHES_MAX })
+            }
+            Err(Refusal::Exhausted { next }) => {
+                self.table.publish_until(rt, &mut desk.seat, next);
+                Err(CommitFault::SeqExhausted { next })
+            }
+            Err(Refusal::NoMemory) => Err(CommitFault::NoMemory),
+        }
+    }
+
+    /// Takes the lock until the batch is numbered or refused: again where the ring is full.
+    fn take_number<R: Wait>(
+        &self,
+        rt: &R,
+        desk: &mut Desk<N, M>,
+        batch: Unnumbered,
+        sync: bool,
+    ) -> Result<(u64, u64), Refusal>
+        requires desk { IsDeskIdle N.table N.opening desk.old }
+        ensures same { session_table desk.new.seat ≡ session_table desk.old.seat }
+        ensures taken { GetsNumber batch (session_view desk.old.seat) result (session_view desk.new.seat) }
+        ensures own { Raises desk.old.own (numbers_got result) desk.new.own }
+        ensures dead { Raises desk.old.dead (deaths_refused result) desk.new.dead }
+    {
+        let mut batch = batch;
+        for _ in rt.forever() {
+            let numbering = self
+                .lock
+                .lock(rt)
+                .number(rt, &self.table, desk, batch, sync);
+            match numbering {
+                Numbering::Done { first, index } => return Ok((first, index)),
+                Numbering::Busy { batch: again } => batch = again,
+                Numbering::Dead { mark } => return Err(Refusal::Dead { mark }),
+                Numbering::TooMany { next } => return Err(Refusal::TooMany { next }),
+                Numbering::Exhausted { next } => return Err(Refusal::Exhausted { next }),
+                Numbering::NoMemory => return Err(Refusal::NoMemory),
+            }
+            thread::yield_now();
+        }
+        unreachable!()
+    }
+
+    /// Applies the batch that the seat holds, marks it, and publishes until it is published.
+    fn publish<R: Wait>(
+        &self,
+        rt: &R,
+        session: u32,
+        desk: &mut Desk<N, M>,
+        pieces: Pieces,
+        end: u64,
+    )
+        requires table { session_table desk.old.seat ≡ N.table }
+        requires no_turn { (session_view desk.old.seat).seat.turn ≡ None }
+        requires holds { HoldsUnapplied (session_view desk.old.seat) pieces }
+        requires end { IsHeldEnd (session_view desk.old.seat) end }
+        ensures same { session_table desk.new.seat ≡ session_table desk.old.seat }
+        ensures own { desk.new.own ≡ desk.old.own }
+        ensures dead { desk.new.dead ≡ desk.old.dead }
+        ensures published { PublishesHeld (session_view desk.old.seat) (session_view desk.new.seat) }
+    {
+        let seat = &mut desk.seat;
+        ShardGate::over(self.alloc, &self.table).apply_all(rt, seat, pieces);
+        self.gate.pass(session, GatePoint::Applied);
+        self.table.mark(seat);
+        self.gate.pass(session, GatePoint::Marked);
+        self.table.publish_until(rt, seat, end);
+        self.gate.pass(session, GatePoint::Published);
+    }
+
+    /// Steps the journal until the batch is synced, or tells why it is not.
+    fn wait_acked<R: Wait>(
+        &self,
+        rt: &R,
+        desk: &mut Desk<N, M>,
+        numbers: Numbers,
+    ) -> Result<(), CommitFault>
+        requires desk { IsDeskIdle N.table N.opening desk.old }
+        ensures same { session_table desk.new.seat ≡ session_table desk.old.seat }
+        ensures waited { WaitsFor numbers (session_view desk.old.seat) result (session_view desk.new.seat) }
+        ensures own { desk.new.own ≡ desk.old.own }
+        ensures dead { Raises desk.old.dead (deaths_waited result) desk.new.dead }
+    {
+        for _ in rt.forever() {
+            if self.table.acked(&mut desk.seat) > numbers.index {
+                return Ok(());
+            }
+            let stepped = self
+                .lock
+                .lock(rt)
+                .step_for(&self.table, desk, numbers.index);
+            match stepped {
+                Ok(Step::Moved) => {}
+                Ok(_) => thread::yield_now(),
+                Err(fault) => return Err(numbers.unsynced(fault)),
+            }
+        }
+        unreachable!()
+    }
+
+    /// Gives the journal up as it stands.
+    pub fn into_journal(self) -> Journal<D>
+        ensures { StillKeeps D.tells D.view N.opening result }
+    {
+        self.lock.into_inner().journal
+    }
+}
+
+/// What a batch was numbered with.
+#[derive(Clone, Copy, Debug)]
+pub(crate) struct Numbers {
+    first: u64,
+    count: u32,
+    index: u64,
+}
+
+impl Numbers {
+    /// Why the batch is not known to be synced.
+    fn unsynced(self, fault: JournalFault) -> CommitFault
+        requires { TellsFault fault }
+        ensures told { IsUnsynced self result }
+        ensures deaths { deaths_waited (Err result) ≡ deaths_stepped (Err fault) }
+    {
+        match fault {
+            JournalFault::Dead { side, faults } => CommitFault::Unsynced {
+                first: self.first,
+                count: self.count,
+                side,
+                faults,
+            },
+            JournalFault::NoMemory => CommitFault::NoMemorySync {
+                first: self.first,
+                count: self.count,
+            },
+        }
+    }
+}
+
+impl<'a, D: StallDisk, G: Gate, N: PipeName, M: Ledger> Pipeline<'a, D, G, N, M> {
+    /// Leaves polls of a side to stall.
+    pub fn stall<R: Wait>(&self, rt: &R, side: Side, polls: u32)
+        requires { N.opening.may_stall ≡ true }
+    {
+        self.lock.lock(rt).stall(side, polls);
+    }
+}

@@ -1,0 +1,263 @@
+//! What sessions do beside one another, by examples.
+ghost use Rattle.std.specs.Prelude.{◌≡◌, ◌≤◌, length};
+ghost use Rattle.batch_repr.specs.declared.limits.TheConstants.{NUMBER_FIRST, SESSIONS_MAX};
+ghost use Rattle.commit_pipeline.specs.Holding.{opening_on};
+ghost use Rattle.failover_writer.specs.State.{len};
+
+use crate::{Parts, PipeName, Pipeline, Session};
+use batch_repr::{BatchBuilder, Batches, NUMBER_FIRST, Unnumbered};
+use commit_pipeline::{Gate, GatePoint, NoGate};
+use disk_face::Disk;
+use failover_writer::Journal;
+use mem_disk::MemDisk;
+use std::alloc::Global;
+use std::marker::Brand;
+use std::process::Abort;
+use std::sync::Wait;
+use std::sync::atomic::{AtomicBool, AtomicU64, Ordering};
+use std::sync::ledger::Ledger;
+use std::thread;
+use std::thread::Threads;
+
+/// The turns for which a gate holds a session at most.
+const TURNS: u64 = 1_000_000;
+
+/// A batch that sets a key of one byte to a value of one byte.
+fn one_set(rt: &impl Abort, alloc: Global, key: u8, value: u8) -> Unnumbered {
+    let mut builder = BatchBuilder::new(alloc).expect(rt, "memory");
+    if builder.set(&[key], &[value]).is_err() {
+        panic!(rt; "memory");
+    }
+    match builder.finish() {
+        Ok(batch) => batch,
+        Err(_) => panic!(rt; "a batch of one entry"),
+    }
+}
+
+/// A journal of no record, over a disk in memory.
+fn new_journal(rt: &impl Abort, alloc: Global) -> Journal<MemDisk>
+    ensures empty { len result.state ≡ 0 }
+    ensures next { result.state.next ≡ NUMBER_FIRST }
+{
+    let disk = MemDisk::new(alloc).expect(rt, "memory");
+    match Journal::start(alloc, disk, 1, NUMBER_FIRST, 3) {
+        Ok(journal) => journal,
+        Err(_) => panic!(rt; "memory"),
+    }
+}
+
+/// What the sessions of a run do, each on a thread of its own.
+trait Act<G: Gate> {
+    fn act<D: Disk, N: PipeName, M: Ledger, R: Wait + Abort>(
+        &self,
+        rt: &R,
+        alloc: Global,
+        pipe: &Pipeline<'_, D, G, N, M>,
+        session: &mut Session<N, M>,
+    );
+}
+
+/// Runs so many sessions over a journal of no record, and answers how many batches they committed.
+fn run<D: Disk + Drop + Send, G: Gate + Sync, A: Act<G> + Sync, R: Threads + Wait + Abort + Sync>(
+    rt: &R,
+    alloc: Global,
+    gate: &G,
+    journal: Journal<D>,
+    sessions: usize,
+    act: &A,
+) -> u64
+    requires sessions { (1 ≤ sessions) × (sessions ≤ SESSIONS_MAX) }
+    requires empty { len journal.state ≡ 0 }
+    requires next { journal.state.next ≡ NUMBER_FIRST }
+{
+    let base = Batches::new(alloc);
+    let parts = Parts::new(alloc, &base, NUMBER_FIRST, sessions).expect(rt, "memory");
+    with_table::<D, Brand, G, A, R>(rt, alloc, gate, parts, journal, act)
+}
+
+/// The name of the table is picked.
+fn with_table<
+    D: Disk + Drop + Send,
+    N: PipeName + Send + Sync,
+    G: Gate + Sync,
+    A: Act<G> + Sync,
+    R: Threads + Wait + Abort + Sync,
+>(rt: &R, alloc: Global, gate: &G, parts: Parts, journal: Journal<D>, act: &A) -> u64
+    requires opening { N.opening ≡ opening_on D.view parts.base journal N.opening.may_stall }
+    requires table { parts.table ≡ N.table }
+    requires batches { (parts.batches ≡ N.name) × (parts.sessions ≡ N.parts) }
+    requires empty { len journal.state ≡ 0 }
+    requires next { journal.state.next ≡ parts.next }
+{
+    with_names::<D, N, Brand, G, A, R>(rt, alloc, gate, parts, journal, act)
+}
+
+/// All names are picked.
+fn with_names<
+    D: Disk + Drop + Send,
+    N: PipeName + Send + Sync,
+    M: Ledger + Send + Sync,
+    G: Gate + Sync,
+    A: Act<G> + Sync,
+    R: Threads + Wait + Abort + Sync,
+>(rt: &R, alloc: Global, gate: &G, parts: Parts, journal: Journal<D>, act: &A) -> u64
+    requires opening { N.opening ≡ opening_on D.view parts.base journal N.opening.may_stall }
+    requires table { parts.table ≡ N.table }
+    requires batches { (parts.batches ≡ N.name) × (parts.sessions ≡ N.parts) }
+    requires answers { (parts.answers ≡ M.name) × (parts.sessions ≡ M.parts) }
+    requires empty { len journal.state ≡ 0 }
+    requires next { journal.state.next ≡ parts.next }
+{
+    let Ok((pipe, mut sessions)) = Pipeline::<D, G, N, M>::new(journal, parts, gate) else {
+        panic!(rt; "memory");
+    };
+    each_acts(rt, alloc, &pipe, sessions.as_mut_slice(), act);
+    pipe.meet(&mut sessions).expect(rt, "memory");
+    let finished = pipe.finish(sessions);
+    assert_eq!(rt;
+        finished.visible,
+        NUMBER_FIRST.wrapping_add(finished.batches)
+    );
+    assert_eq!(rt; finished.journal.len(), finished.batches);
+    finished.batches
+}
+
+/// Each session acts, on a thread of its own.
+fn each_acts<
+    D: Disk + Send,
+    N: PipeName + Send + Sync,
+    M: Ledger + Send + Sync,
+    G: Gate + Sync,
+    A: Act<G> + Sync,
+    R: Threads + Wait + Abort + Sync,
+>(rt: &R, alloc: Global, pipe: &Pipeline<'_, D, G, N, M>, sessions: &mut [Session<N, M>], act: &A)
+    ensures { length sessions.new ≡ length sessions.old }
+{
+    thread::for_each_mut(
+        rt,
+        sessions,
+        64,
+        &|_, session: &mut Session<N, M>| { act.act(rt, alloc, pipe, session) },
+    );
+}
+
+/// Each session commits so many batches under its own key, and reads what it wrote.
+#[derive(Drop)]
+struct ReadsItsWrites {
+    commits: u8,
+}
+
+impl<G: Gate> Act<G> for ReadsItsWrites {
+    fn act<D: Disk, N: PipeName, M: Ledger, R: Wait + Abort>(
+        &self,
+        rt: &R,
+        alloc: Global,
+        pipe: &Pipeline<'_, D, G, N, M>,
+        session: &mut Session<N, M>,
+    ) {
+        let key = (session.number % 256) as u8;
+        for value in 0..self.commits {
+            let batch = one_set(rt, alloc, key, value);
+            let sync = value % 16 == 15;
+            let committed = pipe.commit(rt, session, batch, sync).expect(rt, "a commit");
+            assert_eq!(rt; committed.count, 1);
+            assert_eq!(rt; committed.synced, sync);
+            let reply = pipe.get(rt, session, &[key]).expect(rt, "memory");
+            let read = reply.value.expect(rt, "a value");
+            assert_eq!(rt; read.as_slice(), [value].as_slice());
+            assert!(rt; reply.visible > committed.first);
+        }
+    }
+}
+
+#[test]
+fn sessions_read_what_they_wrote(rt: HostRuntime) {
+    for sessions in [1usize, 2, 8, 64] {
+        let act = ReadsItsWrites { commits: 100 };
+        let batches = run(
+            &rt,
+            rt.alloc(),
+            &NoGate,
+            new_journal(&rt, rt.alloc()),
+            sessions,
+            &act,
+        );
+        assert_eq!(rt; batches, sessions as u64 * 100);
+    }
+}
+
+/// A gate that holds one session once it has its number until another one has marked its batch, for
+/// so many turns at most.
+#[derive(Drop)]
+struct Held {
+    held: u32,
+    other: u32,
+    marked: AtomicBool,
+    /// How many turns were left as the hold ended.
+    left: AtomicU64,
+}
+
+impl Held {
+    fn new(held: u32, other: u32) -> Held {
+        Held {
+            held,
+            other,
+            marked: AtomicBool::new(false),
+            left: AtomicU64::new(0),
+        }
+    }
+}
+
+impl Gate for Held {
+    fn pass(&self, session: u32, point: GatePoint) {
+        if session == self.other && point == GatePoint::Marked {
+            self.marked.store(true, Ordering::SeqCst);
+        }
+        if session == self.held && point == GatePoint::Numbered {
+            for turn in 0..TURNS {
+                if self.marked.load(Ordering::SeqCst) {
+                    self.left.store(TURNS - turn, Ordering::SeqCst);
+                    return;
+                }
+                thread::yield_now();
+            }
+        }
+    }
+}
+
+/// Each session commits one batch.
+#[derive(Drop)]
+struct CommitsOne;
+
+impl<G: Gate> Act<G> for CommitsOne {
+    fn act<D: Disk, N: PipeName, M: Ledger, R: Wait + Abort>(
+        &self,
+        rt: &R,
+        alloc: Global,
+        pipe: &Pipeline<'_, D, G, N, M>,
+        session: &mut Session<N, M>,
+    ) {
+        let batch = one_set(rt, alloc, (session.number % 256) as u8, 0);
+        pipe.commit(rt, session, batch, false)
+            .expect(rt, "a commit");
+    }
+}
+
+#[test]
+fn a_session_that_is_held_holds_up_no_other(rt: HostRuntime) {
+    for sessions in [2u32, 8, 64] {
+        for (held, other) in [(0, sessions - 1), (sessions - 1, 0)] {
+            let gate = Held::new(held, other);
+            let batches = run(
+                &rt,
+                rt.alloc(),
+                &gate,
+                new_journal(&rt, rt.alloc()),
+                sessions as usize,
+                &CommitsOne,
+            );
+            assert_eq!(rt; batches, u64::from(sessions));
+            assert!(rt; gate.left.load(Ordering::SeqCst) > 0);
+        }
+    }
+}
