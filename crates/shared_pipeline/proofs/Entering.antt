@@ -9,7 +9,7 @@ use Rattle.batch_repr.specs.declared.batch.Batch.{Batch}
 use Rattle.batch_repr.specs.declared.limits.TheConstants.{NUMBER_MAX}
 use Rattle.batch_repr.specs.Batches.{end_of}
 use Rattle.disk_face.specs.View.{DiskView}
-use Rattle.failover_writer.specs.State.{State, JournalView, len, acked}
+use Rattle.failover_writer.specs.State.{State, JournalView, len, acked, with_room}
 use Rattle.failover_writer.specs.Ranges as ranges
 use Rattle.failover_writer.specs.Moves.{Pushes}
 use Rattle.failover_writer.specs.Keeping.{KeepsBases}
@@ -20,6 +20,8 @@ use Rattle.commit_queue.specs.Rule.{numbers, IsPrefix}
 use Rattle.commit_queue.specs.Views.{placed_view, admitted_view, without_batch, handed_view}
 use Rattle.commit_queue.specs.Calls.{AwaitsBatch, TakesIn, next_number}
 use Rattle.commit_queue.proofs.Laws.{at_end_of, awaits_handed}
+use Rattle.commit_pipeline.specs.Committing.{LogsBatch, StepsWhileMoving, next_batch}
+use Rattle.commit_pipeline.specs.Steps.{SettlesJournal}
 use Rattle.commit_pipeline.proofs.Laws.{kept_pushed}
 use Rattle.shared_pipeline.specs.Numbering.{numbered, SeatGoesOn, HoldsNumbered, LogsRecord}
 
@@ -89,12 +91,36 @@ numbered_entered batch place p placed admitted v w v' placed_is admitted_is give
 pub logs_entered : {Disk : Type 0} (tells : Bool) (view : Disk → DiskView) (added batch : Batch) (sync : Bool) (old new : JournalView Disk)
     → added ≡ batch → Pushes added sync old.state new.state → new.disk ≡ old.disk → ranges.AddsRecord tells view added old new
     → KeepsBases tells view old new → acked new.state ≡ acked old.state → old.state.dead ≡ None
-    → LogsRecord tells batch old.state new.state (view old.disk) (view new.disk)
+    → LogsRecord tells batch sync old.state new.state (view old.disk) (view new.disk)
 logs_entered tells view added batch sync old new is pushes disk adds keeps_base same lives =
-    subst (λ (b : Batch). LogsRecord tells b old.state new.state (view old.disk) (view new.disk)) is record {
+    subst (λ (b : Batch). LogsRecord tells b sync old.state new.state (view old.disk) (view new.disk)) is record {
+      pushes = pushes;
+      same_disk = ap view disk;
       holds = λ opening batches keeps. kept_pushed tells opening view batches old new added sync pushes disk adds keeps_base keeps;
       lives = ap (λ (s : State). s.dead) pushes.new_is ∙ lives;
       acked_is = same;
       next = pushes.next;
       one_more = one_more added sync old.state new.state pushes;
+    }
+
+-- The batch was logged, where room was made before it was pushed, and the journal settled after.
+pub logs_batch : {Disk : Type 0} (tells : Bool) (view : Disk → DiskView) (entries : List Entry) (sync : Bool) (spare : ℕ)
+    (old roomy mid new : JournalView Disk) → roomy ≡ with_room spare old
+    → LogsRecord tells (numbered entries roomy.state.next) sync roomy.state mid.state (view roomy.disk) (view mid.disk)
+    → SettlesJournal view mid new → LogsBatch entries sync old.state new.state (view old.disk) (view new.disk)
+logs_batch tells view entries sync spare old roomy mid new same logs settles = record {
+  pushed = mid.state;
+  pushes = in_room (subst (λ (j : JournalView _). Pushes (numbered entries j.state.next) sync j.state mid.state) same logs.pushes);
+  steps = subst (λ (before : DiskView). StepsWhileMoving mid.state new.state before (view new.disk))
+      (logs.same_disk ∙ ap (λ (j : JournalView _). view j.disk) same) settles;
+}
+  where
+    in_room : Pushes (numbered entries old.state.next) sync (with_room spare old).state mid.state
+        → Pushes (next_batch entries old.state) sync old.state mid.state
+    in_room pushes = record {
+      start = pushes.start;
+      records = pushes.records;
+      next = pushes.next;
+      want = pushes.want;
+      new_is = pushes.new_is;
     }

@@ -1,5 +1,5 @@
 -- What holds behind the lock, once all seats have come back and the shares are audited, is what the end of a pipeline tells.
-use Rattle.std.proofs.Common.{◌≡◌, ℕ, ◌<◌, ◌≤◌, ⊎_elim, Bool, List, [], ◌∷◌, ◌++◌, length, append-nil, Contains, sym, subst, ap, ◌∙◌, arith}
+use Rattle.std.proofs.Common.{◌≡◌, ℕ, ◌+◌, ◌<◌, ◌≤◌, ⊎_elim, Bool, List, [], ◌∷◌, ◌++◌, length, append-nil, Contains, sym, subst, ap, ◌∙◌, arith}
 use Rattle.atomic_table.specs.Seated.{TableId}
 use Rattle.disk_face.specs.View.{DiskView}
 use Rattle.failover_writer.specs.State.{State, len}
@@ -9,15 +9,15 @@ use Rattle.commit_queue.specs.Calls.{TakesBack}
 use Rattle.commit_queue.specs.Rule.{numbers}
 use Rattle.commit_pipeline.specs.Holding.{Opening}
 use Rattle.shared_pipeline.specs.declared.standing.Standing.{Standing}
-use Rattle.shared_pipeline.specs.Ending.{EachOnce, Finishes, TakesAllBack, owned, all_dead}
+use Rattle.shared_pipeline.specs.Ending.{EachOnce, Finishes, TakesAllBack, owned, all_deaths}
 use Rattle.shared_pipeline.specs.Ties.{IsTied}
 use Rattle.shared_pipeline.proofs.TakesAllBack.{front_or_behind}
 
--- an answer that told of a death is among them all
-dead_within : (s : Standing) (ss : List Standing) → Contains ss s → s.dead ≤ all_dead ss
+-- what told a session of a death is among them all
+dead_within : (s : Standing) (ss : List Standing) → Contains ss s → s.dead + s.told ≤ all_deaths ss
 dead_within s [] has = absurd (omega (arith, has.1))
 dead_within s (x ∷ ss) has = ⊎_elim
-    (λ e. let same = ap (λ y. y.dead) e in omega arith)
+    (λ e. let same = ap (λ y. y.dead + y.told) e in omega arith)
     (λ behind. let below = dead_within s ss behind in omega arith)
     (front_or_behind x s ss has)
 
@@ -43,7 +43,7 @@ module _ (tells : Bool) (table : TableId) (opening : Opening) (state : State) (v
           (subst (λ h. i < length h) (sym history) below))
 
   pub finishes : (visible count : ℕ) → IsTied tells table opening state v producer p flush f batches answers → TakesAllBack p ss p'
-      → TakesBack p' f p'' → length (owned ss) ≡ batches → all_dead ss ≡ answers → visible ≡ state.next → count ≡ len state
+      → TakesBack p' f p'' → length (owned ss) ≡ batches → all_deaths ss ≡ answers → visible ≡ state.next → count ≡ len state
       → Finishes tells opening p.history ss state v visible count
   finishes visible count tied back last all told next counts = record {
     opened = tied.flushes.opened;
@@ -58,7 +58,7 @@ module _ (tells : Bool) (table : TableId) (opening : Opening) (state : State) (v
     dead = λ s has some lives.
         let none = tied.flushes.alive lives in
         let within = dead_within s ss has in
-        absurd (omega (arith, told));
+        absurd (omega (arith, told, some));
     visible_is = next ∙ tied.enrols.awaits.next_is ∙ ap (λ n. ends numbers n p.history (length p.history)) tied.enrols.base;
     count_is = counts ∙ sym tied.enrols.awaits.placed_is;
     small = omega (arith, next, tied.enrols.within);

@@ -38,6 +38,7 @@ exhausted_later entries next a b c on shows = record {
   placed = shows.placed;
   shows = shows_later shows.placed next a b c on shows.shows;
   no_fewer = omega (arith, on.published, shows.no_fewer);
+  few = shows.few;
   over = shows.over;
 }
 
@@ -71,6 +72,7 @@ shown_exhausted entries v v1 v2 next exhausted on published = (
   record {
     placed = exhausted.placed;
     no_fewer = exhausted.no_fewer;
+    few = exhausted.few;
     published = shown_past v v1 v2 exhausted.placed next exhausted.shows on published;
     next_is = shown_end v v1 v2 exhausted.placed next exhausted.shows on published;
     over = exhausted.over;

@@ -3,7 +3,7 @@ use Rattle.std.proofs.Common.{◌≡◌, ℕ, zero, suc, List, [], ◌∷◌, �
 use Rattle.std.proofs.lemmas.List.{take_all, drop_all}
 use Rattle.std.proofs.lemmas.Option.{same_Some, slice_get_within, slice_get-get_or}
 use Rattle.shared_pipeline.specs.declared.standing.Standing.{Standing}
-use Rattle.shared_pipeline.specs.Meeting.{HasSeenAll, StaysOn, StayOn, StaysOnBeside, MeetsEach, HaveMet}
+use Rattle.shared_pipeline.specs.Meeting.{HasSeenAll, StaysOn, StayOn, StaysOnBeside, MeetsEach, ShareSeen}
 use Rattle.shared_pipeline.proofs.MeetsEach.{stays_both, seen_all_both, stays_seen}
 
 -- What holds of a list by its first and its rest, as they were and as they are, holds of the list that they were written back to.
@@ -15,6 +15,14 @@ over_written P all first rest n first' rest' parts count same holds =
     let whole : rest' ++ drop (suc (length rest')) all ≡ rest' = ap (λ l. rest' ++ l) past ∙ append-nil rest' in
     let back = ap (λ l. take n (first' ∷ l)) whole ∙ take_all n (first' ∷ rest') (omega (arith, count, ap length parts, same)) in
     subst (P all) (sym back) (subst (λ l. P l (first' ∷ rest')) (sym parts) holds)
+
+-- What holds of a list holds of the whole list that it was written back to.
+pub refilled : (P : List Standing → Type 0) (all new : List Standing) (n : ℕ) → n ≡ length all → length new ≡ length all → P new
+    → P (take n (new ++ drop (length new) all))
+refilled P all new n count same holds =
+    let past : drop (length new) all ≡ [] = drop_all (length new) all (omega (arith, same)) in
+    let whole : new ++ drop (length new) all ≡ new = ap (λ l. new ++ l) past ∙ append-nil new in
+    subst P (sym (ap (take n) whole ∙ take_all n new (omega (arith, count, same)))) holds
 
 -- All are what they were, and have seen no less.
 pub stay_beside : (a : Standing) (xs : List Standing) (b : Standing) (ys : List Standing) → StaysOnBeside a xs b ys → StayOn (a ∷ xs) (b ∷ ys)
@@ -46,8 +54,8 @@ module _ (a : Standing) (xs : List Standing) (b : Standing) (ys : List Standing)
   told g zero s' at = subst (HasSeenAll b) (same_Some c s' at) (stays_seen b c g.beside.stays)
   told g (suc j) s' at = g.tells j s' at
 
-  pub have_met : MeetsEach a xs b ys → MeetsEach b ys c zs → HaveMet (a ∷ xs) (c ∷ zs)
-  have_met f g = record {
+  pub share_seen : MeetsEach a xs b ys → MeetsEach b ys c zs → ShareSeen (a ∷ xs) (c ∷ zs)
+  share_seen f g = record {
     stay = stay_beside a xs c zs (beside_both f.beside g.beside);
     each_other = λ i j o s' at at'. seen_all_both o b s' (heard f i o at) (told g j s' at');
   }

@@ -50,10 +50,10 @@ on_call v v' within on = record {
 }
 
 -- A desk is idle still once its seat has seen more, and holds what it held.
-pub stays_idle : (table : TableId) (opening : Opening) (seat seat' : TableId) (v v' : View) (own own' dead dead' : ℕ)
-    → IsIdleDesk table opening seat v own dead → seat' ≡ seat → SeatGoesOn v v' → v'.seat.held ≡ v.seat.held → own' ≡ own → dead' ≡ dead
-    → IsIdleDesk table opening seat' v' own' dead'
-stays_idle table opening seat seat' v v' own own' dead dead' desk same on held own_same dead_same = record {
+pub stays_idle : (table : TableId) (opening : Opening) (seat seat' : TableId) (v v' : View) (own own' dead dead' told told' : ℕ)
+    → IsIdleDesk table opening seat v own dead told → seat' ≡ seat → SeatGoesOn v v' → v'.seat.held ≡ v.seat.held → own' ≡ own
+    → dead' ≡ dead → told' ≡ told → IsIdleDesk table opening seat' v' own' dead' told'
+stays_idle table opening seat seat' v v' own own' dead dead' told told' desk same on held own_same dead_same told_same = record {
   of_table = same ∙ desk.of_table;
   base = on.base ∙ desk.base;
   idle = (held ∙ desk.idle.0, on.turn ∙ desk.idle.1);
@@ -61,4 +61,5 @@ stays_idle table opening seat seat' v v' own own' dead dead' desk same on held o
   within = on.within;
   own_part = own_same ∙ desk.own_part;
   dead_part = dead_same ∙ desk.dead_part;
+  told_part = told_same ∙ desk.told_part;
 }

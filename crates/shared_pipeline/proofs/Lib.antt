@@ -13,6 +13,7 @@ mod TellsRead
 mod Meets
 mod MeetsEach
 mod HaveMet
+mod HearDeaths
 mod TakesAllBack
 mod Finishes
 mod IsShared

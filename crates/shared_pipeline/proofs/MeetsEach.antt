@@ -7,19 +7,19 @@ use Rattle.shared_pipeline.specs.Meeting.{HasSeenAll, StaysOn, StayOn, StaysOnBe
 
 pub same_stays : (s : Standing) → StaysOn s s
 same_stays s = record {
-  idles = record { goes_on = record { seen = λ k b at. at; acked = le_refl s.acked }; own = refl };
+  goes_on = record { seen = λ k b at. at; acked = le_refl s.acked; told = le_refl s.told };
+  own = refl;
   dead = refl;
 }
 
 pub stays_both : (a b c : Standing) → StaysOn a b → StaysOn b c → StaysOn a c
 stays_both a b c f g = record {
-  idles = record {
-    goes_on = record {
-      seen = λ k x at. g.idles.goes_on.seen k x (f.idles.goes_on.seen k x at);
-      acked = le_trans f.idles.goes_on.acked g.idles.goes_on.acked;
-    };
-    own = g.idles.own ∙ f.idles.own;
+  goes_on = record {
+    seen = λ k x at. g.goes_on.seen k x (f.goes_on.seen k x at);
+    acked = le_trans f.goes_on.acked g.goes_on.acked;
+    told = le_trans f.goes_on.told g.goes_on.told;
   };
+  own = g.own ∙ f.own;
   dead = g.dead ∙ f.dead;
 }
 
@@ -28,7 +28,7 @@ pub seen_all_both : (a b c : Standing) → HasSeenAll a b → HasSeenAll b c →
 seen_all_both a b c f g = record { seen = λ k x at. g.seen k x (f.seen k x at); acked = le_trans f.acked g.acked }
 
 pub stays_seen : (a b : Standing) → StaysOn a b → HasSeenAll a b
-stays_seen a b f = record { seen = f.idles.goes_on.seen; acked = f.idles.goes_on.acked }
+stays_seen a b f = record { seen = f.goes_on.seen; acked = f.goes_on.acked }
 
 -- One session has met the first n of the others.
 pub record MeetsFirst (one : Standing) (others : List Standing) (one' : Standing) (others' : List Standing) (n : ℕ) : Type 0 where
@@ -61,12 +61,12 @@ meets_all one one' others others' n m all = record {
 }
 
 -- what stands in a list of which one element was set
-set_here : (xs : List Standing) (n : ℕ) (y : Standing) → n < length xs → slice_get (slice_set xs n y) n ≡ Some y
+pub set_here : (xs : List Standing) (n : ℕ) (y : Standing) → n < length xs → slice_get (slice_set xs n y) n ≡ Some y
 set_here [] n y within = absurd (omega (arith, within))
 set_here (x ∷ xs) zero y within = refl
 set_here (x ∷ xs) (suc n) y within = set_here xs n y (omega (arith, within))
 
-set_else : (xs : List Standing) (n i : ℕ) (y : Standing) → i ≢ n → slice_get (slice_set xs n y) i ≡ slice_get xs i
+pub set_else : (xs : List Standing) (n i : ℕ) (y : Standing) → i ≢ n → slice_get (slice_set xs n y) i ≡ slice_get xs i
 set_else [] n i y other = refl
 set_else (x ∷ xs) zero zero y other = absurd (other refl)
 set_else (x ∷ xs) zero (suc i) y other = refl

@@ -37,10 +37,13 @@ seen_longer v v' history published k b at =
     at_take v'.seat.published k v'.history b (omega (arith, here.0, published)) (history k b here.1)
 
 -- A seat that has seen more gives a standing that goes on.
-pub seen_more : (v v' : View) (dead dead' : ℕ) → IsPrefix v.history v'.history → v.seat.published ≤ v'.seat.published
-    → v.seat.acked ≤ v'.seat.acked → SeesOn (standing v dead) (standing v' dead')
-seen_more v v' dead dead' history published acked = record { seen = seen_longer v v' history published; acked = acked }
+pub seen_more : (v v' : View) (dead dead' told told' : ℕ) → IsPrefix v.history v'.history → v.seat.published ≤ v'.seat.published
+    → v.seat.acked ≤ v'.seat.acked → told' ≡ told → SeesOn (standing v dead told) (standing v' dead' told')
+seen_more v v' dead dead' told told' history published acked same =
+    record { seen = seen_longer v v' history published; acked = acked; told = omega (arith, same) }
 
--- And where its own batches are the same, the standing idles.
-pub idles_on : (v v' : View) (dead dead' : ℕ) → SeatGoesOn v v' → Idles (standing v dead) (standing v' dead')
-idles_on v v' dead dead' on = record { goes_on = seen_more v v' dead dead' on.history on.published on.acked; own = on.own }
+-- And where its own batches are the same, and it was told of no death, the standing idles.
+pub idles_on : (v v' : View) (dead dead' told told' : ℕ) → SeatGoesOn v v' → told' ≡ told
+    → Idles (standing v dead told) (standing v' dead' told')
+idles_on v v' dead dead' told told' on same =
+    record { goes_on = seen_more v v' dead dead' told told' on.history on.published on.acked same; own = on.own; told = same }

@@ -2,7 +2,7 @@
 use Rattle.std.proofs.Common.{◌≡◌, ℕ, ◌+◌, ◌<◌, ◌≤◌, List, length, Option, None, ⊎_elim, le_refl, refl, ap, sym, ◌∙◌, subst, arith}
 use Rattle.std.proofs.lemmas.Bool.{cases_lt}
 use Rattle.wal_base.specs.declared.entry.Entry.{Entry}
-use Rattle.batch_repr.specs.declared.limits.TheConstants.{NUMBER_MAX}
+use Rattle.batch_repr.specs.declared.limits.TheConstants.{NUMBER_MAX, BATCHES_MAX}
 use Rattle.batch_repr.specs.Batches.{count_of}
 use Rattle.publish_core.specs.declared.seat.Kind.TheVariants.{Note}
 use Rattle.publish_core.specs.Machine.{ends, both_held}
@@ -47,8 +47,8 @@ no_more_published v v1 v' r next n sees shows low = ⊎_elim
 
 -- The numbers are used up behind all that was shown.
 pub shows_exhausted : (entries : List Entry) (v v1 v' : View) (r next n : ℕ) → SeesVisible v r v1 → r ≤ next → ShowsMany n next v1 v'
-    → NUMBER_MAX < next + count_of entries → ShowsExhausted entries next v v'
-shows_exhausted entries v v1 v' r next n sees low shows over = record {
+    → n < BATCHES_MAX → NUMBER_MAX < next + count_of entries → ShowsExhausted entries next v v'
+shows_exhausted entries v v1 v' r next n sees low shows few over = record {
   placed = n;
   shows = record {
     goes_on = on_both v v1 v' (seat_saw v v1 r sees) shows.goes_on;
@@ -57,5 +57,6 @@ shows_exhausted entries v v1 v' r next n sees low shows over = record {
     end_is = shows.end_is;
   };
   no_fewer = omega (arith, (seat_saw v v1 r sees).published, no_more_published v v1 v' r next n sees shows low);
+  few = few;
   over = over;
 }

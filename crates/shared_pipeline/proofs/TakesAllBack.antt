@@ -7,7 +7,7 @@ use Rattle.commit_queue.specs.Calls.{TakesBack}
 use Rattle.commit_queue.specs.Rule.{IsPrefix}
 use Rattle.shared_pipeline.specs.declared.standing.Standing.{Standing}
 use Rattle.shared_pipeline.specs.Standings.{seen_of, standing}
-use Rattle.shared_pipeline.specs.Ending.{TakesAllBack, owned, all_dead}
+use Rattle.shared_pipeline.specs.Ending.{TakesAllBack, owned, all_deaths}
 use Rattle.shared_pipeline.specs.Ties.{IsSpare}
 use Rattle.shared_pipeline.proofs.Seen.{take_at}
 
@@ -26,9 +26,9 @@ takes_none_back p = record {
   acked = λ s has. absurd (omega (arith, has.1));
 }
 
-pub takes_next_back : (p m w p' : View) (dead : ℕ) (ss : List Standing) → TakesAllBack p ss m → TakesBack m w p'
-    → TakesAllBack p (standing w dead ∷ ss) p'
-takes_next_back p m w p' dead ss all next = record {
+pub takes_next_back : (p m w p' : View) (dead told : ℕ) (ss : List Standing) → TakesAllBack p ss m → TakesBack m w p'
+    → TakesAllBack p (standing w dead told ∷ ss) p'
+takes_next_back p m w p' dead told ss all next = record {
   history = next.history ∙ all.history;
   base = next.base ∙ all.base;
   own = next.own ∙ ap (λ l. l ++ w.seat.own) all.own ∙ append_assoc p.seat.own (owned ss) w.seat.own;
@@ -36,11 +36,11 @@ takes_next_back p m w p' dead ss all next = record {
   seen = λ s has. ⊎_elim
       (λ e. subst (λ x. IsPrefix x.seen p.history) e seen_first)
       (all.seen s)
-      (front_or_behind (standing w dead) s ss has);
+      (front_or_behind (standing w dead told) s ss has);
   acked = λ s has. ⊎_elim
       (λ e. subst (λ x. x.acked ≤ p'.seat.acked) e (omega (arith, next.acked)))
       (λ behind. let before = all.acked s behind in omega (arith, next.acked))
-      (front_or_behind (standing w dead) s ss has);
+      (front_or_behind (standing w dead told) s ss has);
 }
   where
     seen_first : IsPrefix (seen_of w) p.history
@@ -53,8 +53,8 @@ pub record Gathers (every left : List Standing) (p p' : View) (own_parts own dea
   pub back : TakesAllBack p done p'
   pub own_parts_are : own_parts ≡ length done
   pub own_is : own ≡ length (owned done)
-  pub dead_parts_are : dead_parts ≡ length done
-  pub dead_is : dead ≡ all_dead done
+  pub dead_parts_are : dead_parts ≡ length done + length done
+  pub dead_is : dead ≡ all_deaths done
 
 pub gathers_none : (every : List Standing) (p : View) (own_parts own dead_parts dead : ℕ) → IsSpare own_parts own → IsSpare dead_parts dead
     → Gathers every every p p own_parts own dead_parts dead
@@ -68,15 +68,15 @@ gathers_none every p own_parts own dead_parts dead spare spare_too = record {
   dead_is = spare_too.1;
 }
 
--- The last of those that are left is gathered, which has a part of each ledger.
-module _ (every left rest : List Standing) (p m w p' : View) (died own_parts own dead_parts dead own_parts' own' dead_parts' dead' : ℕ) where
-  pub gathers_next : left ≡ rest ++ standing w died ∷ [] → own_parts' ≡ own_parts + 1 → own' ≡ own + length w.seat.own
-      → dead_parts' ≡ dead_parts + 1 → dead' ≡ dead + died → Gathers every left p m own_parts own dead_parts dead → TakesBack m w p'
+-- The last of those that are left is gathered, which has a part of the one ledger, and two of the other.
+module _ (every left rest : List Standing) (p m w p' : View) (died told own_parts own dead_parts dead own_parts' own' dead_parts' dead' : ℕ) where
+  pub gathers_next : left ≡ rest ++ standing w died told ∷ [] → own_parts' ≡ own_parts + 1 → own' ≡ own + length w.seat.own
+      → dead_parts' ≡ dead_parts + 1 + 1 → dead' ≡ dead + died + told → Gathers every left p m own_parts own dead_parts dead → TakesBack m w p'
       → Gathers every rest p p' own_parts' own' dead_parts' dead'
   gathers_next last one more one_too died_more g next = record {
-    done = standing w died ∷ g.done;
-    split = g.split ∙ ap (λ l. l ++ g.done) last ∙ append_assoc rest (standing w died ∷ []) g.done;
-    back = takes_next_back p m w p' died g.done g.back next;
+    done = standing w died told ∷ g.done;
+    split = g.split ∙ ap (λ l. l ++ g.done) last ∙ append_assoc rest (standing w died told ∷ []) g.done;
+    back = takes_next_back p m w p' died told g.done g.back next;
     own_parts_are = omega (arith, g.own_parts_are);
     own_is = omega (arith, g.own_is, length-append (owned g.done) w.seat.own);
     dead_parts_are = omega (arith, g.dead_parts_are);
@@ -86,14 +86,14 @@ module _ (every left rest : List Standing) (p m w p' : View) (died own_parts own
 -- All of them are.
 pub gathers_all : (every left : List Standing) (p p' : View) (own_parts own dead_parts dead : ℕ) → length left ≡ 0
     → Gathers every left p p' own_parts own dead_parts dead
-    → TakesAllBack p every p' × (own_parts ≡ length every) × (own ≡ length (owned every)) × (dead_parts ≡ length every)
-    × (dead ≡ all_dead every)
+    → TakesAllBack p every p' × (own_parts ≡ length every) × (own ≡ length (owned every)) × (dead_parts ≡ length every + length every)
+    × (dead ≡ all_deaths every)
 gathers_all every [] p p' own_parts own dead_parts dead none g =
     let same = sym g.split in (
       subst (λ ss. TakesAllBack p ss p') same g.back,
       g.own_parts_are ∙ ap length same,
       g.own_is ∙ ap (λ ss. length (owned ss)) same,
-      g.dead_parts_are ∙ ap length same,
-      g.dead_is ∙ ap all_dead same,
+      g.dead_parts_are ∙ ap (λ ss. length ss + length ss) same,
+      g.dead_is ∙ ap all_deaths same,
     )
 gathers_all every (s ∷ left) p p' own_parts own dead_parts dead none g = absurd (omega (arith, none))

@@ -103,29 +103,33 @@ module _ (v v1 w : View) (visible : ℕ) (saw : SeesVisible v visible v1) (same 
   }
 
   -- It is a session still.
-  pub session_read : (table : TableId) (opening : Opening) (seat seat' : TableId) (k own_parts own dead_parts : ℕ) (versions : List Version) (w' : View)
-      → IsSession table opening seat v own_parts own dead_parts → seat' ≡ seat → w.pieces ≡ v.pieces → w' ≡ given_view (taking_view w k versions)
-      → IsSession table opening seat' w' own_parts own dead_parts
-  session_read table opening seat seat' k own_parts own dead_parts versions w' session same_table pieces is =
-      session_on table opening seat seat' v w' own_parts own_parts own own dead_parts dead_parts session same_table
+  pub session_read : (table : TableId) (opening : Opening) (seat seat' : TableId) (k own_parts own dead_parts told_parts : ℕ)
+      (versions : List Version) (w' : View) → IsSession table opening seat v own_parts own dead_parts told_parts → seat' ≡ seat
+      → w.pieces ≡ v.pieces → w' ≡ given_view (taking_view w k versions) → IsSession table opening seat' w' own_parts own dead_parts told_parts
+  session_read table opening seat seat' k own_parts own dead_parts told_parts versions w' session same_table pieces is =
+      session_on table opening seat seat' v w' own_parts own_parts own own dead_parts dead_parts told_parts told_parts session same_table
       (read_on k versions w' session.idle.1 pieces is)
-      (ap (λ (x : View). x.seat.held) is ∙ ap (λ (x : View). x.seat.held) same_seen ∙ session.idle.0) refl refl refl
+      (ap (λ (x : View). x.seat.held) is ∙ ap (λ (x : View). x.seat.held) same_seen ∙ session.idle.0) refl refl refl refl
 
   -- The value is what the store answers after all that is seen then.
-  pub answers_read : (opening : Opening) (key : List ℕ) (value : Option (List ℕ)) (w' : View) (dead : ℕ) → v.base ≡ opening.journal.next
+  pub answers_read : (opening : Opening) (key : List ℕ) (value : Option (List ℕ)) (w' : View) (dead told : ℕ) → v.base ≡ opening.journal.next
       → AreShardsOf v.opening opening.base → EndsBefore opening.base opening.journal.next → ReadsNewest w key visible value w'
-      → TellsRead opening key (record { visible = visible; value = value }) (standing v dead) (standing w' dead)
-  answers_read opening key value w' dead base are before read =
-      subst (TellsRead opening key (record { visible = visible; value = value }) (standing v dead)) (sym stands) record {
-        idles = record { goes_on = seen_more v (visible_view v saw.count saw.history) dead dead saw.grew.0 saw.published (le_refl v.seat.acked); own = refl };
+      → TellsRead opening key (record { visible = visible; value = value }) (standing v dead told) (standing w' dead told)
+  answers_read opening key value w' dead told base are before read =
+      subst (TellsRead opening key (record { visible = visible; value = value }) (standing v dead told)) (sym stands) record {
+        idles = record {
+          goes_on = seen_more v (visible_view v saw.count saw.history) dead dead told told saw.grew.0 saw.published (le_refl v.seat.acked) refl;
+          own = refl;
+          told = refl;
+        };
         dead = refl;
         visible = seen_end opening saw.history saw.count visible before row saw.grew.1 end_is;
         value = read.value_is ∙ answers_whole opening saw.history saw.count visible before row saw.grew.1 end_is v.opening read.versions key
             read.found are shows read.finds;
       }
     where
-      stands : standing w' dead ≡ standing (visible_view v saw.count saw.history) dead
-      stands = ap (λ (x : View). standing x dead) read.view ∙ ap (λ (x : View). standing x dead) same_seen
+      stands : standing w' dead told ≡ standing (visible_view v saw.count saw.history) dead told
+      stands = ap (λ (x : View). standing x dead told) read.view ∙ ap (λ (x : View). standing x dead told) same_seen
 
       row : IsContiguous opening.journal.next saw.history
       row = subst (λ (n : ℕ). IsContiguous n saw.history) base saw.row

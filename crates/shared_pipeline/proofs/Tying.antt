@@ -75,6 +75,11 @@ module _ {tells : Bool} {table : TableId} {opening : Opening} where
       flushes = subst (λ (x : View). Flushes tells table opening x.history state v flush f answers) (sym read.1) tied.flushes;
     }
 
+    -- the book was audited
+    pub tied_audited : (answers' : ℕ) → answers' ≡ answers → IsTied tells table opening state v producer p flush f batches answers'
+    tied_audited answers' same =
+        subst (λ (n : ℕ). IsTied tells table opening state v producer p flush f batches n) (sym same) tied
+
     -- an answer told that the journal is dead
     pub tied_dead : (mark : DeadMark) (answers' : ℕ) → state.dead ≡ Some mark
         → IsTied tells table opening state v producer p flush f batches answers'
@@ -135,11 +140,11 @@ module _ {tells : Bool} {table : TableId} {opening : Opening} where
     }
 
     -- a batch was entered
-    pub tied_entered : (batch : Batch) (producer' : TableId) (p' : View) (new : State) (w : DiskView) (batches' : ℕ) → producer' ≡ producer
-        → AwaitsBatch p' new.next (len new) → Appends batch p p' → LogsRecord tells batch state new v w → state.dead ≡ None
+    pub tied_entered : (batch : Batch) (sync : Bool) (producer' : TableId) (p' : View) (new : State) (w : DiskView) (batches' : ℕ) → producer' ≡ producer
+        → AwaitsBatch p' new.next (len new) → Appends batch p p' → LogsRecord tells batch sync state new v w → state.dead ≡ None
         → end_of batch ≤ NUMBER_MAX → len state < BATCHES_MAX → batches' ≡ batches + 1
         → IsTied tells table opening new w producer' p' flush f batches' answers
-    tied_entered batch producer' p' new w batches' same awaits appends adds lives within few counts = record {
+    tied_entered batch sync producer' p' new w batches' same awaits appends adds lives within few counts = record {
       enrols = record {
         of_table = same ∙ tied.enrols.of_table;
         base = appends.base ∙ tied.enrols.base;

@@ -15,7 +15,7 @@ use Rattle.commit_pipeline.specs.declared.fault.Reply.{Reply}
 use Rattle.commit_pipeline.specs.Holding.{Opening}
 use Rattle.shared_pipeline.specs.declared.standing.Standing.{Standing}
 use Rattle.shared_pipeline.specs.Numbering.{numbered}
-use Rattle.shared_pipeline.specs.Standings.{Idles, GainsOwn}
+use Rattle.shared_pipeline.specs.Standings.{KnowsDeath, Idles, GainsOwn}
 
 -- the end of the n-th batch after the base
 abbrev pub end_at : Opening → List Batch → ℕ → ℕ
@@ -25,11 +25,12 @@ end_at opening batches n = ends numbers opening.journal.next batches n
 abbrev pub TellsDeath : Side → ℕ → Type 0
 TellsDeath side faults = (side ≡ Secondary) × (1 ≤ faults)
 
--- The batch is committed with these numbers: it is the session's own, and seen published.
+-- The batch is committed with these numbers: it is the session's own, and seen published. The session knew of no death.
 pub record Commits (entries : List Entry) (first count : ℕ) (s s' : Standing) : Type 0 where
   pub place : ℕ
   pub gains : GainsOwn (numbered entries first) place s s'
   pub count_is : count ≡ count_of entries
+  pub lives : KnowsDeath s → ⊥
 
 -- It is that, and was seen acked where a sync was asked for.
 pub record CommitsWell (entries : List Entry) (sync : Bool) (c : Committed) (s s' : Standing) : Type 0 where
@@ -38,10 +39,11 @@ pub record CommitsWell (entries : List Entry) (sync : Bool) (c : Committed) (s s
   pub synced : c.synced ≡ sync
   pub acked : IsTrue sync → commits.place < s'.acked
 
--- The numbers are used up behind n batches that the session has seen, no fewer than it had seen before.
+-- The numbers are used up behind n batches that the session has seen, fewer than there may be and no fewer than it had seen before.
 pub record SeesExhausted (opening : Opening) (entries : List Entry) (next : ℕ) (s s' : Standing) : Type 0 where
   pub placed : ℕ
   pub no_fewer : length s.seen ≤ placed
+  pub few : placed < BATCHES_MAX
   pub seen : placed ≤ length s'.seen
   pub next_is : next ≡ end_at opening s'.seen placed
   pub over : NUMBER_MAX < next + count_of entries
@@ -51,14 +53,18 @@ abbrev pub TellsCommit : Opening → List Entry → Bool → Standing → Result
 TellsCommit opening entries sync s (Ok c) s' = CommitsWell entries sync c s s'
 TellsCommit opening entries sync s (Err (fault.Dead side faults)) s' = Idles s s' × (s'.dead ≡ s.dead + 1) × TellsDeath side faults
 TellsCommit opening entries sync s (Err (fault.TooManyBatches count)) s' =
-    Idles s s' × (s'.dead ≡ s.dead) × (count ≡ BATCHES_MAX) × (length s'.seen ≡ BATCHES_MAX)
+    Idles s s' × (s'.dead ≡ s.dead) × (KnowsDeath s → ⊥) × (count ≡ BATCHES_MAX) × (length s'.seen ≡ BATCHES_MAX)
 TellsCommit opening entries sync s (Err (fault.SeqExhausted next)) s' =
-    Idles s s' × (s'.dead ≡ s.dead) × SeesExhausted opening entries next s s'
+    Idles s s' × (s'.dead ≡ s.dead) × (KnowsDeath s → ⊥) × SeesExhausted opening entries next s s'
 TellsCommit opening entries sync s (Err fault.NoMemory) s' = Idles s s' × (s'.dead ≡ s.dead)
 TellsCommit opening entries sync s (Err (fault.Unsynced first count side faults)) s' =
     Commits entries first count s s' × (s'.dead ≡ s.dead + 1) × IsTrue sync × TellsDeath side faults
 TellsCommit opening entries sync s (Err (fault.NoMemorySync first count)) s' =
     Commits entries first count s s' × (s'.dead ≡ s.dead) × IsTrue sync
+
+-- A read that has no memory adds nothing.
+abbrev pub MissesRead : Standing → Standing → Type 0
+MissesRead s s' = Idles s s' × (s'.dead ≡ s.dead)
 
 -- A read answers after all that the session has then seen: what the store answers, and the number after it.
 pub record TellsRead (opening : Opening) (key : List ℕ) (reply : Reply) (s s' : Standing) : Type 0 where

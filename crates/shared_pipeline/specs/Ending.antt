@@ -9,6 +9,7 @@ use Rattle.commit_queue.specs.declared.view.View.{View}
 use Rattle.commit_queue.specs.Rule.{IsPrefix}
 use Rattle.commit_pipeline.specs.Holding.{Opening, IsOpened, KeepsJournal}
 use Rattle.shared_pipeline.specs.declared.standing.Standing.{Standing}
+use Rattle.shared_pipeline.specs.Standings.{KnowsDeath}
 use Rattle.shared_pipeline.specs.Commits.{end_at}
 
 -- the places that the sessions call their own
@@ -16,10 +17,10 @@ abbrev pub owned : List Standing → List ℕ
 owned [] = []
 owned (s ∷ ss) = owned ss ++ s.own
 
--- how many of their commits were answered that the journal is dead
-abbrev pub all_dead : List Standing → ℕ
-all_dead [] = 0
-all_dead (s ∷ ss) = all_dead ss + s.dead
+-- how many of their commits, and of their meetings, told that the journal is dead
+abbrev pub all_deaths : List Standing → ℕ
+all_deaths [] = 0
+all_deaths (s ∷ ss) = all_deaths ss + (s.dead + s.told)
 
 -- The n places below n are the sessions' own, each once: so many are named, and each is among them.
 pub record EachOnce (n : ℕ) (places : List ℕ) : Type 0 where
@@ -27,7 +28,7 @@ pub record EachOnce (n : ℕ) (places : List ℕ) : Type 0 where
   pub each : (i : ℕ) → i < n → Among i places
 
 -- The journal holds these batches since the opening, and they are within both limits. What each session has seen is a prefix of
--- them, each of them is one session's own, once, and each that a session has seen acked is. A session was told of a death only where
+-- them, each of them is one session's own, once, and each that a session has seen acked is. A session knows of a death only where
 -- the journal is dead.
 pub record Finishes (tells : Bool) (opening : Opening) (batches : List Batch) (ss : List Standing) (state : State) (v : DiskView)
     (visible count : ℕ) : Type 0 where
@@ -36,7 +37,7 @@ pub record Finishes (tells : Bool) (opening : Opening) (batches : List Batch) (s
   pub seen : (s : Standing) → Contains ss s → IsPrefix s.seen batches
   pub own : EachOnce (length batches) (owned ss)
   pub acked_is : (s : Standing) → Contains ss s → s.acked ≤ acked state
-  pub dead : (s : Standing) → Contains ss s → 0 < s.dead → state.dead ≢ None
+  pub dead : (s : Standing) → Contains ss s → KnowsDeath s → state.dead ≢ None
   pub visible_is : visible ≡ end_at opening batches (length batches)
   pub count_is : count ≡ length batches
   pub small : visible ≤ NUMBER_MAX

@@ -7,10 +7,12 @@ use Rattle.batch_repr.specs.declared.batch.Batch.{Batch}
 use Rattle.batch_repr.specs.declared.limits.TheConstants.{NUMBER_MAX, BATCHES_MAX}
 use Rattle.batch_repr.specs.Batches.{count_of, end_of}
 use Rattle.disk_face.specs.View.{DiskView}
-use Rattle.failover_writer.specs.State.{State, len, acked}
+use Rattle.failover_writer.specs.State.{State, JournalView, len, acked}
+use Rattle.failover_writer.specs.Moves.{Pushes}
 use Rattle.publish_core.specs.Machine.{ends}
 use Rattle.commit_queue.specs.declared.view.View.{View}
 use Rattle.commit_pipeline.specs.Holding.{Opening, KeepsJournal, IsDeadBy}
+use Rattle.commit_pipeline.specs.Committing.{LogsBatch}
 use Rattle.commit_queue.specs.Rule.{IsPrefix, numbers}
 use Rattle.shared_pipeline.specs.declared.lock.Numbering.{Numbering}
 use Rattle.shared_pipeline.specs.declared.lock.Numbering.TheVariants as case
@@ -47,11 +49,12 @@ pub record ShowsMany (n next : ℕ) (v v' : View) : Type 0 where
   pub many : n ≤ length v'.history
   pub end_is : next ≡ ends numbers v'.base v'.history n
 
--- The batch would end past the numbers, behind n batches, which are no fewer than the seat had seen published.
+-- The batch would end past the numbers, behind n batches, fewer than there may be and no fewer than the seat had seen published.
 pub record ShowsExhausted (entries : List Entry) (next : ℕ) (v v' : View) : Type 0 where
   pub placed : ℕ
   pub shows : ShowsMany placed next v v'
   pub no_fewer : v.seat.published ≤ placed
+  pub few : placed < BATCHES_MAX
   pub over : NUMBER_MAX < next + count_of entries
 
 -- The producer's seat has read the slot at head last, as 0.
@@ -67,8 +70,11 @@ pub record Appends (batch : Batch) (v v' : View) : Type 0 where
   pub own : v'.seat.own ≡ v.seat.own
   pub turn : v'.seat.turn ≡ v.seat.turn
 
--- The journal holds what it held since any opening, and the batch after it.
-pub record LogsRecord (tells : Bool) (batch : Batch) (old new : State) (before after : DiskView) : Type 0 where
+-- The batch was pushed, with a sync or without one, and nothing was written: the journal holds what it held since any opening, and
+-- the batch after it.
+pub record LogsRecord (tells : Bool) (batch : Batch) (sync : Bool) (old new : State) (before after : DiskView) : Type 0 where
+  pub pushes : Pushes batch sync old new
+  pub same_disk : after ≡ before
   pub holds : (opening : Opening) (batches : List Batch) → KeepsJournal tells opening batches old before
       → KeepsJournal tells opening (batches ++ batch ∷ []) new after
   pub lives : new.dead ≡ None
@@ -94,6 +100,12 @@ CausesNumbering entries state (case.TooMany next) = (state.dead ≡ None) × (le
 CausesNumbering entries state (case.Exhausted next) = (state.dead ≡ None) × (len state < BATCHES_MAX) × (next ≡ state.next)
     × (NUMBER_MAX < next + count_of entries)
 CausesNumbering entries state case.NoMemory = state.dead ≡ None
+
+-- A batch that is numbered was pushed, with a sync or without one, and then the journal was stepped as long as a step moved.
+abbrev pub LogsWhereNumbered : {Disk : Type 0} → (Disk → DiskView) → List Entry → Bool → JournalView Disk → JournalView Disk → Numbering → Type 0
+LogsWhereNumbered view entries sync old new (case.Done first index) =
+    LogsBatch entries sync old.state new.state (view old.disk) (view new.disk)
+LogsWhereNumbered view entries sync old new _ = Unit {0}
 
 -- The numbers are used up behind this one, or the batch comes back.
 abbrev pub IsExhausted : ℕ → Numbering → Type 0

@@ -37,10 +37,19 @@ abbrev pub deaths_refused : Result (ℕ × ℕ) Refusal → ℕ
 deaths_refused (Err (refused.Dead mark)) = 1
 deaths_refused _ = 0
 
--- The numbers are used up behind n published batches, no fewer than the seat had seen published.
+-- A number, or a limit, is told only where so many deaths are known of: none.
+abbrev pub NumbersLiving : ℕ → Result (ℕ × ℕ) Refusal → Type 0
+NumbersLiving known (Ok done) = known ≡ 0
+NumbersLiving known (Err (refused.Dead mark)) = Unit {0}
+NumbersLiving known (Err (refused.TooMany next)) = known ≡ 0
+NumbersLiving known (Err (refused.Exhausted next)) = known ≡ 0
+NumbersLiving known (Err refused.NoMemory) = Unit {0}
+
+-- The numbers are used up behind n published batches, fewer than there may be and no fewer than the seat had seen published.
 pub record PublishesExhausted (entries : List Entry) (next : ℕ) (v v' : View) : Type 0 where
   pub placed : ℕ
   pub no_fewer : v.seat.published ≤ placed
+  pub few : placed < BATCHES_MAX
   pub published : placed ≤ v'.seat.published
   pub next_is : next ≡ ends numbers v'.base v'.history placed
   pub over : NUMBER_MAX < next + count_of entries
@@ -63,6 +72,13 @@ numbers_started (Err told) = 0
 abbrev pub deaths_started : Result (ℕ × ℕ) CommitFault → ℕ
 deaths_started (Err (fault.Dead side faults)) = 1
 deaths_started _ = 0
+
+-- So it is of the start of a commit.
+abbrev pub StartsLiving : ℕ → Result (ℕ × ℕ) CommitFault → Type 0
+StartsLiving known (Ok done) = known ≡ 0
+StartsLiving known (Err (fault.TooManyBatches count)) = known ≡ 0
+StartsLiving known (Err (fault.SeqExhausted next)) = known ≡ 0
+StartsLiving known _ = Unit {0}
 
 -- The batch that the seat holds ends at this number.
 abbrev pub IsHeldEnd : View → ℕ → Type 0

@@ -1,8 +1,8 @@
 //! The end of a pipeline.
-ghost use Rattle.std.specs.Prelude.{◌≡◌, length, vec_len};
+ghost use Rattle.std.specs.Prelude.{◌≡◌, ◌+◌, length, vec_len};
 ghost use Rattle.commit_queue.specs.Tables.{table_id_of};
 ghost use Rattle.commit_queue.specs.Seats.{producer_table, producer_view};
-ghost use Rattle.shared_pipeline.specs.Ending.{EndsPipeline, TakesAllBack, owned, all_dead};
+ghost use Rattle.shared_pipeline.specs.Ending.{EndsPipeline, TakesAllBack, owned, all_deaths};
 ghost use Rattle.shared_pipeline.specs.Ties.{IsSpare};
 
 use crate::desk::Desk;
@@ -18,7 +18,7 @@ use std::sync::ledger::{Ledger, Share};
 impl<'a, D: Disk, G: Gate, N: PipeName, M: Ledger> Pipeline<'a, D, G, N, M> {
     /// Ends the pipeline with all its sessions, and tells what it came to. It takes no memory.
     pub fn finish(self, sessions: Sessions<N, M>) -> Finished<D>
-        requires all { (vec_len sessions ≡ N.parts) × (vec_len sessions ≡ M.parts) }
+        requires all { (vec_len sessions ≡ N.parts) × (vec_len sessions + vec_len sessions ≡ M.parts) }
         ensures { EndsPipeline D.tells D.view N.opening sessions.items result.journal result.visible result.batches }
     {
         let Locked {
@@ -57,7 +57,7 @@ fn gather<N: PipeName, M: Ledger>(
     ensures same { producer_table producer.new ≡ N.table }
     ensures back { TakesAllBack (producer_view producer.old) sessions.items (producer_view producer.new) }
     ensures own { (own.new.parts ≡ vec_len sessions) × (own.new.amount ≡ length (owned sessions.items)) }
-    ensures dead { (dead.new.parts ≡ vec_len sessions) × (dead.new.amount ≡ all_dead sessions.items) }
+    ensures dead { (dead.new.parts ≡ vec_len sessions + vec_len sessions) × (dead.new.amount ≡ all_deaths sessions.items) }
 {
     while let Some(session) = sessions.pop() {
         let Session { number: _, desk } = session;
@@ -65,9 +65,11 @@ fn gather<N: PipeName, M: Ledger>(
             seat,
             own: batches,
             dead: answers,
+            told: meetings,
         } = desk;
         table.retire(producer, seat);
         own.merge(batches);
         dead.merge(answers);
+        dead.merge(meetings);
     }
 }

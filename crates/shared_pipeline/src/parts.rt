@@ -43,7 +43,7 @@ pub struct Parts {
 }
 
 impl Model for Parts {
-    ghost use Rattle.std.specs.Prelude.{◌≡◌};
+    ghost use Rattle.std.specs.Prelude.{◌≡◌, ◌+◌};
     ghost use Rattle.commit_queue.specs.Tables.{table_id_of};
     ghost use Rattle.shared_pipeline.specs.Parts.{PartsView, FitTogether};
 
@@ -51,7 +51,7 @@ impl Model for Parts {
 
     ghost view = { λ p. record { base = p.base.value; next = p.next; sessions = p.batches.parts; table = table_id_of p.table; batches = p.batches.name; answers = p.answers.name } };
 
-    ghost invariant = { λ p. FitTogether p.base.value p.next p.batches.parts p.table p.producer p.flush p.seats × (p.answers.parts ≡ p.batches.parts) };
+    ghost invariant = { λ p. FitTogether p.base.value p.next p.batches.parts p.table p.producer p.flush p.seats × (p.answers.parts ≡ p.batches.parts + p.batches.parts) };
 }
 
 impl Parts {
@@ -75,7 +75,7 @@ impl Parts {
             flush,
             seats,
             batches: Blank::new(sessions as u64),
-            answers: Blank::new(sessions as u64),
+            answers: Blank::new(2 * sessions as u64),
         })
     }
 }
@@ -127,7 +127,7 @@ impl<'a, D: Disk, G: Gate, N: PipeName, M: Ledger> Pipeline<'a, D, G, N, M> {
         requires opening { N.opening ≡ opening_on D.view parts.base journal N.opening.may_stall }
         requires table { parts.table ≡ N.table }
         requires batches { (parts.batches ≡ N.name) × (parts.sessions ≡ N.parts) }
-        requires answers { (parts.answers ≡ M.name) × (parts.sessions ≡ M.parts) }
+        requires answers { (parts.answers ≡ M.name) × (parts.sessions + parts.sessions ≡ M.parts) }
         requires empty { len journal.state ≡ 0 }
         requires next { journal.state.next ≡ parts.next }
         ensures sessions { IfOk result (λ made. AreNew parts.sessions made.1.items) }
@@ -170,7 +170,7 @@ impl<'a, D: Disk, G: Gate, N: PipeName, M: Ledger> Pipeline<'a, D, G, N, M> {
     }
 }
 
-/// A session for each seat, with a part of each ledger.
+/// A session for each seat, with a part of the ledger of batches, and two of the other.
 fn seated<N: PipeName, M: Ledger>(
     alloc: Global,
     seats: SessionSeats,
@@ -180,7 +180,7 @@ fn seated<N: PipeName, M: Ledger>(
     requires seats { AreSeatsOf N.table N.opening seats }
     requires few { length seats ≤ SESSIONS_MAX }
     requires own { (own.old.parts ≡ length seats) × (own.old.amount ≡ 0) }
-    requires dead { (dead.old.parts ≡ length seats) × (dead.old.amount ≡ 0) }
+    requires dead { (dead.old.parts ≡ length seats + length seats) × (dead.old.amount ≡ 0) }
     ensures new { IfOk result (λ sessions. AreNew (length seats) sessions.items) }
     ensures own { OnOk result (IsSpare own.new.parts own.new.amount) }
     ensures dead { OnOk result (IsSpare dead.new.parts dead.new.amount) }
@@ -192,6 +192,7 @@ fn seated<N: PipeName, M: Ledger>(
             seat,
             own: own.split_off(1, 0),
             dead: dead.split_off(1, 0),
+            told: dead.split_off(1, 0),
         };
         sessions.push(Session::<N, M> { number, desk })?;
     }

@@ -5,13 +5,14 @@ ghost use Rattle.commit_queue.specs.Tables.{table_id_of};
 ghost use Rattle.commit_queue.specs.Calls.{HoldsUnapplied};
 ghost use Rattle.commit_queue.specs.Seats.{session_table, session_view};
 ghost use Rattle.shared_pipeline.specs.Commits.{TellsCommit};
-ghost use Rattle.shared_pipeline.specs.Desks.{IsDeskIdle, Raises, TellsFault};
+ghost use Rattle.shared_pipeline.specs.Desks.{IsDeskIdle, Raises, TellsFault, known};
 ghost use Rattle.shared_pipeline.specs.Desks.{deaths_stepped};
 ghost use Rattle.shared_pipeline.specs.Ending.{StillKeeps};
 ghost use Rattle.shared_pipeline.specs.Waits.{GetsNumber, StartsCommit, IsHeldEnd, PublishesHeld};
 ghost use Rattle.shared_pipeline.specs.Waits.{WaitsFor, IsUnsynced};
 ghost use Rattle.shared_pipeline.specs.Waits.{numbers_got, numbers_started, deaths_refused};
 ghost use Rattle.shared_pipeline.specs.Waits.{deaths_started, deaths_waited};
+ghost use Rattle.shared_pipeline.specs.Waits.{NumbersLiving, StartsLiving};
 
 use crate::desk::Desk;
 use crate::lock::{Locked, Numbering};
@@ -100,6 +101,8 @@ impl<'a, D: Disk, G: Gate, N: PipeName, M: Ledger> Pipeline<'a, D, G, N, M> {
         ensures started { StartsCommit N.opening batch (session_view desk.old.seat) result (session_view desk.new.seat) }
         ensures own { Raises desk.old.own (numbers_started result) desk.new.own }
         ensures dead { Raises desk.old.dead (deaths_started result) desk.new.dead }
+        ensures met { Raises desk.old.told 0 desk.new.told }
+        ensures lives { StartsLiving (known desk.old) result }
     {
         match self.take_number(rt, desk, batch, sync) {
             Ok(numbers) => Ok(numbers),
@@ -132,6 +135,8 @@ impl<'a, D: Disk, G: Gate, N: PipeName, M: Ledger> Pipeline<'a, D, G, N, M> {
         ensures taken { GetsNumber batch (session_view desk.old.seat) result (session_view desk.new.seat) }
         ensures own { Raises desk.old.own (numbers_got result) desk.new.own }
         ensures dead { Raises desk.old.dead (deaths_refused result) desk.new.dead }
+        ensures met { Raises desk.old.told 0 desk.new.told }
+        ensures lives { NumbersLiving (known desk.old) result }
     {
         let mut batch = batch;
         for _ in rt.forever() {
@@ -168,6 +173,7 @@ impl<'a, D: Disk, G: Gate, N: PipeName, M: Ledger> Pipeline<'a, D, G, N, M> {
         ensures same { session_table desk.new.seat ≡ session_table desk.old.seat }
         ensures own { desk.new.own ≡ desk.old.own }
         ensures dead { desk.new.dead ≡ desk.old.dead }
+        ensures met { desk.new.told ≡ desk.old.told }
         ensures published { PublishesHeld (session_view desk.old.seat) (session_view desk.new.seat) }
     {
         let seat = &mut desk.seat;
@@ -191,6 +197,7 @@ impl<'a, D: Disk, G: Gate, N: PipeName, M: Ledger> Pipeline<'a, D, G, N, M> {
         ensures waited { WaitsFor numbers (session_view desk.old.seat) result (session_view desk.new.seat) }
         ensures own { desk.new.own ≡ desk.old.own }
         ensures dead { Raises desk.old.dead (deaths_waited result) desk.new.dead }
+        ensures met { desk.new.told ≡ desk.old.told }
     {
         for _ in rt.forever() {
             if self.table.acked(&mut desk.seat) > numbers.index {

@@ -1,7 +1,6 @@
 //! Reads.
 ghost use Rattle.std.specs.Prelude.{IfOk, OnErr};
-ghost use Rattle.shared_pipeline.specs.Commits.{TellsRead};
-ghost use Rattle.shared_pipeline.specs.Meeting.{StaysOn};
+ghost use Rattle.shared_pipeline.specs.Commits.{TellsRead, MissesRead};
 
 use crate::name::PipeName;
 use crate::pipeline::Pipeline;
@@ -23,7 +22,7 @@ impl<'a, D: Disk, G: Gate, N: PipeName, M: Ledger> Pipeline<'a, D, G, N, M> {
         key: &[u8],
     ) -> Result<Reply, NoMemory>
         ensures answers { IfOk result (λ reply. TellsRead N.opening key.now reply session.old session.new) }
-        ensures err { OnErr result (StaysOn session.old session.new) }
+        ensures err { OnErr result (MissesRead session.old session.new) }
     {
         let seat = &mut session.desk.seat;
         let visible = self.table.visible(seat);

@@ -20,9 +20,9 @@ impl<N: PipeName, M: Ledger> Model for Session<N, M> {
 
     ghost Value = { Standing };
 
-    ghost view = { λ s. standing (session_view s.desk.seat) s.desk.dead.amount };
+    ghost view = { λ s. standing (session_view s.desk.seat) s.desk.dead.amount s.desk.told.amount };
 
-    ghost invariant = { λ s. IsSession N.table N.opening (session_table s.desk.seat) (session_view s.desk.seat) s.desk.own.parts s.desk.own.amount s.desk.dead.parts };
+    ghost invariant = { λ s. IsSession N.table N.opening (session_table s.desk.seat) (session_view s.desk.seat) s.desk.own.parts s.desk.own.amount s.desk.dead.parts s.desk.told.parts };
 }
 
 /// The sessions of a pipeline, in the order of their numbers.

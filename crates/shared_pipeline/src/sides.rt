@@ -43,7 +43,7 @@ pub(crate) fn enter<D: Disk, R: Wait>(
     ensures appends { Appends (numbered batch journal.old.state.next) (producer_view producer.old) (producer_view producer.new) }
     ensures index { result ≡ len journal.old.state }
     ensures numbered { HoldsNumbered (numbered batch journal.old.state.next) result (session_view seat.old) (session_view seat.new) }
-    ensures logs { LogsRecord D.tells (numbered batch journal.old.state.next) journal.old.state journal.new.state (D.view journal.old.disk) (D.view journal.new.disk) }
+    ensures logs { LogsRecord D.tells (numbered batch journal.old.state.next) sync journal.old.state journal.new.state (D.view journal.old.disk) (D.view journal.new.disk) }
 {
     let numbered = batch.number(journal.next());
     table.place(producer, &numbered);

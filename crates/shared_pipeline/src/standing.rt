@@ -13,4 +13,6 @@ pub struct Standing {
     pub acked: u64,
     /// So many of its commits were answered `Dead` or `Unsynced`.
     pub dead: u64,
+    /// So many meetings told it of a death.
+    pub told: u64,
 }

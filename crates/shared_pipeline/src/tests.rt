@@ -1,5 +1,5 @@
 //! What sessions do beside one another, by examples.
-ghost use Rattle.std.specs.Prelude.{◌≡◌, ◌≤◌, length};
+ghost use Rattle.std.specs.Prelude.{◌≡◌, ◌+◌, ◌≤◌, length, true};
 ghost use Rattle.batch_repr.specs.declared.limits.TheConstants.{NUMBER_FIRST, SESSIONS_MAX};
 ghost use Rattle.commit_pipeline.specs.Holding.{opening_on};
 ghost use Rattle.failover_writer.specs.State.{len};
@@ -7,7 +7,7 @@ ghost use Rattle.failover_writer.specs.State.{len};
 use crate::{Parts, PipeName, Pipeline, Session};
 use batch_repr::{BatchBuilder, Batches, NUMBER_FIRST, Unnumbered};
 use commit_pipeline::{Gate, GatePoint, NoGate};
-use disk_face::Disk;
+use disk_face::{Disk, Side, StallDisk};
 use failover_writer::Journal;
 use mem_disk::MemDisk;
 use std::alloc::Global;
@@ -104,7 +104,7 @@ fn with_names<
     requires opening { N.opening ≡ opening_on D.view parts.base journal N.opening.may_stall }
     requires table { parts.table ≡ N.table }
     requires batches { (parts.batches ≡ N.name) × (parts.sessions ≡ N.parts) }
-    requires answers { (parts.answers ≡ M.name) × (parts.sessions ≡ M.parts) }
+    requires answers { (parts.answers ≡ M.name) × (parts.sessions + parts.sessions ≡ M.parts) }
     requires empty { len journal.state ≡ 0 }
     requires next { journal.state.next ≡ parts.next }
 {
@@ -112,7 +112,7 @@ fn with_names<
         panic!(rt; "memory");
     };
     each_acts(rt, alloc, &pipe, sessions.as_mut_slice(), act);
-    pipe.meet(&mut sessions).expect(rt, "memory");
+    pipe.meet(rt, &mut sessions).expect(rt, "memory");
     let finished = pipe.finish(sessions);
     assert_eq!(rt;
         finished.visible,
@@ -259,5 +259,78 @@ fn a_session_that_is_held_holds_up_no_other(rt: HostRuntime) {
             assert_eq!(rt; batches, u64::from(sessions));
             assert!(rt; gate.left.load(Ordering::SeqCst) > 0);
         }
+    }
+}
+
+/// Each of so many sessions commits one batch with a sync, after polls of the primary side were
+/// left to stall. Answers the length of the journal, given up as it stands.
+fn run_stalled<D: StallDisk + Drop, R: Wait + Abort>(
+    rt: &R,
+    alloc: Global,
+    journal: Journal<D>,
+    sessions: usize,
+    polls: u32,
+) -> u64
+    requires sessions { (1 ≤ sessions) × (sessions ≤ SESSIONS_MAX) }
+    requires empty { len journal.state ≡ 0 }
+    requires next { journal.state.next ≡ NUMBER_FIRST }
+{
+    let base = Batches::new(alloc);
+    let parts = Parts::new(alloc, &base, NUMBER_FIRST, sessions).expect(rt, "memory");
+    stalled_table::<D, Brand, R>(rt, alloc, parts, journal, polls)
+}
+
+/// The name of the table is picked, by which polls may be left to stall.
+fn stalled_table<D: StallDisk + Drop, N: PipeName, R: Wait + Abort>(
+    rt: &R,
+    alloc: Global,
+    parts: Parts,
+    journal: Journal<D>,
+    polls: u32,
+) -> u64
+    requires opening { N.opening ≡ opening_on D.view parts.base journal N.opening.may_stall }
+    requires may_stall { N.opening.may_stall ≡ true }
+    requires table { parts.table ≡ N.table }
+    requires batches { (parts.batches ≡ N.name) × (parts.sessions ≡ N.parts) }
+    requires empty { len journal.state ≡ 0 }
+    requires next { journal.state.next ≡ parts.next }
+{
+    stalled_names::<D, N, Brand, R>(rt, alloc, parts, journal, polls)
+}
+
+/// All names are picked.
+fn stalled_names<D: StallDisk + Drop, N: PipeName, M: Ledger, R: Wait + Abort>(
+    rt: &R,
+    alloc: Global,
+    parts: Parts,
+    journal: Journal<D>,
+    polls: u32,
+) -> u64
+    requires opening { N.opening ≡ opening_on D.view parts.base journal N.opening.may_stall }
+    requires may_stall { N.opening.may_stall ≡ true }
+    requires table { parts.table ≡ N.table }
+    requires batches { (parts.batches ≡ N.name) × (parts.sessions ≡ N.parts) }
+    requires answers { (parts.answers ≡ M.name) × (parts.sessions + parts.sessions ≡ M.parts) }
+    requires empty { len journal.state ≡ 0 }
+    requires next { journal.state.next ≡ parts.next }
+{
+    let Ok((pipe, mut sessions)) = Pipeline::<D, NoGate, N, M>::new(journal, parts, &NoGate) else {
+        panic!(rt; "memory");
+    };
+    pipe.stall(rt, Side::Primary, polls);
+    for session in sessions.iter_mut() {
+        let batch = one_set(rt, alloc, 0, 0);
+        let committed = pipe.commit(rt, session, batch, true).expect(rt, "a commit");
+        assert!(rt; committed.synced);
+    }
+    pipe.into_journal().len()
+}
+
+#[test]
+fn a_journal_is_given_up_with_all_batches_though_polls_stalled(rt: HostRuntime) {
+    for polls in [0u32, 1, 2, 20] {
+        let journal = new_journal(&rt, rt.alloc());
+        let batches = run_stalled(&rt, rt.alloc(), journal, 3, polls);
+        assert_eq!(rt; batches, 3);
     }
 }

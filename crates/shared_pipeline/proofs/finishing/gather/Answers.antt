@@ -1,4 +1,4 @@
-use Rattle.std.proofs.Common.{◌≡◌, ◌∷◌, [], ◌++◌, length, sym, ap, ◌∙◌, arith}
+use Rattle.std.proofs.Common.{◌≡◌, ◌+◌, ◌∷◌, [], ◌++◌, length, sym, ap, ◌∙◌, arith}
 use Rattle.shared_pipeline.specs.Standings.{standing}
 use Rattle.commit_queue.specs.Seats.{producer_view, session_view}
 use Rattle.shared_pipeline.proofs.TakesAllBack.{gathers_none, gathers_next, gathers_all}
@@ -16,15 +16,16 @@ retire-requires-clause-table g c = c.loop-session.invariant.table ∙ sym c.requ
 pub loop-session-preserved : goal.loop-session-preserved
 loop-session-preserved g c =
     let desk = c.session.inside.desk in
-    let popped = standing (session_view desk.seat) desk.dead.amount in
+    let popped = standing (session_view desk.seat) desk.dead.amount desk.told.amount in
     let last : c.loop-session.sessions.items ≡ c.pop.new.self.items ++ popped ∷ [] =
     c.in-Some.ensures.items ∙ ap (λ s. c.pop.new.self.items ++ s ∷ []) (sym c.session.view_is) in
     record {
       table = c.retire.ensures.same ∙ c.loop-session.invariant.table;
       gathers = gathers_next c.args.sessions.items c.loop-session.sessions.items c.pop.new.self.items (producer_view c.args.producer.now)
-          (producer_view c.loop-session.producer) (session_view desk.seat) (producer_view c.retire.new.p) desk.dead.amount _ _ _ _ _ _ _ _ last
+          (producer_view c.loop-session.producer) (session_view desk.seat) (producer_view c.retire.new.p) desk.dead.amount desk.told.amount _ _ _ _ _ _ _ _ last
           (omega (arith, c.session.invariant.own_part)) (omega (arith, c.session.invariant.own))
-          (omega (arith, c.session.invariant.dead_part)) c.merge-in-Some.ensures.amount c.loop-session.invariant.gathers c.retire.ensures.back;
+          (omega (arith, c.session.invariant.dead_part, c.session.invariant.told_part))
+          (omega arith) c.loop-session.invariant.gathers c.retire.ensures.back;
     }
 
 pub returns-clause-same : goal.returns-clause-same
@@ -45,4 +46,4 @@ pub returns-clause-dead : goal.returns-clause-dead
 returns-clause-dead g c =
     let none : length c.loop-session.sessions.items ≡ 0 = omega (arith, c.in_default.ensures.cases.0) in
     let all = gathers_all _ _ _ _ _ _ _ _ none c.loop-session.invariant.gathers in
-    (all.3 ∙ sym c.args.sessions.ok.0, all.4)
+    (all.3 ∙ ap (λ n. n + n) (sym c.args.sessions.ok.0), all.4)

@@ -1,5 +1,6 @@
 -- The visible number is not above the next one, and the producer's seat shows all.
-use Rattle.std.proofs.Common.{◌≡◌, ℕ, ap, sym, subst, ◌∙◌}
+use Rattle.std.proofs.Common.{◌≡◌, ◌<◌, ℕ, ap, sym, subst, ◌∙◌}
+use Rattle.batch_repr.specs.declared.limits.TheConstants.{BATCHES_MAX}
 use Rattle.failover_writer.specs.State.{JournalView, len}
 use Rattle.commit_queue.specs.Seats.{producer_view, session_view}
 use Rattle.commit_queue.specs.Calls.{AwaitsBatch}
@@ -18,5 +19,7 @@ returns-clause-told g c =
     let next_is : c.args.next ≡ c.self.inside.journal.state.next =
     c.requires.next ∙ ap (λ (j : JournalView _). j.state.next) (sym c.self.view_is) in
     let awaits : AwaitsBatch p c.args.next placed = subst (λ (n : ℕ). AwaitsBatch p n placed) (sym next_is) c.self.invariant.0.enrols.awaits in
+    let few : placed < BATCHES_MAX = subst (λ (j : JournalView _). len j.state < BATCHES_MAX) (sym c.self.view_is) c.requires.few in
     shows_exhausted c.args.batch v v1 v' c.visible.result c.args.next placed sees c.if-visible-next.false
-    (shows_all p v1 v' c.args.next placed awaits ((sees_goes_on v v1 c.visible.result sees).held ∙ c.requires.desk.idle.0) c.show.ensures.shown) c.requires.over
+    (shows_all p v1 v' c.args.next placed awaits ((sees_goes_on v v1 c.visible.result sees).held ∙ c.requires.desk.idle.0) c.show.ensures.shown) few
+    c.requires.over

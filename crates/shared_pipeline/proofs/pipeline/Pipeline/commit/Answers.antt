@@ -20,6 +20,7 @@ pub invariant_of-session : goal.invariant_of-session
 invariant_of-session g c =
     session_refused g.N.PipeName.table g.N.PipeName.opening c.args.batch c.in_err-first.field-0.0 _ c.session.inside.desk c.start.new.desk
     c.session.invariant c.in_err-first.ensures.started c.in_err-first.ensures.same c.in_err-first.ensures.own c.in_err-first.ensures.dead
+    c.in_err-first.ensures.met.0
 
 pub returns-in_err-first : goal.returns-in_err-first
 returns-in_err-first g c =
@@ -27,12 +28,13 @@ returns-in_err-first g c =
     let answers : c.from_residual-in_err-first.result ≡ Err told = search rules in
     let d = c.session.inside.desk in
     let d' = c.start.new.desk in
-    let new : Standing = standing (session_view d'.seat) d'.dead.amount in
+    let new : Standing = standing (session_view d'.seat) d'.dead.amount d'.told.amount in
     subst (λ (s : Standing). TellsCommit g.N.PipeName.opening c.args.batch c.args.sync s c.from_residual-in_err-first.result new) c.session.view_is
     (subst (λ (r : Result Committed CommitFault). TellsCommit g.N.PipeName.opening c.args.batch c.args.sync
-    (standing (session_view d.seat) d.dead.amount) r new) (sym answers)
-    (answers_refused g.N.PipeName.opening c.args.batch c.args.sync (session_view d.seat) (session_view d'.seat) d.dead.amount d'.dead.amount told
-    c.session.invariant.base c.session.invariant.within c.in_err-first.ensures.started c.in_err-first.ensures.dead.1))
+    (standing (session_view d.seat) d.dead.amount d.told.amount) r new) (sym answers)
+    (answers_refused g.N.PipeName.opening c.args.batch c.args.sync (session_view d.seat) (session_view d'.seat) d.dead.amount d'.dead.amount d.told.amount
+    d'.told.amount told c.session.invariant.base c.session.invariant.within c.in_err-first.ensures.started c.in_err-first.ensures.dead.1
+    c.in_err-first.ensures.met.1 c.in_err-first.ensures.lives))
 
 -- ---- it was numbered and published
 
@@ -48,13 +50,14 @@ published_unsynced : (g : _) (c : goal.After-from_residual-in_err-wait_acked g)
 published_unsynced g c =
     let e = c.in_ok-first.ensures in
     has_published c.args.batch c.in_ok-first.first c.in_ok-first.index c.session.inside.desk c.start.new.desk c.publish.new.desk e.started e.same
-    e.own e.dead c.publish.ensures.published c.publish.ensures.same c.publish.ensures.own c.publish.ensures.dead
+    e.own e.dead e.met e.lives c.publish.ensures.published c.publish.ensures.same c.publish.ensures.own c.publish.ensures.dead
+    c.publish.ensures.met
 
 waited_unsynced : (g : _) (c : goal.After-from_residual-in_err-wait_acked g)
     → HasWaited (deaths_waited (Err c.in_err-wait_acked.field-0.0)) c.publish.new.desk c.wait_acked.new.desk
 waited_unsynced g c =
     let e = c.in_err-wait_acked.ensures in
-    record { stays = e.waited.0; same = e.same; own = e.own; dead_parts = e.dead.0; dead = e.dead.1 }
+    record { stays = e.waited.0; same = e.same; own = e.own; dead_parts = e.dead.0; dead = e.dead.1; told = e.met }
 
 pub invariant_of-session-in_err-wait_acked : goal.invariant_of-session-in_err-wait_acked
 invariant_of-session-in_err-wait_acked g c =
@@ -67,12 +70,12 @@ returns-in_err-wait_acked g c =
     let answers : c.from_residual-in_err-wait_acked.result ≡ Err told = search rules in
     let d = c.session.inside.desk in
     let d' = c.wait_acked.new.desk in
-    let new : Standing = standing (session_view d'.seat) d'.dead.amount in
+    let new : Standing = standing (session_view d'.seat) d'.dead.amount d'.told.amount in
     let of : Numbers = record { first = c.in_ok-first.first; count = c.count-count.result; index = c.in_ok-first.index } in
     subst (λ (s : Standing). TellsCommit g.N.PipeName.opening c.args.batch c.args.sync s c.from_residual-in_err-wait_acked.result new)
     c.session.view_is
     (subst (λ (r : Result Committed CommitFault). TellsCommit g.N.PipeName.opening c.args.batch c.args.sync
-    (standing (session_view d.seat) d.dead.amount) r new) (sym answers)
+    (standing (session_view d.seat) d.dead.amount d.told.amount) r new) (sym answers)
     (answers_unsynced g.N.PipeName.opening c.args.batch c.args.sync of told d c.publish.new.desk d' (published_unsynced g c)
     (waited_unsynced g c) c.count-count.ensures.count c.if-sync.true c.in_err-wait_acked.ensures.waited.1))
 
@@ -83,7 +86,8 @@ published_well : (g : _) (c : goal.Joined-sync g)
 published_well g c =
     let e = c.in_ok-first.ensures in
     has_published c.args.batch c.in_ok-first.first c.in_ok-first.index c.session.inside.desk c.start.new.desk c.publish.new.desk e.started e.same
-    e.own e.dead c.publish.ensures.published c.publish.ensures.same c.publish.ensures.own c.publish.ensures.dead
+    e.own e.dead e.met e.lives c.publish.ensures.published c.publish.ensures.same c.publish.ensures.own c.publish.ensures.dead
+    c.publish.ensures.met
 
 waited_well : (g : _) (c : goal.Joined-sync g)
     → HasWaited 0 c.publish.new.desk c.if-sync.session-inside.desk
@@ -93,7 +97,7 @@ waited_well g c = elim c.if-sync.branch [
       let e = w.in_ok-wait_acked.ensures in
       subst (λ (s : Inside _ _). HasWaited 0 c.publish.new.desk s.desk
       × (IsTrue c.args.sync → c.in_ok-first.index < (session_view s.desk.seat).seat.acked)) (sym w.session-inside-is) (
-        record { stays = e.waited.0; same = e.same; own = e.own; dead_parts = e.dead.0; dead = e.dead.1 },
+        record { stays = e.waited.0; same = e.same; own = e.own; dead_parts = e.dead.0; dead = e.dead.1; told = e.met },
         λ asked. e.waited.1,
       )
   | else-sync w ↦
@@ -115,6 +119,6 @@ returns g c =
     let waited = waited_well g c in
     subst (λ (s : Standing). CommitsWell c.args.batch c.args.sync
     (record { first = c.in_ok-first.first; count = c.count-count.result; synced = c.args.sync }) s
-    (standing (session_view d'.seat) d'.dead.amount)) c.session.view_is
+    (standing (session_view d'.seat) d'.dead.amount d'.told.amount)) c.session.view_is
     (answers_committed c.args.batch c.args.sync c.in_ok-first.first c.count-count.result c.in_ok-first.index c.session.inside.desk
     c.publish.new.desk d' (published_well g c) waited.0 c.count-count.ensures.count waited.1)

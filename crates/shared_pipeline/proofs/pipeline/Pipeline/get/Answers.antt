@@ -8,8 +8,7 @@ use Rattle.shard_gate.specs.declared.reading.ReadBusy.{ReadBusy}
 use Rattle.shard_gate.specs.declared.reading.ReadBusy.TheVariants.{NoMemory}
 use Rattle.shard_gate.specs.Gates.{LeavesRead}
 use Rattle.shared_pipeline.specs.declared.standing.Standing.{Standing}
-use Rattle.shared_pipeline.specs.Commits.{TellsRead}
-use Rattle.shared_pipeline.specs.Meeting.{StaysOn}
+use Rattle.shared_pipeline.specs.Commits.{TellsRead, MissesRead}
 use Rattle.shared_pipeline.specs.Standings.{standing}
 use Rattle.shared_pipeline.proofs.Seen.{idles_on}
 use Rattle.shared_pipeline.proofs.TellsRead.{reads_seen, read_on, session_read, answers_read}
@@ -50,7 +49,7 @@ invariant_of-session g c =
     let saw = c.visible-visible.ensures.seen in
     let read = c.in-Ok.ensures.read in
     session_read (session_view c.session.inside.desk.seat) (session_view c.visible-visible.new.h) (session_view c.loop.seat)
-    c.visible-visible.result saw i.same _ _ _ _ (shard_of c.args.key.now) _ _ _ read.versions (session_view c.try_newest.new.s)
+    c.visible-visible.result saw i.same _ _ _ _ (shard_of c.args.key.now) _ _ _ _ read.versions (session_view c.try_newest.new.s)
     c.session.invariant (c.try_newest.ensures.same ∙ i.table ∙ c.visible-visible.ensures.same)
     (i.pieces ∙ ap (λ (v : View). v.pieces) saw.view) read.view
 
@@ -58,11 +57,12 @@ pub returns-in-Ok-clause-answers : goal.returns-in-Ok-clause-answers
 returns-in-Ok-clause-answers g c =
     let session = c.session.invariant in
     let dead : ℕ = c.session.inside.desk.dead.amount in
+    let told : ℕ = c.session.inside.desk.told.amount in
     let w' : View = session_view c.try_newest.new.s in
     subst (λ (s : Standing). TellsRead g.N.PipeName.opening c.args.key.now (record { visible = c.visible-visible.result; value = c.in-Ok.value })
-    s (standing w' dead)) c.session.view_is
+    s (standing w' dead told)) c.session.view_is
     (answers_read (session_view c.session.inside.desk.seat) (session_view c.visible-visible.new.h) (session_view c.loop.seat)
-    c.visible-visible.result c.visible-visible.ensures.seen c.loop.invariant.same g.N.PipeName.opening c.args.key.now c.in-Ok.value w' dead
+    c.visible-visible.result c.visible-visible.ensures.seen c.loop.invariant.same g.N.PipeName.opening c.args.key.now c.in-Ok.value w' dead told
     session.base session.shards session.before c.in-Ok.ensures.read)
 
 pub invariant_of-session-in-Err-NoMemory : goal.invariant_of-session-in-Err-NoMemory
@@ -74,7 +74,7 @@ invariant_of-session-in-Err-NoMemory g c =
     subst (λ (f : ReadBusy). LeavesRead f (session_view c.loop.seat) (shard_of c.args.key.now) v') c.in-Err-NoMemory.field-0-is
     c.in-Err-NoMemory.ensures.err in
     session_read (session_view c.session.inside.desk.seat) (session_view c.visible-visible.new.h) (session_view c.loop.seat)
-    c.visible-visible.result saw i.same _ _ _ _ (shard_of c.args.key.now) _ _ _ left.0 v'
+    c.visible-visible.result saw i.same _ _ _ _ (shard_of c.args.key.now) _ _ _ _ left.0 v'
     c.session.invariant (c.try_newest.ensures.same ∙ i.table ∙ c.visible-visible.ensures.same)
     (i.pieces ∙ ap (λ (v : View). v.pieces) saw.view) left.1
 
@@ -83,14 +83,15 @@ returns-in-Err-NoMemory-clause-err g c =
     let i = c.loop.invariant in
     let saw = c.visible-visible.ensures.seen in
     let dead : ℕ = c.session.inside.desk.dead.amount in
+    let told : ℕ = c.session.inside.desk.told.amount in
     let v : View = session_view c.session.inside.desk.seat in
     let v' : View = session_view c.try_newest.new.s in
     let left : LeavesRead NoMemory (session_view c.loop.seat) (shard_of c.args.key.now) v' =
     subst (λ (f : ReadBusy). LeavesRead f (session_view c.loop.seat) (shard_of c.args.key.now) v') c.in-Err-NoMemory.field-0-is
     c.in-Err-NoMemory.ensures.err in
-    subst (λ (s : Standing). StaysOn s (standing v' dead)) c.session.view_is record {
-      idles = idles_on v v' dead dead
+    subst (λ (s : Standing). MissesRead s (standing v' dead told)) c.session.view_is (
+      idles_on v v' dead dead told told
           (read_on v (session_view c.visible-visible.new.h) (session_view c.loop.seat) c.visible-visible.result saw i.same
-          (shard_of c.args.key.now) left.0 v' c.session.invariant.idle.1 (i.pieces ∙ ap (λ (x : View). x.pieces) saw.view) left.1);
-      dead = refl;
-    }
+          (shard_of c.args.key.now) left.0 v' c.session.invariant.idle.1 (i.pieces ∙ ap (λ (x : View). x.pieces) saw.view) left.1) refl,
+      refl,
+    )

@@ -1,26 +1,21 @@
-use Rattle.std.proofs.Common.{sym, ◌∙◌, rules}
-use Rattle.shared_pipeline.specs.Meeting.{HaveMet, StayOn}
-use Rattle.shared_pipeline.proofs.HaveMet.{over_written, stay_beside, beside_both, have_met}
+-- All have seen what any of them had seen, and then are told of a death.
+use Rattle.std.proofs.Common.{◌≡◌, List, length, ap, subst, ◌∙◌}
+use Rattle.std.specs.Prelude.{Option}
+use Rattle.failover_writer.specs.declared.fault.DeadMark.{DeadMark}
+use Rattle.shared_pipeline.specs.declared.standing.Standing.{Standing}
+use Rattle.shared_pipeline.specs.Meeting.{ShareSeen, HearDeaths, HaveMet}
+use Rattle.shared_pipeline.proofs.HaveMet.{refilled}
+use Rattle.shared_pipeline.proofs.HearDeaths.{have_met}
 use Rattle.shared_pipeline.proofs.pipeline.Pipeline.meet.Goals as goal
 
-pub returns-in_err-meet_each-clause-err : goal.returns-in_err-meet_each-clause-err
-returns-in_err-meet_each-clause-err g c =
-    let stay = over_written StayOn c.args.sessions.now.items c.in-Some.first.now c.in-Some.others.now c.args.sessions.now.len
-    c.meet_each.new.one c.meet_each.new.others (sym c.deref_mut.ensures.value ∙ c.in-Some.ensures.cases.0) c.args.sessions.now.ok.0
-    c.meet_each.auto.others (stay_beside _ _ _ _ c.in_err-meet_each.ensures.err) in
-    search rules
+-- They have met, by the slice that they were told in.
+have_met_in : {mark : Option DeadMark} (ss mid slice ss' : List Standing) → slice ≡ mid → ShareSeen ss mid → HearDeaths mark slice ss' → HaveMet ss ss'
+have_met_in {mark = mark} ss mid slice ss' same share told = have_met mark ss mid ss' share (subst (λ (l : List Standing). HearDeaths mark l ss') same told)
 
-pub returns-in_err-meet_each-2-clause-err : goal.returns-in_err-meet_each-2-clause-err
-returns-in_err-meet_each-2-clause-err g c =
-    let stay = over_written StayOn c.args.sessions.now.items c.in-Some.first.now c.in-Some.others.now c.args.sessions.now.len
-    c.meet_each-in-Some.new.one c.meet_each-in-Some.new.others (sym c.deref_mut.ensures.value ∙ c.in-Some.ensures.cases.0)
-    c.args.sessions.now.ok.0 (c.meet_each-in-Some.auto.others ∙ c.meet_each.auto.others)
-    (stay_beside _ _ _ _ (beside_both _ _ _ _ _ _ c.in_ok-meet_each.ensures.met.beside c.in_err-meet_each-2.ensures.err)) in
-    search rules
-
-pub returns-in_ok-meet_each-2-clause-met : goal.returns-in_ok-meet_each-2-clause-met
-returns-in_ok-meet_each-2-clause-met g c =
-    over_written HaveMet c.args.sessions.now.items c.in-Some.first.now c.in-Some.others.now c.args.sessions.now.len
-    c.meet_each-in-Some.new.one c.meet_each-in-Some.new.others (sym c.deref_mut.ensures.value ∙ c.in-Some.ensures.cases.0)
-    c.args.sessions.now.ok.0 (c.meet_each-in-Some.auto.others ∙ c.meet_each.auto.others)
-    (have_met _ _ _ _ _ _ c.in_ok-meet_each.ensures.met c.in_ok-meet_each-2.ensures.met)
+pub returns-clause-met : goal.returns-clause-met
+returns-clause-met g c =
+    let told = c.tell_deaths.ensures.told in
+    let value = c.as_mut_slice.ensures.value in
+    let mid = c.share_seen.new.sessions in
+    refilled (HaveMet c.args.sessions.now.items) mid.items c.tell_deaths.new.sessions mid.len mid.ok.0 (told.all ∙ ap length value)
+    (have_met_in c.args.sessions.now.items mid.items c.as_mut_slice.result.now c.tell_deaths.new.sessions value c.in_ok-share_seen.ensures.met told)

@@ -4,8 +4,9 @@ use Rattle.batch_repr.specs.declared.limits.TheConstants.{BATCHES_MAX}
 use Rattle.commit_queue.specs.declared.view.View.{View}
 use Rattle.commit_queue.specs.Seats.{session_view}
 use Rattle.shared_pipeline.specs.declared.pipeline.Refusal.{Refusal}
+use Rattle.shared_pipeline.specs.Desks.{known}
 use Rattle.shared_pipeline.specs.Numbering.{ShowsMany, ShowsExhausted}
-use Rattle.shared_pipeline.specs.Waits.{GetsNumber}
+use Rattle.shared_pipeline.specs.Waits.{GetsNumber, NumbersLiving}
 use Rattle.shared_pipeline.proofs.GetsNumber.{shown_idle, shown_all, shown_exhausted}
 use Rattle.shared_pipeline.proofs.pipeline.Pipeline.start.Goals as goal
 
@@ -29,3 +30,11 @@ returns-in-Err-Exhausted-clause-started g c =
     let exhausted : ShowsExhausted c.args.batch next v v1 =
     subst (λ (r : Refusal). GetsNumber c.args.batch v (Err r) v1) c.in-Err-Exhausted.field-0-is c.in-Err-Exhausted.ensures.taken in
     shown_exhausted c.args.batch v v1 (session_view c.publish_until-in-Err-Exhausted.new.s) next exhausted e.on e.published
+
+pub returns-in-Err-TooMany-clause-lives : goal.returns-in-Err-TooMany-clause-lives
+returns-in-Err-TooMany-clause-lives g c =
+    subst (λ (r : Refusal). NumbersLiving (known c.args.desk.now) (Err r)) c.in-Err-TooMany.field-0-is c.in-Err-TooMany.ensures.lives
+
+pub returns-in-Err-Exhausted-clause-lives : goal.returns-in-Err-Exhausted-clause-lives
+returns-in-Err-Exhausted-clause-lives g c =
+    subst (λ (r : Refusal). NumbersLiving (known c.args.desk.now) (Err r)) c.in-Err-Exhausted.field-0-is c.in-Err-Exhausted.ensures.lives

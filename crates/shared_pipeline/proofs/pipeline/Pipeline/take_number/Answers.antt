@@ -19,13 +19,15 @@ loop-init g c = record {
   own = search rules;
   dead_parts = search rules;
   dead = search rules;
+  told_parts = search rules;
+  told = search rules;
 }
 
 pub number-numbering-requires-clause-desk : goal.number-numbering-requires-clause-desk
 number-numbering-requires-clause-desk g c =
     let i = c.loop.invariant in
-    stays_idle g.N.PipeName.table g.N.PipeName.opening _ _ (session_view c.args.desk.now.seat) (session_view c.loop.desk.seat) _ _ _ _
-    c.requires.desk i.table i.on i.held i.own_parts i.dead_parts
+    stays_idle g.N.PipeName.table g.N.PipeName.opening _ _ (session_view c.args.desk.now.seat) (session_view c.loop.desk.seat) _ _ _ _ _ _
+    c.requires.desk i.table i.on i.held i.own_parts i.dead_parts i.told_parts
 
 pub returns-in-Done-clause-taken : goal.returns-in-Done-clause-taken
 returns-in-Done-clause-taken g c =
@@ -68,6 +70,21 @@ returns-in-NoMemory-clause-taken g c =
       ap (λ (w : View). w.seat.held) same ∙ i.held ∙ c.requires.desk.idle.0,
     )
 
+pub returns-in-Done-clause-lives : goal.returns-in-Done-clause-lives
+returns-in-Done-clause-lives g c =
+    let i = c.loop.invariant in
+    omega (arith, c.in-Done.ensures.lives c.in-Done.ensures.cause.0, i.dead, i.told)
+
+pub returns-in-TooMany-clause-lives : goal.returns-in-TooMany-clause-lives
+returns-in-TooMany-clause-lives g c =
+    let i = c.loop.invariant in
+    omega (arith, c.in-TooMany.ensures.lives c.in-TooMany.ensures.cause.0, i.dead, i.told)
+
+pub returns-in-Exhausted-clause-lives : goal.returns-in-Exhausted-clause-lives
+returns-in-Exhausted-clause-lives g c =
+    let i = c.loop.invariant in
+    omega (arith, c.in-Exhausted.ensures.lives c.in-Exhausted.ensures.cause.0, i.dead, i.told)
+
 pub loop-preserved : goal.loop-preserved
 loop-preserved g c =
     let i = c.loop.invariant in
@@ -81,4 +98,6 @@ loop-preserved g c =
       own = omega (arith, e.own.1, i.own);
       dead_parts = e.dead.0 ∙ i.dead_parts;
       dead = omega (arith, e.dead.1, i.dead);
+      told_parts = e.met.0 ∙ i.told_parts;
+      told = omega (arith, e.met.1, i.told);
     }

@@ -14,4 +14,6 @@ invariant-loop g l = record {
   own : l.desk.own.amount ≡ l.initial.desk.own.amount;
   dead_parts : l.desk.dead.parts ≡ l.initial.desk.dead.parts;
   dead : l.desk.dead.amount ≡ l.initial.desk.dead.amount;
+  told_parts : l.desk.told.parts ≡ l.initial.desk.told.parts;
+  told : l.desk.told.amount ≡ l.initial.desk.told.amount;
 }

@@ -10,6 +10,7 @@ invariant-loop g l = record {
   on : SeatGoesOn (session_view l.initial.desk.seat) (session_view l.desk.seat);
   held : (session_view l.desk.seat).seat.held ≡ (session_view l.initial.desk.seat).seat.held;
   own : l.desk.own ≡ l.initial.desk.own;
+  told : l.desk.told ≡ l.initial.desk.told;
   dead_parts : l.desk.dead.parts ≡ l.initial.desk.dead.parts;
   dead : l.desk.dead.amount ≡ l.initial.desk.dead.amount;
 }

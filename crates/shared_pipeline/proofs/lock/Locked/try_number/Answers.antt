@@ -6,10 +6,12 @@ use Rattle.batch_repr.specs.Batches.{end_of}
 use Rattle.failover_writer.specs.State.{JournalView, len}
 use Rattle.commit_queue.specs.Calls.{AwaitsBatch}
 use Rattle.commit_queue.specs.Seats.{producer_view, session_view}
+use Rattle.commit_pipeline.specs.Committing.{LogsBatch}
 use Rattle.shared_pipeline.specs.Numbering.{numbered}
+use Rattle.shared_pipeline.proofs.Entering.{logs_batch}
 use Rattle.shared_pipeline.proofs.Showing.{shows_all}
 use Rattle.shared_pipeline.proofs.Tying.{tied_reserved, tied_read, tied_entered}
-use Rattle.shared_pipeline.proofs.lock.Locked.number.Goals as goal
+use Rattle.shared_pipeline.proofs.lock.Locked.try_number.Goals as goal
 
 pub returns-then-len-ge-BATCHES_MAX-clause-told : goal.returns-then-len-ge-BATCHES_MAX-clause-told
 returns-then-len-ge-BATCHES_MAX-clause-told g c =
@@ -61,8 +63,17 @@ invariant_of-self-2 g c =
     ) in (
       tied_entered (tied_read (tied_reserved g.D.Disk.view e.keeps e.keeps_base e.setting e.acked roomy.queue.spare e.same c.self.invariant.0)
           _ _ c.slot_free.result c.slot_free.ensures.same c.slot_free.ensures.read)
-          batch _ _ c.enter-index.new.journal.state _ _ entered.same_producer entered.awaits entered.appends entered.logs lives within few
+          batch c.args.sync _ _ c.enter-index.new.journal.state _ _ entered.same_producer entered.awaits entered.appends entered.logs lives within few
           c.add-2.ensures.total,
       c.self.invariant.1,
       c.self.invariant.2,
     )
+
+pub returns-clause-logs : goal.returns-clause-logs
+returns-clause-logs g c =
+    let view = g.D.Disk.view in
+    let roomy = c.reserve.new.self in
+    subst (λ (j : JournalView _). LogsBatch c.args.batch c.args.sync j.state c.drive.new.self.state (view j.disk) (view c.drive.new.self.disk))
+    c.self.view_is
+    (logs_batch g.D.Disk.tells view c.args.batch c.args.sync roomy.state.queue.spare c.self.inside.journal roomy c.enter-index.new.journal
+    c.drive.new.self c.reserve.ensures.same c.enter-index.ensures.logs c.drive.ensures.settles)
