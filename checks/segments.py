@@ -117,16 +117,9 @@ def load_entries(seed, number):
     return b"k%04d" % (number % KEYS), word * 4, deleted
 
 
-def load_numbers(count):
-    """Yields the numbers of a load's batches as they are committed: round by round, one session after another."""
-    for begin in range(0, count, ROUND):
-        for session in range(SESSIONS):
-            yield from range(begin + session, min(begin + ROUND, count), SESSIONS)
-
-
-def load_batches(seed, count, first=FIRST_NUMBER):
-    """Yields the batches of a load, the first one with this number."""
-    for number in load_numbers(count):
+def load_batches(seed, numbers, first=FIRST_NUMBER):
+    """Yields the batches of a load with these numbers as they are committed in this order, from this number on."""
+    for number in numbers:
         key, value, deleted = load_entries(seed, number)
         entries = [set_of(key, value)] + ([delete_of(deleted)] if deleted else [])
         yield batch(first, *entries)
@@ -134,9 +127,9 @@ def load_batches(seed, count, first=FIRST_NUMBER):
 
 
 def load_store(seed, count):
-    """The store after a load."""
+    """The store after a load. Keys of different sessions differ, so it is the same in whatever order they commit."""
     store = {}
-    for number in load_numbers(count):
+    for number in range(count):
         key, value, deleted = load_entries(seed, number)
         store[key] = value
         store.pop(deleted, None)

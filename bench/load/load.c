@@ -1,6 +1,6 @@
-/* Writes the log of a generated load as the program does, and keeps no store: load SEED COUNT FILE
-   The same batches, in the order in which one session after another commits them in each round, framed by the same
-   rules, one write for each batch and one fdatasync at each sync. */
+/* Writes the log of a generated load as the program may, and keeps no store: load SEED COUNT FILE
+   The batches in the order in which one session after another commits them in each round, framed by the program's rules,
+   one write for each batch and one fdatasync at each sync. */
 #include <fcntl.h>
 #include <stdio.h>
 #include <stdlib.h>

@@ -1,0 +1,76 @@
+"""Cases that run the program through the launcher: what the checks of its behaviour share."""
+
+import contextlib
+import difflib
+import subprocess
+import tempfile
+from pathlib import Path
+
+TOP = Path(__file__).resolve().parent.parent
+LAUNCHER = str(TOP / "pebble")
+SECONDS = 60
+
+passed, failed = [], []
+
+
+def note(name, differences):
+    """Counts a case, and prints in what it differs, if it does."""
+    (failed if differences else passed).append(name)
+    for it in [f"differs: {name}"] * bool(differences) + differences:
+        print(it, flush=True)
+
+
+def shown(text):
+    """Returns bytes as printable lines, each cut to a width that fits a report."""
+    return [repr(it)[2:-1][:120] for it in text.splitlines(keepends=True)]
+
+
+def differences(ran, output, status):
+    """Lists how a run differs from the output and the status that are wanted. An output of None is not compared."""
+    found = []
+    if ran.returncode not in (status if isinstance(status, tuple) else (status,)):
+        found.append(f"  status {ran.returncode}, and {status} is wanted")
+    if output is not None and ran.stdout != output:
+        lines = difflib.unified_diff(shown(output), shown(ran.stdout), "wanted", "came", lineterm="")
+        found += ["  standard output differs:", *(f"  {it}" for it in list(lines)[:20])]
+    if ran.stderr:
+        found += ["  written to standard error:", *(f"  {it}" for it in shown(ran.stderr)[:20])]
+    return found
+
+
+@contextlib.contextmanager
+def folder_of(files):
+    """Makes a folder with these files, by their paths in it."""
+    with tempfile.TemporaryDirectory(prefix="pebble-check-") as folder:
+        for name, content in files.items():
+            file = Path(folder) / name
+            file.parent.mkdir(exist_ok=True, parents=True)
+            file.write_bytes(content)
+        yield folder
+
+
+def run_in(folder, words, **how):
+    """Runs a command in a folder."""
+    how = {"stdout": subprocess.PIPE, "stderr": subprocess.PIPE, "timeout": SECONDS, **how}
+    try:
+        return subprocess.run(words, cwd=folder, **how)
+    except subprocess.TimeoutExpired:
+        return subprocess.CompletedProcess(words, f"none within {how['timeout']} seconds", b"", b"")
+
+
+def limited(*words):
+    """A command of the program, run where no file may have a byte: so the write of each segment fails."""
+    return ["sh", "-c", "trap '' XFSZ; ulimit -f 0; exec \"$@\"", "sh", LAUNCHER, *words]
+
+
+def ends(name, groups):
+    """Runs groups of cases over the built program, prints the last line of a check, and returns its status."""
+    # What the launcher says while it builds is for the reader, and no part of a case.
+    built = subprocess.run([LAUNCHER, "--help"], stdin=subprocess.DEVNULL, stdout=subprocess.DEVNULL)
+    if built.returncode > 8:
+        note("the launcher", [f"  status {built.returncode}: the program is not built"])
+    else:
+        for group in groups:
+            group()
+    print(f"{name}: {len(passed)} passed, {len(failed)} failed")
+    return 1 if failed else 0
