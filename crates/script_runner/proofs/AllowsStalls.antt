@@ -26,7 +26,6 @@ last_true false b h = h
 
 -- An opening allows the stalls of the rounds where it allows some as soon as one of them stalls.
 pub allowed : (opening : Opening) (rounds : List Round) → (IsTrue (list_any has_stalls rounds) → IsTrue opening.may_stall) → AllowsStalls opening rounds
-unfolding AllowsStalls
 allowed opening [] may = tt
 allowed opening (round ∷ rounds) may =
     (one round.stalls refl, allowed opening rounds (λ h. may (last_true (has_stalls round) (list_any has_stalls rounds) h)))

@@ -1,13 +1,8 @@
 mod Transcribes
-mod PerformsLines
-mod AreTurnsOf
-mod TurnsSoFar
-mod StallsPolls
+mod PlaysAll
 mod RoundsSoFar
 mod LoadSoFar
 mod CountsKeys
-mod DeathLasts
-mod RunsRounds
 mod AllowsStalls
 mod GoesOnKept
 mod SaysRun

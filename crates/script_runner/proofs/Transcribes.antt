@@ -6,7 +6,11 @@ use Rattle.std.proofs.lemmas.Grind.{flat_map-append}
 use Rattle.session_script.specs.Legal.{Replied}
 use Rattle.session_script.specs.Theorems.{tells_limit}
 use Rattle.script_runner.specs.declared.transcript.Transcript.{Transcript}
-use Rattle.script_runner.specs.Transcripts.{any_limit, lines_text, with_lines, NotesReply, NotesReplies, NotesRounds}
+use Rattle.session_script.specs.Replies.{reply_line}
+use Rattle.session_rounds.specs.declared.answers.Answer.{Answer}
+use Rattle.session_rounds.specs.Playing.{answers_of}
+use Rattle.script_runner.specs.Transcripts.{any_limit, any_limited, lines_text, answers_text, with_lines}
+use Rattle.script_runner.specs.Transcripts.{NotesReply, NotesReplies, NotesRounds, NotesAnswers}
 
 pub or_none : (a : Bool) → (a || false) ≡ a
 or_none true = refl
@@ -68,4 +72,39 @@ rounds_push rounds replies old mid new one two = record {
   limited = two.limited ∙ ap (λ (b : Bool). b || any_limit replies) one.limited ∙ or_assoc old.limited (list_any any_limit rounds) (any_limit replies)
       ∙ ap (λ (b : Bool). old.limited || b) (ap (λ (b : Bool). list_any any_limit rounds || b) (sym (or_none (any_limit replies)))
       ∙ sym (any-append any_limit rounds (replies ∷ [])));
+}
+
+-- ---- answers
+
+pub answers_none : (transcript : Transcript) → NotesAnswers [] transcript transcript
+answers_none transcript = record { text = with_none transcript.text; limited = sym (or_none transcript.limited) }
+
+pub answers_push : (answers : List Answer) (answer : Answer) (old mid new : Transcript) → NotesAnswers answers old mid
+    → NotesReply answer.session answer.said mid new → NotesAnswers (answers ++ answer ∷ []) old new
+answers_push answers answer old mid new one noted = record {
+  text = noted.text ∙ ap (λ (t : Option (List ℕ)). with_lines t (reply_line answer.session answer.said)) one.text
+      ∙ with_both old.text (answers_text answers) (reply_line answer.session answer.said)
+      ∙ ap (with_lines old.text) (ap (λ (t : List ℕ). answers_text answers ++ t) (sym (append-nil _))
+      ∙ sym (flat_map-append _ answers (answer ∷ [])));
+  limited = noted.limited ∙ ap (λ (b : Bool). b || tells_limit answer.said) one.limited
+      ∙ or_assoc old.limited (any_limited answers) (tells_limit answer.said)
+      ∙ ap (λ (b : Bool). old.limited || b) (ap (λ (b : Bool). any_limited answers || b) (sym (or_none (tells_limit answer.said)))
+      ∙ sym (any-append _ answers (answer ∷ [])));
+}
+
+-- The answers of some replies say what these say.
+answers_lines : (replies : List Replied) → answers_text (answers_of replies) ≡ lines_text replies
+answers_lines [] = refl
+answers_lines (reply ∷ replies) = ap (λ (t : List ℕ). reply_line reply.line.session reply.said ++ t) (answers_lines replies)
+
+answers_limits : (replies : List Replied) → any_limited (answers_of replies) ≡ any_limit replies
+answers_limits [] = refl
+answers_limits (reply ∷ replies) = ap (λ (b : Bool). tells_limit reply.said || b) (answers_limits replies)
+
+pub answers_noted : (answers : List Answer) (replies : List Replied) (old new : Transcript) → answers ≡ answers_of replies
+    → NotesAnswers answers old new → NotesReplies replies old new
+answers_noted answers replies old new is noted = record {
+  text = noted.text ∙ ap (λ (a : List Answer). with_lines old.text (answers_text a)) is ∙ ap (with_lines old.text) (answers_lines replies);
+  limited = noted.limited ∙ ap (λ (a : List Answer). old.limited || any_limited a) is
+      ∙ ap (λ (b : Bool). old.limited || b) (answers_limits replies);
 }

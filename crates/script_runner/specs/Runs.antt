@@ -26,7 +26,7 @@ use Rattle.script_runner.specs.declared.performing.Told.{Told}
 use Rattle.script_runner.specs.declared.run.Outcome.{Outcome}
 use Rattle.script_runner.specs.declared.work.Work.{Work}
 use Rattle.script_runner.specs.declared.work.Work.TheVariants as works
-use Rattle.script_runner.specs.Rounds.{SyncedAreAcked}
+use Rattle.session_rounds.specs.Legality.{SyncedAreAmong}
 use Rattle.script_runner.specs.Works.{work_rounds, halts}
 
 -- ---- the end of a run
@@ -84,7 +84,7 @@ pub record HasRun (threshold : ℕ) (tells : Bool) (start : DiskView) (wal first
 pub record AnswersRun (from : ℕ) (base : List Batch) (rounds : List Round) (batches : List Batch) (replies : List (List Replied))
     (outcome : Outcome) : Type 0 where
   pub legal : AreLegal from base outcome.end.died rounds batches replies
-  pub synced : AllByRecursion (SyncedAreAcked batches outcome.end.acked) replies
+  pub synced : AllByRecursion (SyncedAreAmong batches outcome.end.acked) replies
   pub lasting : DeathLasts replies
   pub exact : IsLimitedExactly from base outcome.end.died rounds batches replies
   pub limited : outcome.told.limited ≡ limit_told replies

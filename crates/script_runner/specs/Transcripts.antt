@@ -5,6 +5,7 @@ use Rattle.session_script.specs.declared.replies.Said.{Said}
 use Rattle.session_script.specs.Replies.{reply_line}
 use Rattle.session_script.specs.Legal.{Replied, replies_text}
 use Rattle.session_script.specs.Theorems.{tells_limit, limit_told}
+use Rattle.session_rounds.specs.declared.answers.Answer.{Answer}
 use Rattle.script_runner.specs.declared.transcript.Transcript.{Transcript}
 
 -- whether one of these replies tells of a limit
@@ -14,6 +15,14 @@ any_limit replies = list_any (λ (r : Replied). tells_limit r.said) replies
 -- the lines of some replies
 abbrev pub lines_text : List Replied → List ℕ
 lines_text replies = flat_map (λ (r : Replied). reply_line r.line.session r.said) replies
+
+-- whether one of these answers tells of a limit
+abbrev pub any_limited : List Answer → Bool
+any_limited answers = list_any (λ (a : Answer). tells_limit a.said) answers
+
+-- the lines of some answers
+abbrev pub answers_text : List Answer → List ℕ
+answers_text answers = flat_map (λ (a : Answer). reply_line a.session a.said) answers
 
 -- a text with more lines, where it is kept
 abbrev pub with_lines : Option (List ℕ) → List ℕ → Option (List ℕ)
@@ -44,3 +53,8 @@ pub record NotesReplies (replies : List Replied) (old new : Transcript) : Type 0
 pub record NotesRounds (rounds : List (List Replied)) (old new : Transcript) : Type 0 where
   pub text : new.text ≡ with_lines old.text (replies_text rounds)
   pub limited : new.limited ≡ (old.limited || limit_told rounds)
+
+-- Answers are added to it, each as the reply to a line of its session.
+pub record NotesAnswers (answers : List Answer) (old new : Transcript) : Type 0 where
+  pub text : new.text ≡ with_lines old.text (answers_text answers)
+  pub limited : new.limited ≡ (old.limited || any_limited answers)

@@ -1,56 +1,62 @@
 //! A load: its rounds, and the keys that have a value after them.
 
-ghost use Rattle.std.specs.Prelude.{◌≡◌, length, IfOk};
-ghost use Rattle.script_runner.specs.Acts.{HoldsOnward};
-ghost use Rattle.script_runner.specs.Rounds.{NameSessions, HoldsWhereAllowed};
-ghost use Rattle.script_runner.specs.Works.{RunsLoad, CountsLiveKeys};
+ghost use Rattle.std.specs.Prelude.{length, IfOk};
+ghost use Rattle.script_runner.specs.Rounds.{NameSessions, AllowsStalls};
+ghost use Rattle.script_runner.specs.Works.{AnswersLoad, CountsLive};
 
-use crate::stalls::run_stalls;
+use crate::rounds::run_round;
 use crate::transcript::Transcript;
-use crate::turns::run_turns;
-use commit_pipeline::{Gate, Pipeline, Session};
+use commit_pipeline::Gate;
 use disk_face::{Disk, StallDisk};
-use session_script::{LOAD_KEYS, Load, Round, load_key};
+use session_script::{LOAD_KEYS, Load, load_key};
+use shared_pipeline::{PipeName, Pipeline, Session, Sessions};
 use std::alloc::Global;
+use std::sync::Wait;
+use std::sync::ledger::Ledger;
+use std::thread::Threads;
 use wal_base::NoMemory;
 
-/// Runs the rounds of a load, each made once the one before has been run. Of its replies no line is kept.
+/// Plays the rounds of a load, each made once the one before has been played. Of its replies no line is kept.
 /// Answers whether one of them told a limit.
-pub(crate) fn run_load<D: StallDisk, G: Gate>(
+pub(crate) fn run_load<
+    D: StallDisk + Send,
+    G: Gate + Sync,
+    N: PipeName + Send + Sync,
+    M: Ledger + Send + Sync,
+    R: Threads + Wait + Sync,
+>(
+    rt: &R,
     alloc: Global,
-    pipeline: &mut Pipeline<'_, D, G>,
-    sessions: &mut Vec<Session>,
+    pipe: &Pipeline<'_, D, G, N, M>,
+    mut sessions: Sessions<N, M>,
     mut load: Load,
-) -> Result<bool, NoMemory>
-    requires named { NameSessions (length sessions.old.items) load }
-    ensures count { length sessions.new.items ≡ length sessions.old.items }
-    ensures on { HoldsWhereAllowed D.tells D.view load pipeline.old pipeline.new }
-    ensures ran { IfOk result (RunsLoad D.tells D.view load pipeline.old pipeline.new) }
+) -> Result<(Sessions<N, M>, bool), NoMemory>
+    requires named { NameSessions (length sessions.items) load }
+    requires may { AllowsStalls N.opening load }
+    ensures { IfOk result (λ ended. AnswersLoad N.opening sessions.items load ended.0.items ended.1) }
 {
     let mut limited = false;
     while let Some(round) = load.next_round(alloc)? {
-        let Round { stalls, lines } = round;
         let mut transcript = Transcript::silent();
-        run_stalls(pipeline, stalls);
-        run_turns(alloc, pipeline, sessions, lines, &mut transcript)?;
+        sessions = run_round(rt, alloc, pipe, sessions, round, &mut transcript)?;
         limited = limited || transcript.limited;
     }
-    Ok(limited)
+    Ok((sessions, limited))
 }
 
 /// How many of the keys of a load have a value.
-pub(crate) fn count_live<D: Disk, G: Gate>(
+pub(crate) fn count_live<D: Disk, G: Gate, N: PipeName, M: Ledger, R: Wait>(
+    rt: &R,
     alloc: Global,
-    pipeline: &mut Pipeline<'_, D, G>,
-    session: &mut Session,
+    pipe: &Pipeline<'_, D, G, N, M>,
+    session: &mut Session<N, M>,
 ) -> Result<u32, NoMemory>
-    ensures on { HoldsOnward D.tells D.view pipeline.old pipeline.new }
-    ensures counted { IfOk result (CountsLiveKeys D.tells D.view pipeline.old pipeline.new) }
+    ensures { IfOk result (λ live. CountsLive N.opening session.old live session.new) }
 {
     let mut live = 0;
     for index in 0..LOAD_KEYS {
         let key = load_key(alloc, index)?;
-        if pipeline.get(session, key.as_slice())?.value.is_some() {
+        if pipe.get(rt, session, key.as_slice())?.value.is_some() {
             live += 1;
         }
     }

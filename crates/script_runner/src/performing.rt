@@ -1,17 +1,21 @@
 //! What happens over a pipeline between its opening and its end.
 
 ghost use Rattle.std.specs.Prelude.{◌≡◌, ◌≤◌, length, IfOk};
-ghost use Rattle.script_runner.specs.Rounds.{NameSessions, HoldsWhereAllowed};
+ghost use Rattle.script_runner.specs.Rounds.{NameSessions, AllowsStalls};
 ghost use Rattle.script_runner.specs.Works.{work_rounds, Performs, KeepsReplies, KeepsCount, PerformsWork};
 
 use crate::loads::{count_live, run_load};
 use crate::rounds::run_rounds;
 use crate::transcript::Transcript;
 use crate::work::Work;
-use commit_pipeline::{Gate, Pipeline, Session};
+use commit_pipeline::Gate;
 use disk_face::StallDisk;
 use session_script::{Load, Rounds};
+use shared_pipeline::{PipeName, Pipeline, Sessions};
 use std::alloc::Global;
+use std::sync::Wait;
+use std::sync::ledger::Ledger;
+use std::thread::Threads;
 use wal_base::{Buf, NoMemory};
 
 /// What some work tells.
@@ -25,65 +29,88 @@ pub struct Told {
     pub limited: bool,
 }
 
-/// Runs the rounds of a script.
-fn perform_script<D: StallDisk, G: Gate>(
+/// Does some work over a pipeline with its sessions.
+pub(crate) fn perform<
+    D: StallDisk + Send,
+    G: Gate + Sync,
+    N: PipeName + Send + Sync,
+    M: Ledger + Send + Sync,
+    R: Threads + Wait + Sync,
+>(
+    rt: &R,
     alloc: Global,
-    pipeline: &mut Pipeline<'_, D, G>,
-    sessions: &mut Vec<Session>,
+    pipe: &Pipeline<'_, D, G, N, M>,
+    sessions: Sessions<N, M>,
+    work: Work,
+) -> Result<(Sessions<N, M>, Told), NoMemory>
+    requires some { 1 ≤ length sessions.items }
+    requires named { NameSessions (length sessions.items) (work_rounds work) }
+    requires may { AllowsStalls N.opening (work_rounds work) }
+    ensures { IfOk result (λ done. PerformsWork N.opening work sessions.items done.0.items done.1) }
+{
+    match work {
+        Work::Script(script) => perform_script(rt, alloc, pipe, sessions, script.rounds),
+        Work::Load(load) => perform_load(rt, alloc, pipe, sessions, load),
+    }
+}
+
+/// Plays the rounds of a script.
+fn perform_script<
+    D: StallDisk + Send,
+    G: Gate + Sync,
+    N: PipeName + Send + Sync,
+    M: Ledger + Send + Sync,
+    R: Threads + Wait + Sync,
+>(
+    rt: &R,
+    alloc: Global,
+    pipe: &Pipeline<'_, D, G, N, M>,
+    sessions: Sessions<N, M>,
     rounds: Rounds,
-) -> Result<Told, NoMemory>
-    requires named { NameSessions (length sessions.old.items) rounds }
-    ensures on { HoldsWhereAllowed D.tells D.view rounds pipeline.old pipeline.new }
-    ensures ran { IfOk result (Performs D.tells D.view rounds KeepsReplies pipeline.old pipeline.new) }
+) -> Result<(Sessions<N, M>, Told), NoMemory>
+    requires named { NameSessions (length sessions.items) rounds }
+    requires may { AllowsStalls N.opening rounds }
+    ensures { IfOk result (λ done. Performs N.opening rounds KeepsReplies sessions.items done.0.items done.1) }
 {
     let mut transcript = Transcript::new(alloc)?;
-    run_rounds(alloc, pipeline, sessions, rounds, &mut transcript)?;
+    let sessions = run_rounds(rt, alloc, pipe, sessions, rounds, &mut transcript)?;
     let Transcript { text, limited } = transcript;
     let Some(text) = text else {
         unreachable!();
     };
-    Ok(Told {
+    let told = Told {
         text,
         live: 0,
         limited,
-    })
+    };
+    Ok((sessions, told))
 }
 
-/// Runs the rounds of a load, and counts its live keys.
-fn perform_load<D: StallDisk, G: Gate>(
+/// Plays the rounds of a load, and counts its live keys.
+fn perform_load<
+    D: StallDisk + Send,
+    G: Gate + Sync,
+    N: PipeName + Send + Sync,
+    M: Ledger + Send + Sync,
+    R: Threads + Wait + Sync,
+>(
+    rt: &R,
     alloc: Global,
-    pipeline: &mut Pipeline<'_, D, G>,
-    sessions: &mut Vec<Session>,
+    pipe: &Pipeline<'_, D, G, N, M>,
+    sessions: Sessions<N, M>,
     load: Load,
-) -> Result<Told, NoMemory>
-    requires some { 1 ≤ length sessions.old.items }
-    requires named { NameSessions (length sessions.old.items) load }
-    ensures on { HoldsWhereAllowed D.tells D.view load pipeline.old pipeline.new }
-    ensures ran { IfOk result (Performs D.tells D.view load (KeepsCount D.tells) pipeline.old pipeline.new) }
+) -> Result<(Sessions<N, M>, Told), NoMemory>
+    requires some { 1 ≤ length sessions.items }
+    requires named { NameSessions (length sessions.items) load }
+    requires may { AllowsStalls N.opening load }
+    ensures { IfOk result (λ done. Performs N.opening load (KeepsCount N.opening) sessions.items done.0.items done.1) }
 {
-    let limited = run_load(alloc, pipeline, sessions, load)?;
-    let live = count_live(alloc, pipeline, &mut sessions[0])?;
-    Ok(Told {
+    let (mut sessions, limited) = run_load(rt, alloc, pipe, sessions, load)?;
+    let live = count_live(rt, alloc, pipe, &mut sessions[0])?;
+    let told = Told {
         text: Buf::new(alloc)?,
         live,
         limited,
-    })
-}
-
-/// Does some work over a pipeline with its sessions.
-pub(crate) fn perform<D: StallDisk, G: Gate>(
-    alloc: Global,
-    pipeline: &mut Pipeline<'_, D, G>,
-    sessions: &mut Vec<Session>,
-    work: Work,
-) -> Result<Told, NoMemory>
-    requires some { 1 ≤ length sessions.old.items }
-    requires named { NameSessions (length sessions.old.items) (work_rounds work) }
-    ensures on { HoldsWhereAllowed D.tells D.view (work_rounds work) pipeline.old pipeline.new }
-    ensures ran { IfOk result (PerformsWork D.tells D.view work pipeline.old pipeline.new) }
-{
-    match work {
-        Work::Script(script) => perform_script(alloc, pipeline, sessions, script.rounds),
-        Work::Load(load) => perform_load(alloc, pipeline, sessions, load),
-    }
+    };
+    Ok((sessions, told))
 }

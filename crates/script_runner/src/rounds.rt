@@ -1,38 +1,86 @@
-//! Rounds, run one after another.
+//! Rounds, played one after another.
 
-ghost use Rattle.std.specs.Prelude.{◌≡◌, length, OnOk};
-ghost use Rattle.script_runner.specs.Rounds.{NameSessions, HoldsWhereAllowed, RunsAllRounds};
+ghost use Rattle.std.specs.Prelude.{◌≡◌, length, IfOk};
+ghost use Rattle.session_rounds.specs.Playing.{LinesAreOfSome};
+ghost use Rattle.script_runner.specs.Rounds.{NameSessions, AllowsPolls, AllowsStalls, PlaysOn, PlaysAll};
 
-use crate::stalls::run_stalls;
 use crate::transcript::Transcript;
-use crate::turns::run_turns;
-use commit_pipeline::{Gate, Pipeline, Session};
+use commit_pipeline::Gate;
 use disk_face::StallDisk;
-use session_script::{Round, Rounds};
+use session_rounds::play_round;
+use session_script::{Round, Rounds, Stalls};
+use shared_pipeline::{PipeName, Pipeline, Sessions};
 use std::alloc::Global;
 use std::collections::VecDeque;
+use std::sync::Wait;
+use std::sync::ledger::Ledger;
+use std::thread::Threads;
 use wal_base::NoMemory;
 
-/// Runs rounds over a pipeline: of each the stalls first, in their order, and then the lines of its sessions, by their
-/// numbers, each session's in their order. The replies are added to the transcript. On out of memory the round is ended by
-/// the other sessions, and no further one begins.
-pub fn run_rounds<D: StallDisk, G: Gate>(
+/// Plays rounds over a pipeline: of each the stalls first, in their order, and then the lines of its sessions, which run
+/// beside one another and meet at its end. The replies are added to the transcript, session by session. On out of memory
+/// the round is ended by the other sessions, and no further one begins.
+pub(crate) fn run_rounds<
+    D: StallDisk + Send,
+    G: Gate + Sync,
+    N: PipeName + Send + Sync,
+    M: Ledger + Send + Sync,
+    R: Threads + Wait + Sync,
+>(
+    rt: &R,
     alloc: Global,
-    pipeline: &mut Pipeline<'_, D, G>,
-    sessions: &mut Vec<Session>,
+    pipe: &Pipeline<'_, D, G, N, M>,
+    mut sessions: Sessions<N, M>,
     rounds: Rounds,
     transcript: &mut Transcript,
-) -> Result<(), NoMemory>
-    requires named { NameSessions (length sessions.old.items) rounds }
-    ensures count { length sessions.new.items ≡ length sessions.old.items }
-    ensures on { HoldsWhereAllowed D.tells D.view rounds pipeline.old pipeline.new }
-    ensures ran { OnOk result (RunsAllRounds D.tells D.view rounds pipeline.old pipeline.new transcript.old transcript.new) }
+) -> Result<Sessions<N, M>, NoMemory>
+    requires named { NameSessions (length sessions.items) rounds }
+    requires may { AllowsStalls N.opening rounds }
+    ensures { IfOk result (λ ended. PlaysAll N.opening sessions.items rounds ended.items transcript.old transcript.new) }
 {
     let mut left = VecDeque::from(rounds.into_vec());
     while let Some(round) = left.pop_front() {
-        let Round { stalls, lines } = round;
-        run_stalls(pipeline, stalls);
-        run_turns(alloc, pipeline, sessions, lines, transcript)?;
+        sessions = run_round(rt, alloc, pipe, sessions, round, transcript)?;
     }
-    Ok(())
+    Ok(sessions)
+}
+
+/// Plays a round, after which the sessions meet. The replies are added to the transcript.
+pub(crate) fn run_round<
+    D: StallDisk + Send,
+    G: Gate + Sync,
+    N: PipeName + Send + Sync,
+    M: Ledger + Send + Sync,
+    R: Threads + Wait + Sync,
+>(
+    rt: &R,
+    alloc: Global,
+    pipe: &Pipeline<'_, D, G, N, M>,
+    sessions: Sessions<N, M>,
+    round: Round,
+    transcript: &mut Transcript,
+) -> Result<Sessions<N, M>, NoMemory>
+    requires named { LinesAreOfSome (length sessions.items) round.lines }
+    requires may { AllowsPolls N.opening round.stalls }
+    ensures { IfOk result (λ met. PlaysOn N.opening round.lines sessions.items met.items transcript.old transcript.new) }
+{
+    let Round { stalls, lines } = round;
+    leave_polls(rt, pipe, stalls);
+    let (mut sessions, answers) = play_round(rt, alloc, pipe, sessions, lines)?;
+    pipe.meet(rt, &mut sessions)?;
+    transcript.note_all(answers)?;
+    Ok(sessions)
+}
+
+/// Leaves the polls of a round's stalls, in their order.
+fn leave_polls<D: StallDisk, G: Gate, N: PipeName, M: Ledger, R: Wait>(
+    rt: &R,
+    pipe: &Pipeline<'_, D, G, N, M>,
+    stalls: Stalls,
+)
+    requires may { AllowsPolls N.opening stalls }
+{
+    for stall in stalls.into_vec() {
+        pipe.stall(rt, stall.side, stall.polls);
+    }
 }

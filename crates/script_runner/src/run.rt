@@ -1,6 +1,6 @@
 //! The whole run of a script or of a load over a disk.
 
-ghost use Rattle.std.specs.Prelude.{◌≡◌, ◌≤◌, IfOk, OnOk, IsTrue};
+ghost use Rattle.std.specs.Prelude.{◌≡◌, ◌+◌, ◌≤◌, IfOk, OnOk, IsTrue};
 ghost use Rattle.batch_repr.specs.declared.limits.TheConstants.{NUMBER_FIRST, NUMBER_MAX};
 ghost use Rattle.batch_repr.specs.Batches.{end_after, IsContiguous};
 ghost use Rattle.disk_face.specs.View.{files, NothingInFlight};
@@ -10,18 +10,24 @@ ghost use Rattle.failover_writer.specs.State.{len};
 ghost use Rattle.failover_writer.specs.Ranges.{AreUnsent};
 ghost use Rattle.failover_writer.specs.Running.{OthersSame};
 ghost use Rattle.commit_pipeline.specs.Holding.{EndsBefore, WentOn};
-ghost use Rattle.script_runner.specs.Works.{work_rounds, NamesItsOwn};
+ghost use Rattle.script_runner.specs.Works.{work_rounds, work_sessions, NamesItsOwn};
 ghost use Rattle.script_runner.specs.Runs.{StallNone, PollsNeverRise, GoesOnKept, RemainsDead};
-ghost use Rattle.script_runner.specs.Runs.{IsShutUnless, EndsJournal, HandsOnOver, RunsOver, RunsWork};
+ghost use Rattle.script_runner.specs.Runs.{IsShutUnless, EndsJournal, run_opening};
+ghost use Rattle.script_runner.specs.Runs.{HandsOnOver, RunsOver, RunsWork};
 
 use crate::performing::{Told, perform};
 use crate::work::Work;
 use batch_repr::Batches;
-use commit_pipeline::{Finished, Gate, Pipeline, Sessions};
+use commit_pipeline::{Finished, Gate};
 use disk_face::{Disk, ScriptDisk, StallDisk};
 use failover_writer::{Journal, JournalFault};
 use session_script::RunEnd;
+use shared_pipeline::{Parts, PipeName, Pipeline};
 use std::alloc::Global;
+use std::marker::Brand;
+use std::sync::Wait;
+use std::sync::ledger::Ledger;
+use std::thread::Threads;
 use wal_base::NoMemory;
 
 /// What a run came to.
@@ -89,8 +95,10 @@ fn end_journal<D: Disk>(
     })
 }
 
-/// Does some work over a journal that has no record yet.
-fn run_over<D: StallDisk, G: Gate>(
+/// Does some work over a journal that has no record yet: of its sessions and the base the parts of a pipeline are made,
+/// whose names are picked next.
+fn run_over<D: StallDisk + Send, G: Gate + Sync, R: Threads + Wait + Sync>(
+    rt: &R,
     alloc: Global,
     journal: Journal<D>,
     base: Batches,
@@ -104,14 +112,56 @@ fn run_over<D: StallDisk, G: Gate>(
     ensures keeps { HandsOnOver D.tells D.view base (work_rounds work) journal result.journal }
     ensures ran { IfOk result.outcome (RunsOver D.tells D.view base work journal result.journal) }
 {
-    let halted = work.halts();
-    let (mut pipeline, sessions) = match Pipeline::new(
-        alloc,
-        journal,
-        &base,
-        work.sessions() as usize,
-        gate,
-    ) {
+    let sessions = work.sessions() as usize;
+    let Ok(parts) = Parts::new(alloc, &base, journal.next(), sessions) else {
+        return Course {
+            outcome: Err(NoMemory),
+            journal,
+        };
+    };
+    // The shards have their entries.
+    drop(base);
+    over_table::<D, G, Brand, R>(rt, alloc, journal, parts, work, gate)
+}
+
+/// The same, with a name of the table and of the ledger of batches.
+fn over_table<
+    D: StallDisk + Send,
+    G: Gate + Sync,
+    N: PipeName + Send + Sync,
+    R: Threads + Wait + Sync,
+>(rt: &R, alloc: Global, journal: Journal<D>, parts: Parts, work: Work, gate: &G) -> Course<D>
+    requires opening { N.opening ≡ run_opening D.view parts.base (work_rounds work) journal }
+    requires table { parts.table ≡ N.table }
+    requires batches { (parts.batches ≡ N.name) × (parts.sessions ≡ N.parts) }
+    requires empty { len journal.state ≡ 0 }
+    requires next { journal.state.next ≡ parts.next }
+    requires sessions { NamesItsOwn work × (parts.sessions ≡ work_sessions work) }
+    ensures keeps { HandsOnOver D.tells D.view parts.base (work_rounds work) journal result.journal }
+    ensures ran { IfOk result.outcome (RunsOver D.tells D.view parts.base work journal result.journal) }
+{
+    over_names::<D, G, N, Brand, R>(rt, alloc, journal, parts, work, gate)
+}
+
+/// The same, with all names.
+fn over_names<
+    D: StallDisk + Send,
+    G: Gate + Sync,
+    N: PipeName + Send + Sync,
+    M: Ledger + Send + Sync,
+    R: Threads + Wait + Sync,
+>(rt: &R, alloc: Global, journal: Journal<D>, parts: Parts, work: Work, gate: &G) -> Course<D>
+    requires opening { N.opening ≡ run_opening D.view parts.base (work_rounds work) journal }
+    requires table { parts.table ≡ N.table }
+    requires batches { (parts.batches ≡ N.name) × (parts.sessions ≡ N.parts) }
+    requires answers { (parts.answers ≡ M.name) × (parts.sessions + parts.sessions ≡ M.parts) }
+    requires empty { len journal.state ≡ 0 }
+    requires next { journal.state.next ≡ parts.next }
+    requires sessions { NamesItsOwn work × (parts.sessions ≡ work_sessions work) }
+    ensures keeps { HandsOnOver D.tells D.view parts.base (work_rounds work) journal result.journal }
+    ensures ran { IfOk result.outcome (RunsOver D.tells D.view parts.base work journal result.journal) }
+{
+    let (pipe, sessions) = match Pipeline::<D, G, N, M>::new(journal, parts, gate) {
         Ok(made) => made,
         Err(journal) => {
             return Course {
@@ -120,21 +170,18 @@ fn run_over<D: StallDisk, G: Gate>(
             };
         }
     };
-    // The shards have their entries.
-    drop(base);
-    let mut sessions = sessions.into_vec();
-    let Ok(told) = perform(alloc, &mut pipeline, &mut sessions, work) else {
+    let halted = work.halts();
+    let Ok((sessions, told)) = perform(rt, alloc, &pipe, sessions, work) else {
         return Course {
             outcome: Err(NoMemory),
-            journal: pipeline.into_journal(),
+            journal: pipe.into_journal(),
         };
     };
-    // The list of the sessions was given up for the rounds: the pipeline ends with an empty one.
     let Finished {
         mut journal,
         visible,
         batches,
-    } = pipeline.finish(Sessions::new(alloc));
+    } = pipe.finish(sessions);
     match end_journal(&mut journal, halted, visible, batches) {
         Ok(end) => Course {
             outcome: Ok(Outcome { told, end }),
@@ -149,8 +196,9 @@ fn run_over<D: StallDisk, G: Gate>(
 
 /// Does some work over a disk and the batches before it, of which `next` is the number after them: its commits go to the
 /// journal of this WAL, whose segments hang from `threshold` pending polls on. The journal is closed at the end, unless it
-/// is a script that halts.
-pub fn run_work<D: Disk, G: Gate>(
+/// is a script that halts. The sessions of a round run beside one another.
+pub fn run_work<D: Disk + Send, G: Gate + Sync, R: Threads + Wait + Sync>(
+    rt: &R,
     alloc: Global,
     base: Batches,
     next: u64,
@@ -184,7 +232,7 @@ pub fn run_work<D: Disk, G: Gate>(
             };
         }
     };
-    let Course { outcome, journal } = run_over(alloc, journal, base, work, gate);
+    let Course { outcome, journal } = run_over(rt, alloc, journal, base, work, gate);
     let stalled = journal.into_disk();
     Run {
         outcome,

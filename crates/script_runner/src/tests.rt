@@ -1,18 +1,21 @@
 ghost use Rattle.std.specs.Prelude.{◌≡◌, ◌≤◌, None, IfOk};
 ghost use Rattle.disk_face.specs.View.{Place, files, NothingInFlight};
 ghost use Rattle.session_script.specs.Script.{NamesItsSessions};
+ghost use Rattle.script_runner.specs.Works.{NamesItsOwn};
 
-use crate::{Transcript, run_rounds, what_is_run_is_legal};
-use commit_pipeline::{NoGate, Pipeline};
+use crate::{Outcome, Run, Work, run_work};
+use commit_pipeline::NoGate;
 use disk_face::Disk;
-use failover_writer::Journal;
 use mem_disk::MemDisk;
 use session_script::{Script, ScriptFault, read_script};
 use std::alloc::Global;
 use std::process::Abort;
+use std::sync::Wait;
 use std::test::Fail;
+use std::thread::Threads;
 use wal_base::{ListOf, NoMemory};
 
+mod numbers;
 mod whole;
 
 /// A disk on which nothing stands and nothing is in flight.
@@ -46,74 +49,51 @@ fn script_of(rt: &impl Abort, alloc: Global, text: &[u8]) -> Result<Script, NoMe
     }
 }
 
-/// What the rounds of a script came to.
-#[derive(Drop)]
-struct Ran {
-    transcript: Transcript,
-    segments: u32,
-}
-
-/// Runs the rounds of a script over a disk and no batches. A segment hangs from `threshold` pending polls on.
-fn run_text(
-    rt: &impl Abort,
+/// What some work comes to over a disk and no batches. A segment hangs from `threshold` pending polls on.
+fn outcome_of<R: Threads + Wait + Sync>(
+    rt: &R,
     alloc: Global,
     fresh: Fresh,
     threshold: u32,
-    text: &[u8],
-) -> Result<Ran, NoMemory>
+    work: Work,
+) -> Result<Outcome, NoMemory>
     requires threshold { (1 ≤ threshold) × (threshold ≤ 3) }
+    requires sessions { NamesItsOwn work }
 {
-    let Script {
-        rounds,
-        sessions,
-        ..
-    } = script_of(rt, alloc, text)?;
     let Fresh { disk } = fresh;
-    let Ok(journal) = Journal::start(alloc, disk, 1, 10, threshold) else {
-        return Err(NoMemory);
-    };
-    match Pipeline::new(
+    let Run { outcome, disk: _ } = run_work(
+        rt,
         alloc,
-        journal,
-        &ListOf::new(alloc),
-        sessions as usize,
+        ListOf::new(alloc),
+        10,
+        1,
+        threshold,
+        work,
+        disk,
         &NoGate,
-    ) {
-        Ok((mut pipeline, sessions)) => {
-            let mut sessions = sessions.into_vec();
-            let mut transcript = Transcript::new(alloc)?;
-            run_rounds(alloc, &mut pipeline, &mut sessions, rounds, &mut transcript)?;
-            let segments = pipeline.into_journal().segments();
-            Ok(Ran {
-                transcript,
-                segments,
-            })
-        }
-        Err(_) => Err(NoMemory),
-    }
+    );
+    outcome
 }
 
-/// Asserts what the rounds of a script say over a disk.
-fn check(
-    rt: &impl Abort,
+/// Asserts that what a script says over a disk is one of these texts.
+fn check<R: Threads + Wait + Sync + Abort>(
+    rt: &R,
     alloc: Global,
     fresh: Fresh,
     script: &[u8],
-    text: &str,
+    texts: &[&str],
 ) -> Result<(), Fail> {
-    let Ran { transcript, .. } = run_text(rt, alloc, fresh, 3, script)?;
-    assert!(rt;
-        transcript
-            .text
-            .map_or(false, |lines| lines.as_slice() == text.as_bytes())
-    );
-    assert!(rt; !transcript.limited);
+    let work = Work::Script(script_of(rt, alloc, script)?);
+    let Outcome { told, .. } = outcome_of(rt, alloc, fresh, 3, work)?;
+    let said = told.text.as_slice();
+    assert!(rt; texts.iter().any(|text| text.as_bytes() == said));
+    assert!(rt; !told.limited);
     Ok(())
 }
 
-/// Asserts how many segments the rounds of a script begin over an empty disk.
-fn check_segments(
-    rt: &impl Abort,
+/// Asserts how many segments a script begins over an empty disk.
+fn check_segments<R: Threads + Wait + Sync + Abort>(
+    rt: &R,
     alloc: Global,
     threshold: u32,
     script: &[u8],
@@ -121,28 +101,43 @@ fn check_segments(
 ) -> Result<(), Fail>
     requires threshold { (1 ≤ threshold) × (threshold ≤ 3) }
 {
-    let ran = run_text(rt, alloc, Fresh::new(alloc)?, threshold, script)?;
-    assert_eq!(rt; ran.segments, segments);
+    let work = Work::Script(script_of(rt, alloc, script)?);
+    let outcome = outcome_of(rt, alloc, Fresh::new(alloc)?, threshold, work)?;
+    assert_eq!(rt; outcome.end.segments, segments);
     Ok(())
 }
 
 #[test]
-fn sessions_take_their_turns_by_their_numbers(rt: HostRuntime) -> Result<(), Fail> {
+fn the_sessions_of_a_round_commit_in_either_order(rt: HostRuntime) -> Result<(), Fail> {
     let alloc = rt.alloc();
     let fresh = Fresh::new(alloc)?;
     let script = b"commit 1 nosync set b 2\ncommit 0 nosync set a 1\nhalt\n";
-    let text = "s0 commit 10 1\ns1 commit 11 1\n";
-    what_is_run_is_legal();
-    check(&rt, alloc, fresh, script, text)
+    let texts = [
+        "s0 commit 10 1\ns1 commit 11 1\n",
+        "s0 commit 11 1\ns1 commit 10 1\n",
+    ];
+    check(&rt, alloc, fresh, script, &texts)
+}
+
+#[test]
+fn the_replies_of_a_round_stand_by_the_numbers_of_its_sessions(
+    rt: HostRuntime,
+) -> Result<(), Fail> {
+    let alloc = rt.alloc();
+    let fresh = Fresh::new(alloc)?;
+    let script = b"commit 1 nosync set a 1\nround\nget 3 a\nget 0 a\nget 3 b\nget 2 b\n";
+    let text =
+        "s1 commit 10 1\ns0 get a = 1 @11\ns2 get b none @11\ns3 get a = 1 @11\ns3 get b none @11\n";
+    check(&rt, alloc, fresh, script, &[text])
 }
 
 #[test]
 fn a_session_that_is_not_named_has_no_line(rt: HostRuntime) -> Result<(), Fail> {
     let alloc = rt.alloc();
     let fresh = Fresh::new(alloc)?;
-    let script = b"get 3 a\ncommit 1 nosync set a 1\nround\ncommit 3 nosync set b 2\n";
+    let script = b"commit 1 nosync set a 1\nround\nget 3 a\ncommit 3 nosync set b 2\n";
     let text = "s1 commit 10 1\ns3 get a = 1 @11\ns3 commit 11 1\n";
-    check(&rt, alloc, fresh, script, text)
+    check(&rt, alloc, fresh, script, &[text])
 }
 
 #[test]
@@ -151,7 +146,7 @@ fn a_round_begins_after_the_one_before_it(rt: HostRuntime) -> Result<(), Fail> {
     let fresh = Fresh::new(alloc)?;
     let script = b"commit 0 nosync set a 1\nround\nstall p 10\ncommit 0 sync set a 2\n";
     let text = "s0 commit 10 1\ns0 commit 11 1 synced\n";
-    check(&rt, alloc, fresh, script, text)
+    check(&rt, alloc, fresh, script, &[text])
 }
 
 #[test]
@@ -161,7 +156,7 @@ fn a_commit_is_synced_though_all_polls_but_the_last_are_stalled(
     let alloc = rt.alloc();
     let fresh = Fresh::new(alloc)?;
     let script = b"stall p 60\nstall s 60\ncommit 0 sync set a 1\n";
-    check(&rt, alloc, fresh, script, "s0 commit 10 1 synced\n")
+    check(&rt, alloc, fresh, script, &["s0 commit 10 1 synced\n"])
 }
 
 #[test]
@@ -197,5 +192,5 @@ fn a_dead_journal_is_told_and_read(rt: HostRuntime) -> Result<(), Fail> {
     let script =
         b"commit 0 sync set a 1\ncommit 0 nosync set b 2\nget 0 a\nround\ncommit 1 sync set a 3\n";
     let text = "s0 commit 10 1 unsynced\ns0 commit dead\ns0 get a = 1 @11\ns1 commit dead\n";
-    check(&rt, alloc, fresh, script, text)
+    check(&rt, alloc, fresh, script, &[text])
 }

@@ -26,6 +26,8 @@ use disk_face::Disk;
 use script_runner::Work;
 use session_script::{Script, ScriptFault, read_script};
 use std::alloc::Global;
+use std::sync::Wait;
+use std::thread::Threads;
 use wal_base::{Buf, NoMemory};
 
 /// What is said of a script with a bad line.
@@ -48,7 +50,8 @@ fn script_of(alloc: Global, bytes: Buf) -> Result<Script, ScriptFault>
 }
 
 /// What the bytes of a script come to over a disk. A segment hangs from `threshold` pending polls on.
-pub(crate) fn said_of<D: Disk, G: Gate>(
+pub(crate) fn said_of<D: Disk + Send, G: Gate + Sync, R: Threads + Wait + Sync>(
+    rt: &R,
     alloc: Global,
     script: Buf,
     threshold: u32,
@@ -68,7 +71,15 @@ pub(crate) fn said_of<D: Disk, G: Gate>(
     match script_of(alloc, script) {
         Ok(script) => {
             let command = Command::Replay { threshold };
-            work_said(alloc, command, Work::Script(script), threshold, disk, gate)
+            work_said(
+                rt,
+                alloc,
+                command,
+                Work::Script(script),
+                threshold,
+                disk,
+                gate,
+            )
         }
         Err(ScriptFault::BadLine { line }) => Answered {
             said: bad_line_said(alloc, line),

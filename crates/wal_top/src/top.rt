@@ -36,7 +36,8 @@ use wal_base::{NoMemory, PutErr, Sink, Source};
 const USAGE: &str = "usage: replay [--threshold N] | recover | dump | load SEED COUNT\n";
 
 /// What a replay of the source's script has to say. A segment hangs from `threshold` pending polls on.
-fn replayed<S: Source, D: Disk, G: Gate>(
+fn replayed<S: Source, D: Disk + Send, G: Gate + Sync, R: Threads + Wait + Sync>(
+    rt: &R,
     alloc: Global,
     threshold: u32,
     src: &mut S,
@@ -55,7 +56,7 @@ fn replayed<S: Source, D: Disk, G: Gate>(
         Leaves call }
 {
     match read_script_bytes(alloc, src) {
-        Ok(script) => said_of(alloc, script, threshold, disk, gate),
+        Ok(script) => said_of(rt, alloc, script, threshold, disk, gate),
         Err(ReadError::NoMemory) => Answered {
             said: Err(NoMemory),
             disk,
@@ -72,7 +73,8 @@ fn replayed<S: Source, D: Disk, G: Gate>(
 }
 
 /// What a load has to say. It leaves the source alone.
-fn loaded<D: Disk, G: Gate>(
+fn loaded<D: Disk + Send, G: Gate + Sync, R: Threads + Wait + Sync>(
+    rt: &R,
     alloc: Global,
     seed: u64,
     batches: u32,
@@ -90,6 +92,7 @@ fn loaded<D: Disk, G: Gate>(
     let command = Command::Load { seed, batches };
     let load = Load::new(seed, batches);
     work_said(
+        rt,
         alloc,
         command,
         Work::Load(load),
@@ -99,8 +102,10 @@ fn loaded<D: Disk, G: Gate>(
     )
 }
 
-/// Everything of a run before its first byte is written. It waits for nobody.
-fn answered<S: Source, D: Disk, G: Gate>(
+/// Everything of a run before its first byte is written. The sessions of a round run beside one another, and have met
+/// before it answers.
+fn answered<S: Source, D: Disk + Send, G: Gate + Sync, R: Threads + Wait + Sync>(
+    rt: &R,
     alloc: Global,
     words: &[String],
     src: &mut S,
@@ -117,7 +122,7 @@ fn answered<S: Source, D: Disk, G: Gate>(
     ensures unread { (ReadsSource (map string_bytes words.now) → ⊥) → src.new ≡ src.old }
 {
     match read_command(alloc, words) {
-        Ok(Command::Replay { threshold }) => replayed(alloc, threshold, src, disk, gate),
+        Ok(Command::Replay { threshold }) => replayed(rt, alloc, threshold, src, disk, gate),
         Ok(Command::Recover) => {
             let said = store_said(alloc, &mut disk);
             Answered { said, disk }
@@ -126,7 +131,7 @@ fn answered<S: Source, D: Disk, G: Gate>(
             let said = segments_said(alloc, &mut disk);
             Answered { said, disk }
         }
-        Ok(Command::Load { seed, batches }) => loaded(alloc, seed, batches, disk, gate),
+        Ok(Command::Load { seed, batches }) => loaded(rt, alloc, seed, batches, disk, gate),
         Err(WordsFault::Usage) => Answered {
             said: saying(alloc, Status::Usage, USAGE),
             disk,
@@ -180,7 +185,7 @@ pub fn run<S: Source, K: Sink, D: Disk + Send, G: Gate + Sync, R: Threads + Wait
         Leaves call }
     ensures unread { (ReadsSource (map string_bytes words.now) → ⊥) → src.new ≡ src.old }
 {
-    let Answered { said, disk } = answered(alloc, words, src, disk, gate);
+    let Answered { said, disk } = answered(rt, alloc, words, src, disk, gate);
     match said {
         Ok(said) => {
             let status = ended(out, &said);

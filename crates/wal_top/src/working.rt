@@ -22,6 +22,8 @@ use disk_face::{Disk, WAL_MAX};
 use script_runner::{Outcome, Run, Work, run_work};
 use session_script::{LoadEnd, load_number, put_load_end, put_run_end};
 use std::alloc::Global;
+use std::sync::Wait;
+use std::thread::Threads;
 use wal_base::{Buf, NoMemory};
 use wal_recovery::{Mode, recover};
 
@@ -99,7 +101,8 @@ fn run_said(
 }
 
 /// What the work of a command comes to over a disk. A segment hangs from `threshold` pending polls on.
-pub(crate) fn work_said<D: Disk, G: Gate>(
+pub(crate) fn work_said<D: Disk + Send, G: Gate + Sync, R: Threads + Wait + Sync>(
+    rt: &R,
     alloc: Global,
     command: Command,
     work: Work,
@@ -126,6 +129,7 @@ pub(crate) fn work_said<D: Disk, G: Gate>(
                 };
             }
             let Run { outcome, disk } = run_work(
+                rt,
                 alloc,
                 found.batches,
                 found.next,

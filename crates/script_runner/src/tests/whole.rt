@@ -1,45 +1,24 @@
 //! Whole runs.
 
-ghost use Rattle.script_runner.specs.Works.{NamesItsOwn};
-
-use super::{Fresh, script_of};
-use crate::{Outcome, Run, Told, Work, run_work};
-use commit_pipeline::NoGate;
+use super::{Fresh, outcome_of, script_of};
+use crate::{Outcome, Told, Work};
 use session_script::{Load, put_run_end};
 use std::alloc::Global;
 use std::process::Abort;
+use std::sync::Wait;
 use std::test::Fail;
-use wal_base::{ListOf, NoMemory};
-
-/// What some work comes to over a disk and no batches.
-#[tactic(auto, unfolding(batch_repr::specs::Batches::IsContiguous, batch_repr::specs::Batches::end_after))]
-fn outcome_of(alloc: Global, fresh: Fresh, work: Work) -> Result<Outcome, NoMemory>
-    requires { NamesItsOwn work }
-{
-    let Fresh { disk } = fresh;
-    let Run { outcome, disk: _ } = run_work(
-        alloc,
-        ListOf::new(alloc),
-        10,
-        1,
-        3,
-        work,
-        disk,
-        &NoGate,
-    );
-    outcome
-}
+use std::thread::Threads;
 
 /// Asserts all that a script says over a disk.
-fn check(
-    rt: &impl Abort,
+fn check<R: Threads + Wait + Sync + Abort>(
+    rt: &R,
     alloc: Global,
     fresh: Fresh,
     script: &[u8],
     text: &str,
 ) -> Result<(), Fail> {
     let script = script_of(rt, alloc, script)?;
-    let Outcome { told, end } = outcome_of(alloc, fresh, Work::Script(script))?;
+    let Outcome { told, end } = outcome_of(rt, alloc, fresh, 3, Work::Script(script))?;
     let Told {
         text: mut said,
         limited,
@@ -52,15 +31,15 @@ fn check(
 }
 
 /// Asserts how a load of seed 7 and so many batches ends over an empty disk.
-fn check_load(
-    rt: &impl Abort,
+fn check_load<R: Threads + Wait + Sync + Abort>(
+    rt: &R,
     alloc: Global,
     batches: u32,
     visible: u64,
     live: u32,
 ) -> Result<(), Fail> {
     let load = Load::new(7, batches);
-    let outcome = outcome_of(alloc, Fresh::new(alloc)?, Work::Load(load))?;
+    let outcome = outcome_of(rt, alloc, Fresh::new(alloc)?, 3, Work::Load(load))?;
     assert!(rt; outcome.end.visible == visible);
     assert!(rt; outcome.end.batches == u64::from(batches));
     assert!(rt; outcome.end.acked == u64::from(batches));
@@ -83,9 +62,9 @@ fn a_load_deletes_every_eighth_key_of_its_last_round(rt: HostRuntime) -> Result<
 fn a_script_that_halts_leaves_its_journal_as_it_is(rt: HostRuntime) -> Result<(), Fail> {
     let alloc = rt.alloc();
     let fresh = Fresh::new(alloc)?;
-    let script = b"commit 1 nosync set b 2\ncommit 0 nosync set a 1\nhalt\n";
+    let script = b"commit 1 nosync set b 2\nround\ncommit 0 nosync set a 1\nhalt\n";
     let text =
-        "s0 commit 10 1\ns1 commit 11 1\nend visible 12 batches 2 acked 0 segments 1 halted\n";
+        "s1 commit 10 1\ns0 commit 11 1\nend visible 12 batches 2 acked 0 segments 1 halted\n";
     check(&rt, alloc, fresh, script, text)
 }
 

@@ -239,7 +239,7 @@ fn a_batch_over_its_limit_makes_a_bad_line(rt: HostRuntime) -> Result<(), Fail> 
 
 #[test]
 fn the_greatest_numbers_of_a_line_are_taken(rt: HostRuntime) -> Result<(), Fail> {
-    let script = "stall s 100000\nstall p 1\ncommit 63 sync set a 1\nget 9 a\nget 10 a\n";
+    let script = "get 9 a\nget 10 a\nround\nstall s 100000\nstall p 1\ncommit 63 sync set a 1\n";
     let text = "s9 get a none @10\n\
         s10 get a none @10\n\
         s63 commit 10 1 synced\n\

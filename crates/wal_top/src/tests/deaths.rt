@@ -32,14 +32,17 @@ fn a_commit_whose_syncs_fail_is_unsynced_and_the_next_is_dead(rt: HostRuntime) -
         ),
         // So it is for each session, and in each later round.
         (
-            "commit 2 sync set b 2\n\
+            "commit 0 sync set a 1\n\
+                round\n\
+                commit 2 sync set b 2\n\
                 get 2 a\n\
-                commit 0 sync set a 1\n\
+                commit 1 nosync set c 3\n\
                 round\n\
                 commit 1 nosync set c 3\n\
                 get 1 c\n\
                 get 0 a\n",
             "s0 commit 10 1 unsynced\n\
+                s1 commit dead\n\
                 s2 commit dead\n\
                 s2 get a = 1 @11\n\
                 s0 get a = 1 @11\n\

@@ -173,23 +173,6 @@ impl Plain {
         Ok(())
     }
 
-    /// Adds the replies to the lines of a round: session by session.
-    fn answer_round(
-        &mut self,
-        alloc: Global,
-        out: &mut String,
-        lines: &[Asked],
-    ) -> Result<(), AllocError> {
-        for session in 0..SESSIONS {
-            for asked in lines {
-                if asked.session == session {
-                    self.answer(alloc, out, asked)?;
-                }
-            }
-        }
-        Ok(())
-    }
-
     /// What is recovered of the store.
     fn shown(&self, alloc: Global) -> Result<String, AllocError> {
         let mut out = String::new(alloc);
@@ -218,19 +201,21 @@ fn case_of(alloc: Global, seed: u64) -> Result<Case, AllocError> {
     let mut script = String::new(alloc);
     let mut text = String::new(alloc);
     let mut plain = Plain::new(alloc);
-    let mut round = Vec::new(alloc);
+    // Sessions of one round commit in any order, so each round is of one session.
+    let mut session = 0;
     for _ in 0..LINES {
         if random.below(12) == 0 {
             script.push_str("round\n")?;
-            plain.answer_round(alloc, &mut text, &round)?;
-            round.clear();
         } else {
             let asked = random_line(alloc, &mut random)?;
+            if asked.session != session {
+                script.push_str("round\n")?;
+                session = asked.session;
+            }
             put_line(alloc, &mut script, &asked)?;
-            round.push(asked)?;
+            plain.answer(alloc, &mut text, &asked)?;
         }
     }
-    plain.answer_round(alloc, &mut text, &round)?;
     let Plain { next, batches, .. } = &plain;
     let end = format!(in alloc;
         "end visible {next} batches {batches} acked {batches} segments 1 closed\n"

@@ -30,7 +30,7 @@ fn a_halt_leaves_what_a_sync_covered(rt: HostRuntime) -> Result<(), Fail> {
             one,
         ),
         (
-            "commit 0 sync set a 1\ncommit 1 nosync set b 2\nget 1 b\nhalt\n",
+            "commit 0 sync set a 1\nround\ncommit 1 nosync set b 2\nget 1 b\nhalt\n",
             "s0 commit 10 1 synced\n\
                 s1 commit 11 1\n\
                 s1 get b = 2 @12\n\
@@ -71,7 +71,7 @@ fn a_replay_goes_on_where_a_halted_one_crashed(rt: HostRuntime) -> Result<(), Fa
         end visible 12 batches 2 acked 1 segments 1 halted\n";
     let disk = check_replay(&rt, alloc, script, Status::Done, text)?;
     let rig = Rig::after_crash(&rt, alloc, disk);
-    let script = b"get 0 a\ncommit 0 nosync set a 3\nget 1 a\n";
+    let script = b"get 0 a\ncommit 0 nosync set a 3\nround\nget 1 a\n";
     let text = "s0 get a = 1 @11\n\
         s0 commit 11 1\n\
         s1 get a = 3 @12\n\

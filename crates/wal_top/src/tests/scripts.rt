@@ -5,31 +5,33 @@ use std::test::Fail;
 #[test]
 fn the_sessions_of_a_round_answer_by_their_numbers(rt: HostRuntime) -> Result<(), Fail> {
     for (script, text) in [
-        (
-            "commit 1 nosync set b 2\ncommit 0 nosync set a 1\nhalt\n",
-            "s0 commit 10 1\ns1 commit 11 1\nend visible 12 batches 2 acked 0 segments 1 halted\n",
-        ),
-        (
-            "commit 0 nosync set a 1\ncommit 1 nosync set b 2\nround\nget 0 b\nget 1 a\n",
-            "s0 commit 10 1\n\
-                s1 commit 11 1\n\
-                s0 get b = 2 @12\n\
-                s1 get a = 1 @12\n\
-                end visible 12 batches 2 acked 2 segments 1 closed\n",
-        ),
         // The lines of a session keep their order, and a later round waits for an earlier one.
         (
             "get 63 a\n\
+                get 5 a\n\
+                round\n\
                 commit 5 sync set a 5\n\
                 get 5 a\n\
+                round\n\
                 commit 0 nosync set a 0\n\
                 round\n\
+                get 63 a\n\
+                get 0 b\n\
+                get 5 a\n\
+                get 0 a\n\
+                round\n\
                 commit 5 nosync del a\n\
+                round\n\
                 get 63 a\n",
-            "s0 commit 10 1\n\
-                s5 commit 11 1 synced\n\
-                s5 get a = 5 @12\n\
-                s63 get a = 5 @12\n\
+            "s5 get a none @10\n\
+                s63 get a none @10\n\
+                s5 commit 10 1 synced\n\
+                s5 get a = 5 @11\n\
+                s0 commit 11 1\n\
+                s0 get b none @12\n\
+                s0 get a = 0 @12\n\
+                s5 get a = 0 @12\n\
+                s63 get a = 0 @12\n\
                 s5 commit 12 1\n\
                 s63 get a none @13\n\
                 end visible 13 batches 3 acked 3 segments 1 closed\n",

@@ -99,10 +99,11 @@ fn the_log_moves_to_and_fro_from_round_to_round(rt: HostRuntime) -> Result<(), F
         stall s 3\n\
         commit 0 sync set a 3\n\
         round\n\
+        get 0 a\n\
+        round\n\
         stall p 3\n\
         stall s 2\n\
-        commit 1 sync set a 4\n\
-        get 0 a\n";
+        commit 1 sync set a 4\n";
     let text = "s0 commit 10 1 synced\n\
         s1 commit 11 1 synced\n\
         s0 commit 12 1 synced\n\

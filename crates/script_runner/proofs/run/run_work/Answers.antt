@@ -18,7 +18,7 @@ use Rattle.script_runner.proofs.TellsOf.{polls_told, others_told}
 use Rattle.script_runner.proofs.run.run_work.Goals as goal
 
 pub run_over-outcome-requires-clause-base : goal.run_over-outcome-requires-clause-base
-run_over-outcome-requires-clause-base g c =
+run_over-outcome-requires-clause-base g c κs within =
     ends_before NUMBER_FIRST c.in-Ok.journal.state.next c.args.base c.requires.numbered
     (ap (λ (j : JournalView _). j.state.next) c.in-Ok.ensures.made ∙ c.requires.next)
 

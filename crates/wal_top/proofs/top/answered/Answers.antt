@@ -1,12 +1,14 @@
-use Rattle.std.proofs.Common.{map, Err, inr, refl, ap, subst}
+use Rattle.std.proofs.Common.{◌+◌, map, Err, inr, refl, ap, subst}
 use Rattle.std.specs.String.{string_bytes}
 use Rattle.command_line.specs.declared.command.Command.{Command}
 use Rattle.command_line.specs.declared.command.Command.TheVariants as commands
 use Rattle.command_line.specs.Commands.{IsCommandOf}
+use Rattle.wal_top.specs.declared.reading.TheConstants.{SCRIPT_MAX}
 use Rattle.wal_top.specs.Call.{Invocation, call_of, change_in}
 use Rattle.wal_top.specs.Outcomes.{HasToSay}
+use Rattle.wal_top.proofs.AddsPiece.{took_none}
 use Rattle.wal_top.proofs.Saying.{ok_map, as_told}
-use Rattle.wal_top.proofs.Leaves.{leaves_no_journal, leaves_all}
+use Rattle.wal_top.proofs.Leaves.{leaves_journal, leaves_no_journal, leaves_all}
 use Rattle.wal_top.proofs.top.answered.Goals as goal
 
 replays : (g : _) (c : goal.After-replayed g) → IsCommandOf (map string_bytes c.args.words.now) (commands.Replay c.in-Ok-Replay.threshold)
@@ -48,3 +50,15 @@ returns-in-Ok-Dump-clause-leaves g c =
 
 pub returns-in-Err-Usage-clause-leaves : goal.returns-in-Err-Usage-clause-leaves
 returns-in-Err-Usage-clause-leaves g c = leaves_all (map string_bytes c.args.words.now) (g.S.Source.left c.args.src.now) (g.S.Source.faults c.args.src.now) g.D.Disk.tells (g.D.Disk.view c.args.disk) c.requires
+
+pub returns-in-Ok-Load-clause-leaves : goal.returns-in-Ok-Load-clause-leaves
+returns-in-Ok-Load-clause-leaves g c =
+    let words = map string_bytes c.args.words.now in
+    let e = c.loaded.ensures in
+    let load : IsCommandOf words (commands.Load c.in-Ok-Load.seed c.in-Ok-Load.batches) =
+    subst (IsCommandOf words) c.in-Ok-Load.field-0-is c.in-Ok-Load.ensures.command in
+    leaves_journal
+    (call_of words g.S.Source.left g.S.Source.faults c.args.src.now c.args.src.now g.D.Disk.tells g.D.Disk.view c.args.disk c.loaded.result.disk)
+    (inr (c.in-Ok-Load.seed, c.in-Ok-Load.batches, load))
+    (took_none (g.S.Source.left c.args.src.now) (g.S.Source.left c.args.src.now) (SCRIPT_MAX + 1) refl)
+    e.went_on (λ none. e.polls) e.others

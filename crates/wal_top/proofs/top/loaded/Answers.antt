@@ -13,7 +13,7 @@ use Rattle.wal_top.proofs.Saying.{ok_map}
 use Rattle.wal_top.proofs.top.loaded.Goals as goal
 
 pub work_said-requires-clause-sessions : goal.work_said-requires-clause-sessions
-work_said-requires-clause-sessions g c =
+work_said-requires-clause-sessions g c κs within =
     subst (NameSessions LOAD_SESSIONS) (sym c.new-load.ensures) (load_names_four c.args.seed c.args.batches)
 
 pub returns-clause-polls : goal.returns-clause-polls

@@ -31,9 +31,11 @@ returns-then-found-gt-WAL_MAX-clause-says g c =
     })) p.0 p.1)
 
 pub run_work-outcome-requires-clause-absent : goal.run_work-outcome-requires-clause-absent
-run_work-outcome-requires-clause-absent g c = λ told.
-    are_unsent c.in-Ok.found.next_wal (files (g.D.Disk.view c.args.disk)) (files (g.D.Disk.view c.recover.new.disk)) (g.D.Disk.view c.recover.new.disk) refl (λ p f is. g.met.D.Disk.sound c.recover.new.disk p f told is)
-    (c.in-Ok.ensures.next_wal told) c.if-found-gt-WAL_MAX.false (c.in-Ok.ensures.files told)
+run_work-outcome-requires-clause-absent g c κs within = λ told.
+    let disk = c.recover.new.disk in
+    let laws = g.met.D.Disk g.world.𝓛 g.world.𝓜 g.world.𝓡 ((λ s x. x), (λ x. x), (λ x. x), λ x. x) in
+    are_unsent c.in-Ok.found.next_wal (files (g.D.Disk.view c.args.disk)) (files (g.D.Disk.view disk)) (g.D.Disk.view disk) refl
+    (λ p f is. laws.sound disk p f told is) (c.in-Ok.ensures.next_wal told) c.if-found-gt-WAL_MAX.false (c.in-Ok.ensures.files told)
 
 pub returns-in-Err-clause-says : goal.returns-in-Err-clause-says
 returns-in-Err-clause-says g c =

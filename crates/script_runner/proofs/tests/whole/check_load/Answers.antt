@@ -5,5 +5,6 @@ use Rattle.session_script.proofs.Laws.{load_names_four}
 use Rattle.script_runner.specs.Rounds.{NameSessions}
 use Rattle.script_runner.proofs.tests.whole.check_load.Goals as goal
 
-pub outcome_of-requires : goal.outcome_of-requires
-outcome_of-requires g c = subst (NameSessions LOAD_SESSIONS) (sym c.new-load.ensures) (load_names_four 7 c.args.batches)
+pub outcome_of-requires-clause-sessions : goal.outcome_of-requires-clause-sessions
+outcome_of-requires-clause-sessions g c κs within =
+    subst (NameSessions LOAD_SESSIONS) (sym c.new-load.ensures) (load_names_four 7 c.args.batches)

@@ -1,0 +1,61 @@
+-- The work is done over the pipeline, and what it held is told of its journal.
+use Rattle.std.proofs.Common.{◌≡◌, ◌∙◌, Bool, IsTrue, refl, ap, sym, subst, arith, rules, length}
+use Rattle.std.specs.Vec.{vec_len}
+use Rattle.commit_pipeline.specs.Holding.{Opening, KeepsJournal}
+use Rattle.shared_pipeline.specs.Parts.{AreNew}
+use Rattle.script_runner.specs.Works.{work_rounds, halts}
+use Rattle.script_runner.specs.Runs.{EndsJournal}
+use Rattle.script_runner.proofs.AllowsStalls.{allowed}
+use Rattle.script_runner.proofs.PlaysAll.{plays_count}
+use Rattle.script_runner.proofs.HandsOnOver.{named_own, handed_further}
+use Rattle.script_runner.proofs.RunsOver.{runs_over}
+use Rattle.script_runner.proofs.run.over_names.Goals as goal
+
+pub perform-requires-clause-named : goal.perform-requires-clause-named
+perform-requires-clause-named g c κs within =
+    named_own c.args.work (length c.in-Ok.made.1.items) c.requires.sessions.0 (c.in-Ok.ensures.sessions.all ∙ c.requires.sessions.1)
+
+pub perform-requires-clause-may : goal.perform-requires-clause-may
+perform-requires-clause-may g c κs within =
+    allowed g.N.PipeName.opening (work_rounds c.args.work)
+    (λ some. subst IsTrue (sym (ap (λ (o : Opening). o.may_stall) c.requires.opening)) some)
+
+pub finish-journal-requires : goal.finish-journal-requires
+finish-journal-requires g c =
+    let done = c.in-Ok-perform.ensures in
+    let made = c.in-Ok.made.1.items in
+    let items = c.in-Ok-perform.sessions.items in
+    let whole : vec_len c.in-Ok-perform.sessions ≡ length items = search rules in
+    let count : vec_len c.in-Ok-perform.sessions ≡ c.args.parts.sessions = whole ∙ done.stay.all
+    ∙ plays_count g.N.PipeName.opening (work_rounds c.args.work) done.replies made done.mid done.plays ∙ c.in-Ok.ensures.sessions.all in
+    record { all = (count ∙ c.requires.batches.1, omega (arith, count, c.requires.answers.1)) }
+
+pub returns-in-Ok-end_journal-clause-keeps : goal.returns-in-Ok-end_journal-clause-keeps
+returns-in-Ok-end_journal-clause-keeps g c =
+    let ends = c.finish-journal.ensures in
+    let left = c.finish-journal.result.journal in
+    handed_further g.D.Disk.tells g.D.Disk.view c.args.parts.base (work_rounds c.args.work) c.args.journal left c.end_journal.new.journal ends.0
+    (subst (λ (o : Opening). KeepsJournal g.D.Disk.tells o ends.0 left.state (g.D.Disk.view left.disk)) c.requires.opening ends.1.keeps)
+    c.end_journal.ensures.keeps
+
+pub returns-in-Err-end_journal-clause-keeps : goal.returns-in-Err-end_journal-clause-keeps
+returns-in-Err-end_journal-clause-keeps g c =
+    let ends = c.finish-journal.ensures in
+    let left = c.finish-journal.result.journal in
+    handed_further g.D.Disk.tells g.D.Disk.view c.args.parts.base (work_rounds c.args.work) c.args.journal left c.end_journal.new.journal ends.0
+    (subst (λ (o : Opening). KeepsJournal g.D.Disk.tells o ends.0 left.state (g.D.Disk.view left.disk)) c.requires.opening ends.1.keeps)
+    c.end_journal.ensures.keeps
+
+pub returns-in-Ok-end_journal-clause-ran : goal.returns-in-Ok-end_journal-clause-ran
+returns-in-Ok-end_journal-clause-ran g c =
+    let finished = c.finish-journal.result in
+    let new = c.end_journal.new.journal in
+    let made = c.in-Ok.made.1.items in
+    let fresh : AreNew (length made) made = record { all = refl; each = c.in-Ok.ensures.sessions.each } in
+    let ended : EndsJournal g.D.Disk.view (halts c.args.work) finished.visible finished.batches finished.journal new c.in-Ok-end_journal.end =
+    subst (λ (h : Bool). EndsJournal g.D.Disk.view h finished.visible finished.batches finished.journal new c.in-Ok-end_journal.end)
+    c.halts-halted.ensures c.in-Ok-end_journal.ensures.ends in
+    runs_over g.D.Disk.tells g.D.Disk.view c.args.parts.base c.args.work g.N.PipeName.opening c.args.journal finished.journal new made
+    c.in-Ok-perform.sessions.items finished.visible finished.batches c.in-Ok-perform.told c.in-Ok-end_journal.end c.requires.opening fresh
+    (named_own c.args.work (length made) c.requires.sessions.0 (c.in-Ok.ensures.sessions.all ∙ c.requires.sessions.1))
+    c.in-Ok-perform.ensures c.finish-journal.ensures c.end_journal.ensures.keeps ended

@@ -1,0 +1,10 @@
+-- A pipeline may stand on no batches.
+use Rattle.std.proofs.Common.{List, sym, subst}
+use Rattle.batch_repr.specs.declared.batch.Batch.{Batch}
+use Rattle.commit_pipeline.specs.Holding.{EndsBefore}
+use Rattle.commit_pipeline.proofs.Laws.{no_base}
+use Rattle.script_runner.proofs.tests.numbers.told_over.Goals as goal
+
+pub new-requires-clause-base : goal.new-requires-clause-base
+new-requires-clause-base g c =
+    subst (λ (base : List Batch). EndsBefore base c.next.result) (sym c.new-base.ensures) (no_base c.next.result)

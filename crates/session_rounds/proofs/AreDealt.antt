@@ -1,0 +1,119 @@
+-- Line by line, from the last one on, each session has its lines.
+use Rattle.std.specs.Prelude.{◌≡◌, ◌⊎◌, ℕ, zero, suc, ◌<◌, Bool, true, false, cond, List, [], ◌∷◌, ◌++◌, length, map, Some, slice_get, slice_set}
+use Rattle.std.proofs.Common.{inl, inr, refl, sym, ap, ◌∙◌, subst, append_assoc, ne_eqb}
+use Rattle.std.proofs.lemmas.List.{append-nil, length-set}
+use Rattle.std.proofs.lemmas.Bool.{eq-eqb}
+use Rattle.session_script.specs.declared.script.Line.{Line}
+use Rattle.session_script.specs.Legal.{is_of, lines_of_session}
+use Rattle.shared_pipeline.specs.declared.standing.Standing.{Standing}
+use Rattle.session_rounds.specs.declared.course.Course.{Course}
+use Rattle.session_rounds.specs.Playing.{LinesAreOfSome}
+use Rattle.session_rounds.specs.Turns.{turn_with, beginning, with_line, AreDealt}
+
+-- The turns as they begin are those of no line.
+beginning_at : (ss : List Standing) (i : ℕ) (s : Standing) → slice_get ss i ≡ Some s → slice_get (map beginning ss) i ≡ Some (turn_with s [])
+beginning_at [] i s e = absurd cc
+beginning_at (x ∷ ss) zero s e = let is : x ≡ s = cc in ap (λ (t : Standing). Some (beginning t)) is
+beginning_at (x ∷ ss) (suc i) s e = beginning_at ss i s e
+
+-- There are as many of them.
+length_beginning : (ss : List Standing) → length (map beginning ss) ≡ length ss
+length_beginning [] = refl
+length_beginning (s ∷ ss) = ap suc (length_beginning ss)
+
+-- So no line is dealt.
+no_line : (ss : List Standing) → AreDealt ss [] (map beginning ss)
+no_line ss = record { all = length_beginning ss; each = beginning_at ss }
+
+-- ---- a line more
+
+-- an item that was put at its place, and one at another place
+get_set_same : {A : Type 0} (xs : List A) (at : ℕ) (old new : A) → slice_get xs at ≡ Some old → slice_get (slice_set xs at new) at ≡ Some new
+get_set_same [] at old new e = absurd cc
+get_set_same (x ∷ xs) zero old new e = refl
+get_set_same (x ∷ xs) (suc at) old new e = get_set_same xs at old new e
+
+get_set_apart : {A : Type 0} (xs : List A) (at i : ℕ) (new : A) → (at ≡ i → ⊥) → slice_get (slice_set xs at new) i ≡ slice_get xs i
+get_set_apart [] at i new apart = refl
+get_set_apart (x ∷ xs) zero zero new apart = absurd (apart refl)
+get_set_apart (x ∷ xs) zero (suc i) new apart = refl
+get_set_apart (x ∷ xs) (suc at) zero new apart = refl
+get_set_apart (x ∷ xs) (suc at) (suc i) new apart = get_set_apart xs at i new (λ same. apart (ap suc same))
+
+-- Two numbers are the same, or not.
+same_or : (a b : ℕ) → (a ≡ b) ⊎ (a ≡ b → ⊥)
+same_or zero zero = inl refl
+same_or zero (suc b) = inr (λ same. absurd cc)
+same_or (suc a) zero = inr (λ same. absurd cc)
+same_or (suc a) (suc b) = elim (same_or a b) [ inl same ↦ inl (ap suc same) | inr apart ↦ inr (λ same. apart cc) ]
+
+-- The lines of a session with one before them, where that is of it and where it is not.
+own_line : (i : ℕ) (line : Line) (lines : List Line) (b : Bool) → is_of i line ≡ b
+    → lines_of_session i (line ∷ lines) ≡ cond b (line ∷ lines_of_session i lines) (lines_of_session i lines)
+own_line i line lines b e = ap (λ (c : Bool). cond c (line ∷ lines_of_session i lines) (lines_of_session i lines)) e
+
+-- The line comes before those of its session, and the others keep theirs.
+line_more : (ss : List Standing) (line : Line) (lines : List Line) (ts : List Course) (t : Course) → AreDealt ss lines ts
+    → slice_get ts line.session ≡ Some t → AreDealt ss (line ∷ lines) (slice_set ts line.session (with_line line t))
+line_more ss line lines ts t dealt there = record {
+  all = length-set ts line.session (with_line line t) ∙ dealt.all;
+  each = λ i s e. elim (same_or line.session i) [
+    | inl same ↦
+        let was : slice_get ts line.session ≡ Some (turn_with s (lines_of_session i lines)) = ap (slice_get ts) same ∙ dealt.each i s e in
+        let is : t ≡ turn_with s (lines_of_session i lines) = cc in
+        ap (slice_get (slice_set ts line.session (with_line line t))) (sym same)
+        ∙ get_set_same ts line.session t (with_line line t) there
+        ∙ ap (λ (u : Course). Some (with_line line u)) is
+        ∙ ap (λ (l : List Line). Some (turn_with s l)) (sym (own_line i line lines true (eq-eqb line.session i same)))
+    | inr apart ↦
+        get_set_apart ts line.session i (with_line line t) apart ∙ dealt.each i s e
+        ∙ ap (λ (l : List Line). Some (turn_with s l)) (sym (own_line i line lines false (ne_eqb line.session i apart)))
+  ];
+}
+
+-- ---- all lines
+
+-- The last lines are dealt, and these are left.
+pub record DealtSoFar (ss : List Standing) (all left : List Line) (ts : List Course) : Type 0 where
+  pub rest : List Line
+  pub is : left ++ rest ≡ all
+  pub named : LinesAreOfSome (length ss) left
+  pub dealt : AreDealt ss rest ts
+
+-- Lines before a last one are of some sessions where all are.
+all_but_last : (n : ℕ) (lines : List Line) (line : Line) → LinesAreOfSome n (lines ++ line ∷ []) → LinesAreOfSome n lines
+all_but_last n [] line all = record {}
+all_but_last n (l ∷ lines) line all = (all.0, all_but_last n lines line all.1)
+
+-- And so it is of the last.
+last_of_all : (n : ℕ) (lines : List Line) (line : Line) → LinesAreOfSome n (lines ++ line ∷ []) → line.session < n
+last_of_all n [] line all = all.0
+last_of_all n (l ∷ lines) line all = last_of_all n lines line all.1
+
+-- At first none is dealt.
+pub none_dealt : (ss : List Standing) (all : List Line) → LinesAreOfSome (length ss) all → DealtSoFar ss all all (map beginning ss)
+none_dealt ss all named = record { rest = []; is = append-nil all; named = named; dealt = no_line ss }
+
+-- The last one that is left is of one of them.
+pub next_is_of_some : (ss : List Standing) (all old new : List Line) (line : Line) (ts : List Course) → DealtSoFar ss all old ts
+    → old ≡ new ++ line ∷ [] → line.session < length ts
+next_is_of_some ss all old new line ts so taken =
+    subst (λ (n : ℕ). line.session < n) (sym so.dealt.all)
+    (last_of_all (length ss) new line (subst (LinesAreOfSome (length ss)) taken so.named))
+
+-- One more is dealt.
+pub one_more : (ss : List Standing) (all old new : List Line) (line : Line) (ts : List Course) (t t' : Course) → DealtSoFar ss all old ts
+    → old ≡ new ++ line ∷ [] → slice_get ts line.session ≡ Some t → t' ≡ with_line line t
+    → DealtSoFar ss all new (slice_set ts line.session t')
+one_more ss all old new line ts t t' so taken there is = record {
+  rest = line ∷ so.rest;
+  is = sym (append_assoc new (line ∷ []) so.rest) ∙ ap (λ (l : List Line). l ++ so.rest) (sym taken) ∙ so.is;
+  named = all_but_last (length ss) new line (subst (LinesAreOfSome (length ss)) taken so.named);
+  dealt = subst (λ (u : Course). AreDealt ss (line ∷ so.rest) (slice_set ts line.session u)) (sym is)
+      (line_more ss line so.rest ts t so.dealt there);
+}
+
+-- All are dealt where none is left.
+pub all_dealt : (ss : List Standing) (all left : List Line) (ts : List Course) → DealtSoFar ss all left ts → left ≡ [] → AreDealt ss all ts
+all_dealt ss all left ts so none =
+    subst (λ (l : List Line). AreDealt ss l ts) (ap (λ (l : List Line). l ++ so.rest) (sym none) ∙ so.is) so.dealt

@@ -1,0 +1,16 @@
+-- What the crates above cite of these proofs, and all that they may.
+pub mod Laws
+mod Covers
+mod IsPrefix
+mod Follows
+mod InTurn
+mod BySessions
+mod Courses
+mod AreOwned
+mod IsLegalRound
+mod AreLegal
+mod IsSeen
+mod DeathLasts
+mod PlaysTurn
+mod AreDealt
+mod Played

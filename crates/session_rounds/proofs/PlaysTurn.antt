@@ -1,0 +1,68 @@
+-- The lines of a turn, answered one after another.
+use Rattle.std.specs.Prelude.{◌≡◌, List, [], ◌∷◌, ◌++◌, map, reverse}
+use Rattle.std.proofs.Common.{refl, sym, ap, ◌∙◌, subst, append_assoc}
+use Rattle.std.proofs.lemmas.List.{map-append, append-nil, reverse-append}
+use Rattle.session_script.specs.declared.script.Line.{Line}
+use Rattle.session_script.specs.declared.replies.Said.{Said}
+use Rattle.session_script.specs.Legal.{Replied}
+use Rattle.commit_pipeline.specs.Holding.{Opening}
+use Rattle.shared_pipeline.specs.declared.standing.Standing.{Standing}
+use Rattle.session_rounds.specs.declared.answers.Answer.{Answer}
+use Rattle.session_rounds.specs.declared.course.Course.{Course}
+use Rattle.session_rounds.specs.Acts.{Does, DoesLines}
+use Rattle.session_rounds.specs.Playing.{answers_of}
+use Rattle.session_rounds.specs.Turns.{PlaysTurn}
+
+-- A line is done after others.
+does_push : (opening : Opening) (replies : List Replied) (reply : Replied) (s mid s' : Standing) → DoesLines opening s replies mid
+    → Does opening mid reply.line.act reply.said s' → DoesLines opening s (replies ++ reply ∷ []) s'
+unfolding DoesLines
+does_push opening [] reply s mid s' done does = (s', subst (λ (m : Standing). Does opening m reply.line.act reply.said s') done does, refl)
+does_push opening (r ∷ replies) reply s mid s' done does = (done.0, done.1, does_push opening replies reply done.0 mid s' done.2 does)
+
+-- The lines of a turn up to those that are left are answered.
+pub record AnsweredSoFar (opening : Opening) (t : Course) (left : List Line) (answers : List Answer) (s : Standing) : Type 0 where
+  pub replies : List Replied
+  pub lines_are : map (λ (r : Replied). r.line) replies ++ left ≡ t.lines
+  pub answers_are : answers ≡ t.answers ++ answers_of replies
+  pub does : DoesLines opening t.session replies s
+
+-- None is yet.
+pub none_answered : (opening : Opening) (t : Course) (left : List Line) (answers : List Answer) (s : Standing) → left ≡ t.lines
+    → answers ≡ t.answers → s ≡ t.session → AnsweredSoFar opening t left answers s
+unfolding DoesLines
+none_answered opening t left answers s lines_is answers_is session_is = record {
+  replies = [];
+  lines_are = lines_is;
+  answers_are = answers_is ∙ sym (append-nil t.answers);
+  does = session_is;
+}
+
+-- One more is.
+pub one_more : (opening : Opening) (t : Course) (before after : List Line) (line : Line) (said : Said) (old new : List Answer)
+    (s s' : Standing) → AnsweredSoFar opening t (reverse before) old s → before ≡ after ++ line ∷ [] → Does opening s line.act said s'
+    → new ≡ old ++ record { session = line.session; said = said } ∷ [] → AnsweredSoFar opening t (reverse after) new s'
+one_more opening t before after line said old new s s' so taken does pushed =
+    let reply : Replied = record { line = line; said = said } in
+    let next : reverse before ≡ line ∷ reverse after = ap reverse taken ∙ reverse-append after (line ∷ []) in record {
+      replies = so.replies ++ reply ∷ [];
+      lines_are = ap (λ (l : List Line). l ++ reverse after) (map-append (λ (r : Replied). r.line) so.replies (reply ∷ []))
+          ∙ append_assoc (map (λ (r : Replied). r.line) so.replies) (line ∷ []) (reverse after)
+          ∙ ap (λ (l : List Line). map (λ (r : Replied). r.line) so.replies ++ l) (sym next) ∙ so.lines_are;
+      answers_are = pushed ∙ ap (λ (l : List Answer). l ++ record { session = line.session; said = said } ∷ []) so.answers_are
+          ∙ append_assoc t.answers (answers_of so.replies) (record { session = line.session; said = said } ∷ [])
+          ∙ ap (λ (l : List Answer). t.answers ++ l)
+          (sym (map-append (λ (r : Replied). record { session = r.line.session; said = r.said }) so.replies (reply ∷ [])));
+      does = does_push opening so.replies reply t.session s s' so.does does;
+    }
+
+-- All are.
+pub all_answered : (opening : Opening) (t t' : Course) (left : List Line) → AnsweredSoFar opening t (reverse left) t'.answers t'.session
+    → left ≡ [] → PlaysTurn opening t t'
+all_answered opening t t' left so none = record {
+  replies = so.replies;
+  lines_are = sym (append-nil (map (λ (r : Replied). r.line) so.replies))
+      ∙ ap (λ (l : List Line). map (λ (r : Replied). r.line) so.replies ++ reverse l) (sym none) ∙ so.lines_are;
+  answers_are = so.answers_are;
+  does = so.does;
+}

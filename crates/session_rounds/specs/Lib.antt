@@ -1,0 +1,4 @@
+pub mod Acts
+pub mod Playing
+pub mod Turns
+pub mod Legality

@@ -1,0 +1,41 @@
+-- How rounds are played by sessions beside one another (docs/FORMATS.md, "The run of a script").
+use Rattle.std.specs.Prelude.{◌≡◌, ℕ, ◌<◌, List, [], ◌∷◌, length, map, Some, slice_get}
+use Rattle.std.specs.List.{AllByRecursion}
+use Rattle.session_script.specs.declared.script.Line.{Line}
+use Rattle.session_script.specs.declared.script.Round.{Round}
+use Rattle.session_script.specs.Legal.{Replied, RepliesTo, replies_of_session}
+use Rattle.commit_pipeline.specs.Holding.{Opening}
+use Rattle.shared_pipeline.specs.declared.standing.Standing.{Standing}
+use Rattle.shared_pipeline.specs.Meeting.{HaveMet}
+use Rattle.session_rounds.specs.declared.answers.Answer.{Answer}
+use Rattle.session_rounds.specs.Acts.{DoesLines}
+
+-- Each line is of one of so many sessions.
+abbrev pub LinesAreOfSome : ℕ → List Line → Type 0
+LinesAreOfSome sessions lines = AllByRecursion (λ (line : Line). line.session < sessions) lines
+
+-- Each session has done its lines of a round, which are answered by these replies.
+pub record PlaysRound (opening : Opening) (lines : List Line) (ss : List Standing) (replies : List Replied) (ss' : List Standing)
+    : Type 0 where
+  pub all : length ss' ≡ length ss
+  pub answered : RepliesTo lines replies
+  pub each : (i : ℕ) (s s' : Standing) → slice_get ss i ≡ Some s → slice_get ss' i ≡ Some s'
+      → DoesLines opening s (replies_of_session i replies) s'
+
+-- The rounds are played one after another, and after each the sessions meet.
+unfoldable pub PlaysRounds : Opening → List Standing → List Round → List (List Replied) → List Standing → Type 0
+PlaysRounds opening ss [] [] ss' = ss' ≡ ss
+PlaysRounds opening ss [] (replies ∷ more) ss' = ⊥
+PlaysRounds opening ss (round ∷ rounds) [] ss' = ⊥
+PlaysRounds opening ss (round ∷ rounds) (replies ∷ more) ss' =
+    (mid met : List Standing) × PlaysRound opening round.lines ss replies mid × HaveMet mid met × PlaysRounds opening met rounds more ss'
+
+-- what is said of the lines, each time with the number of its session
+abbrev pub answers_of : List Replied → List Answer
+answers_of replies = map (λ (r : Replied). record { session = r.line.session; said = r.said }) replies
+
+-- The sessions have played a round, and these are the answers.
+pub record AnswersPlayed (opening : Opening) (lines : List Line) (ss ss' : List Standing) (answers : List Answer) : Type 0 where
+  pub replies : List Replied
+  pub plays : PlaysRound opening lines ss replies ss'
+  pub answers_are : answers ≡ answers_of replies

@@ -1,0 +1,53 @@
+-- The turns of the sessions in a round: the session, its lines that are still to do, and what was answered so far.
+use Rattle.std.specs.Prelude.{◌≡◌, ℕ, ◌<◌, false, List, [], ◌∷◌, ◌++◌, length, map, Some, slice_get, slice_index_or}
+use Rattle.std.specs.List.{AllByRecursion}
+use Rattle.session_script.specs.declared.script.Line.{Line}
+use Rattle.session_script.specs.Legal.{Replied, lines_of_session}
+use Rattle.commit_pipeline.specs.Holding.{Opening}
+use Rattle.shared_pipeline.specs.declared.standing.Standing.{Standing}
+use Rattle.session_rounds.specs.declared.answers.Answer.{Answer}
+use Rattle.session_rounds.specs.declared.course.Course.{Course}
+use Rattle.session_rounds.specs.Acts.{DoesLines}
+use Rattle.session_rounds.specs.Playing.{answers_of}
+
+-- the turn of a session with these lines, before it is played
+abbrev pub turn_with : Standing → List Line → Course
+turn_with s lines = record { session = s; lines = lines; answers = []; starved = false }
+
+-- the turn of a session with no line
+abbrev pub beginning : Standing → Course
+beginning s = turn_with s []
+
+-- a turn with a line before those that it has
+abbrev pub with_line : Line → Course → Course
+with_line line t = record { session = t.session; lines = line ∷ t.lines; answers = t.answers; starved = t.starved }
+
+-- the session of a turn
+abbrev pub session_of : Course → Standing
+session_of t = t.session
+
+-- the answers of a turn
+abbrev pub answers_in : Course → List Answer
+answers_in t = t.answers
+
+-- Each session has its lines of the round.
+pub record AreDealt (ss : List Standing) (lines : List Line) (ts : List Course) : Type 0 where
+  pub all : length ts ≡ length ss
+  pub each : (i : ℕ) (s : Standing) → slice_get ss i ≡ Some s → slice_get ts i ≡ Some (turn_with s (lines_of_session i lines))
+
+-- A session has done its lines, and these are answered.
+pub record PlaysTurn (opening : Opening) (t t' : Course) : Type 0 where
+  pub replies : List Replied
+  pub lines_are : map (λ (r : Replied). r.line) replies ≡ t.lines
+  pub answers_are : t'.answers ≡ t.answers ++ answers_of replies
+  pub does : DoesLines opening t.session replies t'.session
+
+-- Each session has, unless it ran out of memory.
+pub record PlayAll (opening : Opening) (ts ts' : List Course) : Type 0 where
+  pub all : length ts' ≡ length ts
+  pub each : (i : ℕ) (d : Course) → i < length ts → (slice_index_or ts' i d).starved ≡ false
+      → PlaysTurn opening (slice_index_or ts i d) (slice_index_or ts' i d)
+
+-- No session ran out of memory.
+abbrev pub NoneStarved : List Course → Type 0
+NoneStarved ts = AllByRecursion (λ (t : Course). t.starved ≡ false) ts

@@ -1,0 +1,18 @@
+//! What contracts see of a session that plays a round. No value of it is made: a clause reads an array
+//! as a list of any length.
+
+use crate::answers::Answer;
+use session_script::Line;
+use shared_pipeline::Standing;
+
+/// What contracts see of a session that plays a round.
+pub struct Course {
+    /// The session itself.
+    pub session: Standing,
+    /// Its lines of the round that are still to do, the next one first.
+    pub lines: [Line; 0],
+    /// What was answered so far, in the order of the lines.
+    pub answers: [Answer; 0],
+    /// Whether it ran out of memory.
+    pub starved: bool,
+}

@@ -1,0 +1,164 @@
+//! The lines of a session of one round, answered one after another.
+
+ghost use Rattle.std.specs.Prelude.{◌≡◌, false, IfOk, OnOk};
+ghost use Rattle.session_script.specs.declared.script.Act.TheVariants.{Commit};
+ghost use Rattle.session_rounds.specs.Acts.{Does};
+ghost use Rattle.session_rounds.specs.Turns.{beginning, with_line, PlaysTurn};
+
+use crate::answers::{Answer, Answers};
+use batch_repr::Unnumbered;
+use commit_pipeline::{CommitFault, Gate};
+use disk_face::Disk;
+use session_script::{Act, Line, Lines, Said};
+use shared_pipeline::{PipeName, Pipeline, Session};
+use std::alloc::Global;
+use std::marker::Model;
+use std::sync::Wait;
+use std::sync::ledger::Ledger;
+use wal_base::NoMemory;
+
+/// A session with its lines of a round and their answers.
+#[derive(Drop)]
+pub(crate) struct Turn<N: PipeName, M: Ledger> {
+    session: Session<N, M>,
+    /// Those that are still to do, the last one first.
+    lines: Lines,
+    answers: Answers,
+    starved: bool,
+}
+
+impl<N: PipeName, M: Ledger> Model for Turn<N, M> {
+    ghost use Rattle.std.specs.Prelude.{reverse};
+    ghost use Rattle.session_rounds.specs.declared.course.Course.{Course};
+
+    ghost Value = { Course };
+
+    ghost view = { λ t. record { session = t.session; lines = reverse t.lines; answers = t.answers; starved = t.starved } };
+}
+
+impl<N: PipeName, M: Ledger> Turn<N, M> {
+    /// A session with no line, and room for so many.
+    pub(crate) fn of(
+        alloc: Global,
+        session: Session<N, M>,
+        room: usize,
+    ) -> Result<Turn<N, M>, NoMemory>
+        ensures { IfOk result (λ turn. turn ≡ beginning session) }
+    {
+        Ok(Turn {
+            session,
+            lines: Lines::with_capacity(alloc, room)?,
+            answers: Answers::new(alloc),
+            starved: false,
+        })
+    }
+
+    /// Adds a line before those that it has.
+    pub(crate) fn put_first(&mut self, line: Line) -> Result<(), NoMemory>
+        ensures { OnOk result (self.new ≡ with_line line self.old) }
+    {
+        self.lines.push(line).map_err(|_| NoMemory)
+    }
+
+    /// Answers its lines in their order, each before the next one is begun. On out of memory the rest
+    /// of them is left.
+    pub(crate) fn play<D: Disk, G: Gate, R: Wait>(
+        &mut self,
+        rt: &R,
+        alloc: Global,
+        pipe: &Pipeline<'_, D, G, N, M>,
+    )
+        ensures { self.new.starved ≡ false → PlaysTurn N.opening self.old self.new }
+    {
+        self.starved = self.answer_all(rt, alloc, pipe).is_err();
+    }
+
+    /// Answers its lines in their order.
+    fn answer_all<D: Disk, G: Gate, R: Wait>(
+        &mut self,
+        rt: &R,
+        alloc: Global,
+        pipe: &Pipeline<'_, D, G, N, M>,
+    ) -> Result<(), NoMemory>
+        ensures { OnOk result (PlaysTurn N.opening self.old self.new) }
+    {
+        while let Some(line) = self.lines.pop() {
+            let number = line.session;
+            let said = answer(rt, alloc, pipe, &mut self.session, line.act)?;
+            let answered = Answer {
+                session: number,
+                said,
+            };
+            self.answers.push(answered).map_err(|_| NoMemory)?;
+        }
+        Ok(())
+    }
+
+    /// Its session and the answers, unless it ran out of memory.
+    pub(crate) fn into_answers(self) -> Result<(Session<N, M>, Answers), NoMemory>
+        ensures session { IfOk result (λ ended. ended.0 ≡ self.session) }
+        ensures answers { IfOk result (λ ended. ended.1 ≡ self.answers) }
+        ensures whole { OnOk result (self.starved ≡ false) }
+    {
+        let Turn {
+            session,
+            lines: _,
+            answers,
+            starved,
+        } = self;
+        if starved {
+            return Err(NoMemory);
+        }
+        Ok((session, answers))
+    }
+}
+
+/// Does an act for a session, and answers what is said of it. A batch is written as it is committed.
+fn answer<D: Disk, G: Gate, N: PipeName, M: Ledger, R: Wait>(
+    rt: &R,
+    alloc: Global,
+    pipe: &Pipeline<'_, D, G, N, M>,
+    session: &mut Session<N, M>,
+    act: Act,
+) -> Result<Said, NoMemory>
+    ensures { IfOk result (λ said. Does N.opening session.old act said session.new) }
+{
+    match act {
+        Act::Commit { sync, batch } => {
+            let batch = batch.write(alloc)?;
+            commit(rt, pipe, session, batch, sync)
+        }
+        Act::Get { key } => {
+            let reply = pipe.get(rt, session, key.as_slice())?;
+            Ok(Said::Got {
+                key,
+                value: reply.value,
+                visible: reply.visible,
+            })
+        }
+    }
+}
+
+/// Commits a batch for a session, and answers what is said of it.
+fn commit<D: Disk, G: Gate, N: PipeName, M: Ledger, R: Wait>(
+    rt: &R,
+    pipe: &Pipeline<'_, D, G, N, M>,
+    session: &mut Session<N, M>,
+    batch: Unnumbered,
+    sync: bool,
+) -> Result<Said, NoMemory>
+    ensures { IfOk result (λ said. Does N.opening session.old (Commit sync batch) said session.new) }
+{
+    match pipe.commit(rt, session, batch, sync) {
+        Ok(done) => Ok(Said::Committed {
+            first: done.first,
+            count: done.count,
+            synced: done.synced,
+        }),
+        Err(CommitFault::Dead { .. }) => Ok(Said::Dead),
+        Err(CommitFault::TooManyBatches { .. }) => Ok(Said::Limit),
+        Err(CommitFault::SeqExhausted { .. }) => Ok(Said::Limit),
+        Err(CommitFault::Unsynced { first, count, .. }) => Ok(Said::Unsynced { first, count }),
+        Err(CommitFault::NoMemory | CommitFault::NoMemorySync { .. }) => Err(NoMemory),
+    }
+}
