@@ -1,7 +1,21 @@
 pub mod Laws
-mod Keeping
-mod Stepping
-mod Numbering
-mod Sharding
-mod Staging
-mod Committing
+mod EndsBefore
+mod KeepsJournal
+mod Entering
+mod Tying
+mod Showing
+mod Loading
+mod Opening
+mod IsIdleDesk
+mod PublishesHeld
+mod GetsNumber
+mod Seen
+mod TellsCommit
+mod TellsRead
+mod Meets
+mod MeetsEach
+mod HaveMet
+mod HearDeaths
+mod TakesAllBack
+mod Finishes
+mod IsShared

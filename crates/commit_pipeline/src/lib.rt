@@ -1,27 +1,40 @@
-//! The commit pipeline, on one thread: batches are committed to a journal and are visible to reads
-//! when their commit returns, whether a sync covers them or not.
+//! The commit pipeline on threads: sessions commit and read beside one another. Only to number a
+//! batch and to write the log they take turns, at one lock; batches are applied, marked and
+//! published, and keys are read, without it.
 //!
-//! Stands on `failover_writer` for the journal and its disk, and on `memtable_shards` for the
-//! versions of the keys. The layer above uses one contract: whatever a pipeline held, it holds
-//! after each call, perhaps with one batch more; and each answer of a commit has its cause.
+//! Stands on `commit_queue` and `shard_gate` for the ring and the shards, and on `failover_writer`
+//! for the journal. The layer above uses one contract: what a session has seen and what is its own
+//! is told after each of its calls; and `finish` tells that the journal holds the batches of all
+//! sessions, each once, and that what each has seen is a prefix of them.
 //!
-//! What holds of each pipeline: its journal has at most `BATCHES_MAX` records, and the numbers
-//! are not used up; and what it holds is said by one relation, over an opening and the batches
-//! since.
+//! What holds behind the lock: the journal's records are the batches that the producer's seat has
+//! placed, in their order, and the books count them and the answers that told of a death.
 #![tactic(auto)]
 
+mod desk;
 mod fault;
+mod finishing;
 mod gate;
+mod lock;
+mod meeting;
+mod name;
+mod parts;
 mod pipeline;
+mod reading;
 mod session;
-mod shards;
-mod steps;
-#[cfg(test)]
-mod tests;
+mod sides;
+mod standing;
 mod theorems;
 
 pub use fault::{CommitFault, Committed, Reply};
+pub use finishing::Finished;
 pub use gate::{Gate, GatePoint, NoGate};
-pub use pipeline::{Finished, Pipeline};
+pub use name::PipeName;
+pub use parts::Parts;
+pub use pipeline::Pipeline;
 pub use session::{Session, Sessions};
-pub use theorems::a_pipeline_keeps_its_base;
+pub use standing::Standing;
+pub use theorems::a_journal_keeps_its_base;
+
+#[cfg(test)]
+mod tests;

@@ -1,248 +1,265 @@
-//! The pipeline.
-
-ghost use Rattle.std.specs.Prelude.{◌≡◌, ◌+◌, ◌<◌, ◌≤◌, None, IfOk, IfErr, IsTrue};
-ghost use Rattle.batch_repr.specs.declared.limits.TheConstants.{NUMBER_MAX, SESSIONS_MAX};
+//! The pipeline, and its commits.
+ghost use Rattle.std.specs.Prelude.{◌≡◌, ◌+◌, None, Err, true};
 ghost use Rattle.batch_repr.specs.Batches.{count_of};
-ghost use Rattle.failover_writer.specs.State.{len, acked};
-ghost use Rattle.memtable_shards.specs.Pieces.{whole_pieces};
-ghost use Rattle.failover_writer.specs.Sound.{IsSoundJournal};
-ghost use Rattle.commit_pipeline.specs.Holding.{EndsBefore, HoldsBase, AreSessions};
-ghost use Rattle.commit_pipeline.specs.Committing.{AnswersCommit, HoldsAfterCommit, HoldsAsBefore};
-ghost use Rattle.commit_pipeline.specs.Committing.{LogsTo, LogsWhereUnsynced};
-ghost use Rattle.commit_pipeline.specs.Committing.{HoldsWhereStalled, RepliesToRead, PipeStalls};
-ghost use Rattle.commit_pipeline.specs.Committing.{AddsTo, WaitsTo};
-ghost use Rattle.commit_pipeline.specs.Ending.{HandsOnJournal, TellsEnd};
+ghost use Rattle.commit_queue.specs.Tables.{table_id_of};
+ghost use Rattle.commit_queue.specs.Calls.{HoldsUnapplied};
+ghost use Rattle.commit_queue.specs.Seats.{session_table, session_view};
+ghost use Rattle.commit_pipeline.specs.Commits.{TellsCommit};
+ghost use Rattle.commit_pipeline.specs.Desks.{IsDeskIdle, Raises, TellsFault, known};
+ghost use Rattle.commit_pipeline.specs.Desks.{deaths_stepped};
+ghost use Rattle.commit_pipeline.specs.Ending.{StillKeeps};
+ghost use Rattle.commit_pipeline.specs.Waits.{GetsNumber, StartsCommit, IsHeldEnd, PublishesHeld};
+ghost use Rattle.commit_pipeline.specs.Waits.{WaitsFor, IsUnsynced};
+ghost use Rattle.commit_pipeline.specs.Waits.{numbers_got, numbers_started, deaths_refused};
+ghost use Rattle.commit_pipeline.specs.Waits.{deaths_started, deaths_waited};
+ghost use Rattle.commit_pipeline.specs.Waits.{NumbersLiving, StartsLiving};
 
-use crate::fault::{CommitFault, Committed, Reply};
+use crate::desk::Desk;
+use crate::fault::{CommitFault, Committed};
 use crate::gate::{Gate, GatePoint};
-use crate::session::{Session, Sessions, sessions_of};
-use crate::shards::Shards;
-use crate::steps::{settle, wait};
-use batch_repr::{BATCHES_MAX, Batches, NUMBER_MAX, Unnumbered};
+use crate::lock::{Locked, Numbering};
+use crate::name::PipeName;
+use crate::session::Session;
+use batch_repr::{BATCHES_MAX, Unnumbered};
+use commit_queue::PipeTable;
 use disk_face::{Disk, Side, StallDisk};
-use failover_writer::{Journal, JournalFault};
+use failover_writer::{DeadMark, Journal, JournalFault, Step};
 use memtable_shards::{Pieces, split};
+use shard_gate::ShardGate;
 use std::alloc::Global;
-use std::marker::Model;
-use wal_base::NoMemory;
+use std::sync::ledger::Ledger;
+use std::sync::{Mutex, Wait};
+use std::thread;
 
-/// What is left of a pipeline.
+/// Why a batch got no number.
 #[derive(Drop)]
-pub struct Finished<D: Disk> {
-    /// The journal as it stands: it is not closed yet.
-    pub journal: Journal<D>,
-    /// The number after all batches.
-    pub visible: u64,
-    /// How many batches were committed.
-    pub batches: u64,
+pub(crate) enum Refusal {
+    /// The journal is dead.
+    Dead { mark: DeadMark },
+    /// The journal has as many records as it may have, of which this is the end.
+    TooMany { next: u64 },
+    /// The batch would end past the numbers, of which this one comes next.
+    Exhausted { next: u64 },
+    /// Out of memory.
+    NoMemory,
 }
 
-/// A journal, and the versions of the keys. Each batch that is numbered is visible when its commit
-/// returns.
+/// A commit pipeline that its sessions share.
 #[derive(Drop)]
-pub struct Pipeline<'a, D: Disk, G: Gate> {
-    alloc: Global,
-    journal: Journal<D>,
-    shards: Shards,
-    gate: &'a G,
+pub struct Pipeline<'a, D: Disk, G: Gate, N: PipeName, M: Ledger> {
+    pub(crate) alloc: Global,
+    pub(crate) table: PipeTable,
+    pub(crate) lock: Mutex<Locked<D, N, M>>,
+    pub(crate) gate: &'a G,
+    ghost named: { table_id_of table ≡ N.table },
 }
 
-impl<'a, D: Disk, G: Gate> Model for Pipeline<'a, D, G> {
-    ghost use Rattle.commit_pipeline.specs.Holding.{Pipe};
-    ghost use Rattle.commit_pipeline.specs.Sharding.{IsPipeWithinLimits};
-
-    ghost Value = { Pipe D };
-
-    ghost view = { λ p. record { journal = p.journal; shards = p.shards } };
-
-    ghost invariant = { λ p. IsPipeWithinLimits p.journal.state p.shards };
-}
-
-impl<'a, D: Disk, G: Gate> Pipeline<'a, D, G> {
-    /// A pipeline over a journal that has no record, and its sessions. `base` are the batches
-    /// before those of the journal, which reads will see. It makes no disk call. `Err` means out of
-    /// memory and hands the journal back.
-    pub fn new(
-        alloc: Global,
-        journal: Journal<D>,
-        base: &Batches,
-        sessions: usize,
-        gate: &'a G,
-    ) -> Result<(Pipeline<'a, D, G>, Sessions), Journal<D>>
-        requires empty { len journal.state ≡ 0 }
-        requires within { journal.state.next ≤ NUMBER_MAX }
-        requires base { EndsBefore base.now journal.state.next }
-        requires sessions { (1 ≤ sessions) × (sessions ≤ SESSIONS_MAX) }
-        ensures journal { IfOk result (λ made. made.0.journal ≡ journal) }
-        ensures holds { IfOk result (λ made. HoldsBase D.tells D.view base.now journal made.0) }
-        ensures sessions { IfOk result (λ made. AreSessions sessions made.1) }
-        ensures err { IfErr result (λ back. back ≡ journal) }
-    {
-        // Of a journal of no record no segment is begun, and it lives.
-        let _none = journal.len();
-        let Ok(shards) = Shards::load(alloc, base, journal.next()) else {
-            return Err(journal);
-        };
-        let Ok(sessions) = sessions_of(alloc, sessions) else {
-            return Err(journal);
-        };
-        let pipeline = Pipeline {
-            alloc,
-            journal,
-            shards,
-            gate,
-        };
-        Ok((pipeline, sessions))
-    }
-
+impl<'a, D: Disk, G: Gate, N: PipeName, M: Ledger> Pipeline<'a, D, G, N, M> {
     /// Commits a batch. With `sync` it waits until a sync covers the batch. `Dead`,
     /// `TooManyBatches` and `SeqExhausted` are looked for in this order, before the batch is
     /// numbered; a batch that is numbered is visible, whatever is answered.
-    pub fn commit(
-        &mut self,
-        session: &mut Session,
+    pub fn commit<R: Wait>(
+        &self,
+        rt: &R,
+        session: &mut Session<N, M>,
         batch: Unnumbered,
         sync: bool,
     ) -> Result<Committed, CommitFault>
-        ensures did { AnswersCommit D.tells D.view batch sync self.old self.new result }
-        ensures on { HoldsAfterCommit D.tells D.view batch self.old self.new }
-        ensures logs { LogsWhereUnsynced D.view batch sync self.old self.new result }
-        ensures session { session.new ≡ session.old }
+        ensures { TellsCommit N.opening batch sync session.old result session.new }
     {
-        self.commit_for(session.number(), batch, sync)
+        let count = batch.count();
+        let mut pieces = split(self.alloc, &batch)?;
+        let desk = &mut session.desk;
+        let (first, index) = self.start(rt, desk, batch, sync)?;
+        self.gate.pass(session.number, GatePoint::Numbered);
+        pieces.number(first);
+        self.publish(rt, session.number, desk, pieces, first + u64::from(count));
+        if sync {
+            let numbers = Numbers {
+                first,
+                count,
+                index,
+            };
+            self.wait_acked(rt, desk, numbers)?;
+        }
+        Ok(Committed {
+            first,
+            count,
+            synced: sync,
+        })
     }
 
-    /// Commits a batch for the session of this number.
-    fn commit_for(
-        &mut self,
-        session: u32,
+    /// Numbers the batch, or tells why not. A limit is told once all that made it is published.
+    fn start<R: Wait>(
+        &self,
+        rt: &R,
+        desk: &mut Desk<N, M>,
         batch: Unnumbered,
         sync: bool,
-    ) -> Result<Committed, CommitFault>
-        ensures did { AnswersCommit D.tells D.view batch sync self.old self.new result }
-        ensures logs { LogsWhereUnsynced D.view batch sync self.old self.new result }
+    ) -> Result<(u64, u64), CommitFault>
+        requires desk { IsDeskIdle N.table N.opening desk.old }
+        ensures same { session_table desk.new.seat ≡ session_table desk.old.seat }
+        ensures started { StartsCommit N.opening batch (session_view desk.old.seat) result (session_view desk.new.seat) }
+        ensures own { Raises desk.old.own (numbers_started result) desk.new.own }
+        ensures dead { Raises desk.old.dead (deaths_started result) desk.new.dead }
+        ensures met { Raises desk.old.told 0 desk.new.told }
+        ensures lives { StartsLiving (known desk.old) result }
     {
-        let pieces = split(self.alloc, &batch)?;
-        if let Some(mark) = self.journal.dead() {
-            return Err(CommitFault::Dead {
+        match self.take_number(rt, desk, batch, sync) {
+            Ok(numbers) => Ok(numbers),
+            Err(Refusal::Dead { mark }) => Err(CommitFault::Dead {
                 side: mark.side,
                 faults: mark.faults,
-            });
+            }),
+            Err(Refusal::TooMany { next }) => {
+                self.table.publish_until(rt, &mut desk.seat, next);
+                Err(CommitFault::TooManyBatches { count: BATCHES_MAX })
+            }
+            Err(Refusal::Exhausted { next }) => {
+                self.table.publish_until(rt, &mut desk.seat, next);
+                Err(CommitFault::SeqExhausted { next })
+            }
+            Err(Refusal::NoMemory) => Err(CommitFault::NoMemory),
         }
-        if self.journal.len() >= BATCHES_MAX {
-            return Err(CommitFault::TooManyBatches { count: BATCHES_MAX });
-        }
-        let next = self.journal.next();
-        if u64::from(batch.count()) > NUMBER_MAX - next {
-            return Err(CommitFault::SeqExhausted { next });
-        }
-        self.journal.reserve()?;
-        let committed = self.add(session, batch, pieces, sync);
-        if sync {
-            self.wait_for(committed)?;
-        }
-        Ok(committed)
     }
 
-    /// Numbers a batch, hands it to the journal, and makes its versions visible.
-    fn add(&mut self, session: u32, batch: Unnumbered, pieces: Pieces, sync: bool) -> Committed
-        requires room { 1 ≤ self.old.journal.state.queue.spare }
-        requires lives { self.old.journal.state.dead ≡ None }
-        requires few { len self.old.journal.state < BATCHES_MAX }
-        requires within { self.old.journal.state.next + count_of batch ≤ NUMBER_MAX }
-        requires pieces { pieces ≡ whole_pieces batch }
-        ensures adds { AddsTo D.tells D.view batch self.old self.new }
-        ensures logs { LogsTo D.view batch sync self.old self.new }
-        ensures first { result.first ≡ self.old.journal.state.next }
-        ensures count { result.count ≡ count_of batch }
-        ensures synced { result.synced ≡ sync }
-        ensures want { IsTrue sync → self.new.journal.state.want ≡ len self.new.journal.state }
+    /// Takes the lock until the batch is numbered or refused: again where the ring is full.
+    fn take_number<R: Wait>(
+        &self,
+        rt: &R,
+        desk: &mut Desk<N, M>,
+        batch: Unnumbered,
+        sync: bool,
+    ) -> Result<(u64, u64), Refusal>
+        requires desk { IsDeskIdle N.table N.opening desk.old }
+        ensures same { session_table desk.new.seat ≡ session_table desk.old.seat }
+        ensures taken { GetsNumber batch (session_view desk.old.seat) result (session_view desk.new.seat) }
+        ensures own { Raises desk.old.own (numbers_got result) desk.new.own }
+        ensures dead { Raises desk.old.dead (deaths_refused result) desk.new.dead }
+        ensures met { Raises desk.old.told 0 desk.new.told }
+        ensures lives { NumbersLiving (known desk.old) result }
     {
-        let numbered = batch.number(self.journal.next());
-        let committed = Committed {
-            first: numbered.first(),
-            count: numbered.count(),
-            synced: sync,
-        };
-        self.journal.push(numbered, sync);
-        settle(&mut self.journal);
-        self.gate.pass(session, GatePoint::Numbered);
-        self.shards.add(pieces, committed.first);
+        let mut batch = batch;
+        for _ in rt.forever() {
+            let numbering = self
+                .lock
+                .lock(rt)
+                .number(rt, &self.table, desk, batch, sync);
+            match numbering {
+                Numbering::Done { first, index } => return Ok((first, index)),
+                Numbering::Busy { batch: again } => batch = again,
+                Numbering::Dead { mark } => return Err(Refusal::Dead { mark }),
+                Numbering::TooMany { next } => return Err(Refusal::TooMany { next }),
+                Numbering::Exhausted { next } => return Err(Refusal::Exhausted { next }),
+                Numbering::NoMemory => return Err(Refusal::NoMemory),
+            }
+            thread::yield_now();
+        }
+        unreachable!()
+    }
+
+    /// Applies the batch that the seat holds, marks it, and publishes until it is published.
+    fn publish<R: Wait>(
+        &self,
+        rt: &R,
+        session: u32,
+        desk: &mut Desk<N, M>,
+        pieces: Pieces,
+        end: u64,
+    )
+        requires table { session_table desk.old.seat ≡ N.table }
+        requires no_turn { (session_view desk.old.seat).seat.turn ≡ None }
+        requires holds { HoldsUnapplied (session_view desk.old.seat) pieces }
+        requires end { IsHeldEnd (session_view desk.old.seat) end }
+        ensures same { session_table desk.new.seat ≡ session_table desk.old.seat }
+        ensures own { desk.new.own ≡ desk.old.own }
+        ensures dead { desk.new.dead ≡ desk.old.dead }
+        ensures met { desk.new.told ≡ desk.old.told }
+        ensures published { PublishesHeld (session_view desk.old.seat) (session_view desk.new.seat) }
+    {
+        let seat = &mut desk.seat;
+        ShardGate::over(self.alloc, &self.table).apply_all(rt, seat, pieces);
         self.gate.pass(session, GatePoint::Applied);
+        self.table.mark(seat);
         self.gate.pass(session, GatePoint::Marked);
+        self.table.publish_until(rt, seat, end);
         self.gate.pass(session, GatePoint::Published);
-        committed
     }
 
-    /// Waits until the last batch is synced, or tells why it is not.
-    fn wait_for(&mut self, committed: Committed) -> Result<(), CommitFault>
-        requires some { 1 ≤ len self.old.journal.state }
-        requires asked { self.old.journal.state.want ≡ len self.old.journal.state }
-        ensures end { len self.new.journal.state ≡ len self.old.journal.state }
-        ensures acked { acked self.old.journal.state ≤ acked self.new.journal.state }
-        ensures still { HoldsAsBefore D.tells D.view self.old self.new }
-        ensures waits { WaitsTo committed self.old.journal.state self.new.journal.state result }
+    /// Steps the journal until the batch is synced, or tells why it is not.
+    fn wait_acked<R: Wait>(
+        &self,
+        rt: &R,
+        desk: &mut Desk<N, M>,
+        numbers: Numbers,
+    ) -> Result<(), CommitFault>
+        requires desk { IsDeskIdle N.table N.opening desk.old }
+        ensures same { session_table desk.new.seat ≡ session_table desk.old.seat }
+        ensures waited { WaitsFor numbers (session_view desk.old.seat) result (session_view desk.new.seat) }
+        ensures own { desk.new.own ≡ desk.old.own }
+        ensures dead { Raises desk.old.dead (deaths_waited result) desk.new.dead }
+        ensures met { desk.new.told ≡ desk.old.told }
     {
-        let index = self.journal.len() - 1;
-        match wait(&mut self.journal, index) {
-            Ok(()) => Ok(()),
-            Err(JournalFault::Dead { side, faults }) => Err(CommitFault::Unsynced {
-                first: committed.first,
-                count: committed.count,
-                side,
-                faults,
-            }),
-            Err(JournalFault::NoMemory) => Err(CommitFault::NoMemorySync {
-                first: committed.first,
-                count: committed.count,
-            }),
+        for _ in rt.forever() {
+            if self.table.acked(&mut desk.seat) > numbers.index {
+                return Ok(());
+            }
+            let stepped = self
+                .lock
+                .lock(rt)
+                .step_for(&self.table, desk, numbers.index);
+            match stepped {
+                Ok(Step::Moved) => {}
+                Ok(_) => thread::yield_now(),
+                Err(fault) => return Err(numbers.unsynced(fault)),
+            }
         }
+        unreachable!()
     }
 
-    /// Reads a key after all batches.
-    pub fn get(&mut self, session: &mut Session, key: &[u8]) -> Result<Reply, NoMemory>
-        ensures answers { IfOk result (RepliesToRead D.tells D.view self.old key.now) }
-        ensures still { HoldsAsBefore D.tells D.view self.old self.new }
-        ensures journal { self.new.journal ≡ self.old.journal }
-        ensures session { session.new ≡ session.old }
-    {
-        let visible = self.journal.next();
-        let value = self.shards.read(key, visible)?;
-        Ok(Reply { visible, value })
-    }
-
-    /// Ends the pipeline, and tells what it came to.
-    pub fn finish(self, _sessions: Sessions) -> Finished<D>
-        ensures journal { result.journal ≡ self.entry.journal }
-        ensures keeps { HandsOnJournal D.tells D.view self.entry result.journal }
-        ensures tells { TellsEnd D.tells D.view self.entry result.visible result.batches }
-        ensures sound { IsSoundJournal result.journal.state }
-    {
-        let visible = self.journal.next();
-        let batches = self.journal.len();
-        Finished {
-            journal: self.journal,
-            visible,
-            batches,
-        }
-    }
-
-    /// Gives the journal up. It is as it stands.
+    /// Gives the journal up as it stands.
     pub fn into_journal(self) -> Journal<D>
-        ensures journal { result ≡ self.entry.journal }
-        ensures keeps { HandsOnJournal D.tells D.view self.entry result }
+        ensures { StillKeeps D.tells D.view N.opening result }
     {
-        self.journal
+        self.lock.into_inner().journal
     }
 }
 
-impl<'a, D: StallDisk, G: Gate> Pipeline<'a, D, G> {
-    /// Leaves polls of a side to stall.
-    pub fn stall(&mut self, side: Side, polls: u32)
-        ensures still { HoldsWhereStalled D.tells D.view self.old self.new }
-        ensures state { self.new.journal.state ≡ self.old.journal.state }
-        ensures stalled { PipeStalls side polls D.view self.old self.new }
+/// What a batch was numbered with.
+#[derive(Clone, Copy, Debug)]
+pub(crate) struct Numbers {
+    first: u64,
+    count: u32,
+    index: u64,
+}
+
+impl Numbers {
+    /// Why the batch is not known to be synced.
+    fn unsynced(self, fault: JournalFault) -> CommitFault
+        requires { TellsFault fault }
+        ensures told { IsUnsynced self result }
+        ensures deaths { deaths_waited (Err result) ≡ deaths_stepped (Err fault) }
     {
-        self.journal.stall(side, polls);
+        match fault {
+            JournalFault::Dead { side, faults } => CommitFault::Unsynced {
+                first: self.first,
+                count: self.count,
+                side,
+                faults,
+            },
+            JournalFault::NoMemory => CommitFault::NoMemorySync {
+                first: self.first,
+                count: self.count,
+            },
+        }
+    }
+}
+
+impl<'a, D: StallDisk, G: Gate, N: PipeName, M: Ledger> Pipeline<'a, D, G, N, M> {
+    /// Leaves polls of a side to stall.
+    pub fn stall<R: Wait>(&self, rt: &R, side: Side, polls: u32)
+        requires { N.opening.may_stall ≡ true }
+    {
+        self.lock.lock(rt).stall(side, polls);
     }
 }

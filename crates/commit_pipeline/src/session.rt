@@ -1,50 +1,29 @@
 //! Who commits and reads.
 
-ghost use Rattle.std.specs.Prelude.{◌≡◌, ◌≤◌, IfOk};
-ghost use Rattle.batch_repr.specs.declared.limits.TheConstants.{SESSIONS_MAX};
-ghost use Rattle.commit_pipeline.specs.Holding.{AreSessions};
-
-use std::alloc::Global;
+use crate::desk::Desk;
+use crate::name::PipeName;
 use std::marker::Model;
-use wal_base::{ListOf, NoMemory};
+use std::sync::ledger::Ledger;
 
-/// One of the sessions that commit and read. Contracts see its number.
-#[derive(Debug, Drop)]
-pub struct Session {
-    number: u32,
+/// One of the sessions of a pipeline. Contracts see what it has seen, and what is its own.
+#[derive(Drop)]
+pub struct Session<N: PipeName, M: Ledger> {
+    /// Its number among the sessions of its pipeline, from 0 on, which the gate is told.
+    pub(crate) number: u32,
+    pub(crate) desk: Desk<N, M>,
 }
 
-impl Model for Session {
-    ghost use Rattle.std.specs.Prelude.{ℕ};
+impl<N: PipeName, M: Ledger> Model for Session<N, M> {
+    ghost use Rattle.commit_pipeline.specs.declared.standing.Standing.{Standing};
+    ghost use Rattle.commit_queue.specs.Seats.{session_table, session_view};
+    ghost use Rattle.commit_pipeline.specs.Standings.{standing, IsSession};
 
-    ghost Value = { ℕ };
+    ghost Value = { Standing };
 
-    ghost view = { λ s. s.number };
+    ghost view = { λ s. standing (session_view s.desk.seat) s.desk.dead.amount s.desk.told.amount };
+
+    ghost invariant = { λ s. IsSession N.table N.opening (session_table s.desk.seat) (session_view s.desk.seat) s.desk.own.parts s.desk.own.amount s.desk.dead.parts s.desk.told.parts };
 }
 
-impl Session {
-    /// Its number among the sessions of its pipeline, from 0 on.
-    pub fn number(&self) -> u32
-        ensures { result ≡ self.now }
-    {
-        self.number
-    }
-}
-
-/// Sessions, in the order of their numbers.
-pub type Sessions = ListOf<Session>;
-
-/// So many sessions, with the numbers from 0 on.
-pub(crate) fn sessions_of(alloc: Global, count: usize) -> Result<Sessions, NoMemory>
-    requires { count ≤ SESSIONS_MAX }
-    ensures { IfOk result (AreSessions count) }
-{
-    let mut sessions = ListOf::with_capacity(alloc, count)?;
-    for number in 0..count {
-        let session = Session {
-            number: number as u32,
-        };
-        sessions.push(session).map_err(|_| NoMemory)?;
-    }
-    Ok(sessions)
-}
+/// The sessions of a pipeline, in the order of their numbers.
+pub type Sessions<N, M> = Vec<Session<N, M>>;

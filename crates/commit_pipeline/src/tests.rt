@@ -1,456 +1,336 @@
-ghost use Rattle.std.specs.Prelude.{◌≡◌, ◌≤◌, None, IfOk};
-ghost use Rattle.batch_repr.specs.declared.limits.TheConstants.{NUMBER_MAX};
-ghost use Rattle.disk_face.specs.View.{Place, files, NothingInFlight};
+//! What sessions do beside one another, by examples.
+ghost use Rattle.std.specs.Prelude.{◌≡◌, ◌+◌, ◌≤◌, length, true};
+ghost use Rattle.batch_repr.specs.declared.limits.TheConstants.{NUMBER_FIRST, SESSIONS_MAX};
+ghost use Rattle.commit_pipeline.specs.Openings.{opening_on};
 ghost use Rattle.failover_writer.specs.State.{len};
-ghost use Rattle.commit_pipeline.specs.Holding.{EndsBefore};
 
-use crate::{
-    CommitFault, Committed, Gate, GatePoint, NoGate, Pipeline, Session, Sessions,
-    a_pipeline_keeps_its_base,
-};
-use batch_repr::{BatchBuilder, Batches, SESSIONS_MAX, Unnumbered};
-use disk_face::{Disk, Side};
+use crate::{Parts, PipeName, Pipeline, Session};
+use batch_repr::{BatchBuilder, Batches, NUMBER_FIRST, Unnumbered};
+use crate::{Gate, GatePoint, NoGate};
+use disk_face::{Disk, Side, StallDisk};
 use failover_writer::Journal;
 use mem_disk::MemDisk;
 use std::alloc::Global;
-use std::cell::Cell;
+use std::marker::Brand;
 use std::process::Abort;
-use wal_base::{Blob, ListOf, NoMemory};
-use wal_recovery::{Mode, recover};
+use std::sync::Wait;
+use std::sync::atomic::{AtomicBool, AtomicU64, Ordering};
+use std::sync::ledger::Ledger;
+use std::thread;
+use std::thread::Threads;
 
-const WAL: u64 = 1;
+/// The turns for which a gate holds a session at most.
+const TURNS: u64 = 1_000_000;
 
-const FIRST: u64 = 10;
-
-/// A disk on which nothing stands and nothing is in flight.
-#[derive(Drop)]
-struct Fresh {
-    disk: MemDisk,
-    ghost idle: { NothingInFlight (⟦<MemDisk as Disk>⟧.view disk) },
-    ghost empty: { (p : Place) → files (⟦<MemDisk as Disk>⟧.view disk) p ≡ None },
-}
-
-impl Fresh {
-    fn new(alloc: Global) -> Result<Fresh, NoMemory> {
-        let disk = MemDisk::new(alloc)?;
-        Ok(Fresh { disk })
+/// A batch that sets a key of one byte to a value of one byte.
+fn one_set(rt: &impl Abort, alloc: Global, key: u8, value: u8) -> Unnumbered {
+    let mut builder = BatchBuilder::new(alloc).expect(rt, "memory");
+    if builder.set(&[key], &[value]).is_err() {
+        panic!(rt; "memory");
     }
-
-    /// The operation of that number is to fail.
-    fn fail_op(&mut self, rt: &impl Abort, number: u64) {
-        self.disk.fail_op(number).expect(rt, "memory");
-    }
-
-    /// A journal of no record over the disk, which begins with this number.
-    fn journal(self, alloc: Global, next: u64) -> Result<Journal<MemDisk>, NoMemory>
-        ensures empty { IfOk result (λ journal. len journal.state ≡ 0) }
-        ensures next { IfOk result (λ journal. journal.state.next ≡ next) }
-    {
-        let Fresh { disk } = self;
-        match Journal::start(alloc, disk, WAL, next, 3) {
-            Ok(journal) => Ok(journal),
-            Err(_) => Err(NoMemory),
-        }
+    match builder.finish() {
+        Ok(batch) => batch,
+        Err(_) => panic!(rt; "a batch of one entry"),
     }
 }
 
-/// A pipeline of so many sessions over a base, after which this number comes, and a fresh disk.
-fn open_sessions<'a, G: Gate>(
+/// A journal of no record, over a disk in memory.
+fn new_journal(rt: &impl Abort, alloc: Global) -> Journal<MemDisk>
+    ensures empty { len result.state ≡ 0 }
+    ensures next { result.state.next ≡ NUMBER_FIRST }
+{
+    let disk = MemDisk::new(alloc).expect(rt, "memory");
+    match Journal::start(alloc, disk, 1, NUMBER_FIRST, 3) {
+        Ok(journal) => journal,
+        Err(_) => panic!(rt; "memory"),
+    }
+}
+
+/// What the sessions of a run do, each on a thread of its own.
+trait Act<G: Gate> {
+    fn act<D: Disk, N: PipeName, M: Ledger, R: Wait + Abort>(
+        &self,
+        rt: &R,
+        alloc: Global,
+        pipe: &Pipeline<'_, D, G, N, M>,
+        session: &mut Session<N, M>,
+    );
+}
+
+/// Runs so many sessions over a journal of no record, and answers how many batches they committed.
+fn run<D: Disk + Drop + Send, G: Gate + Sync, A: Act<G> + Sync, R: Threads + Wait + Abort + Sync>(
+    rt: &R,
     alloc: Global,
-    fresh: Fresh,
-    base: &Batches,
-    next: u64,
+    gate: &G,
+    journal: Journal<D>,
     sessions: usize,
-    gate: &'a G,
-) -> Result<(Pipeline<'a, MemDisk, G>, Sessions), NoMemory>
-    requires ends { EndsBefore base.now next }
-    requires within { next ≤ NUMBER_MAX }
-    requires some { 1 ≤ sessions }
-    requires few { sessions ≤ 64 }
+    act: &A,
+) -> u64
+    requires sessions { (1 ≤ sessions) × (sessions ≤ SESSIONS_MAX) }
+    requires empty { len journal.state ≡ 0 }
+    requires next { journal.state.next ≡ NUMBER_FIRST }
 {
-    let journal = fresh.journal(alloc, next)?;
-    match Pipeline::new(alloc, journal, base, sessions, gate) {
-        Ok(opened) => Ok(opened),
-        Err(_) => Err(NoMemory),
-    }
+    let base = Batches::new(alloc);
+    let parts = Parts::new(alloc, &base, NUMBER_FIRST, sessions).expect(rt, "memory");
+    with_table::<D, Brand, G, A, R>(rt, alloc, gate, parts, journal, act)
 }
 
-/// A pipeline of one session.
-fn open_over<'a, G: Gate>(
-    alloc: Global,
-    fresh: Fresh,
-    base: &Batches,
-    next: u64,
-    gate: &'a G,
-) -> Result<(Pipeline<'a, MemDisk, G>, Session), NoMemory>
-    requires ends { EndsBefore base.now next }
-    requires within { next ≤ NUMBER_MAX }
+/// The name of the table is picked.
+fn with_table<
+    D: Disk + Drop + Send,
+    N: PipeName + Send + Sync,
+    G: Gate + Sync,
+    A: Act<G> + Sync,
+    R: Threads + Wait + Abort + Sync,
+>(rt: &R, alloc: Global, gate: &G, parts: Parts, journal: Journal<D>, act: &A) -> u64
+    requires opening { N.opening ≡ opening_on D.view parts.base journal N.opening.may_stall }
+    requires table { parts.table ≡ N.table }
+    requires batches { (parts.batches ≡ N.name) × (parts.sessions ≡ N.parts) }
+    requires empty { len journal.state ≡ 0 }
+    requires next { journal.state.next ≡ parts.next }
 {
-    let (pipeline, mut sessions) = open_sessions(alloc, fresh, base, next, 1, gate)?;
-    match sessions.pop() {
-        Some(session) => Ok((pipeline, session)),
-        None => Err(NoMemory),
-    }
+    with_names::<D, N, Brand, G, A, R>(rt, alloc, gate, parts, journal, act)
 }
 
-/// The same over no base.
-fn open<'a, G: Gate>(
-    alloc: Global,
-    fresh: Fresh,
-    next: u64,
-    gate: &'a G,
-) -> Result<(Pipeline<'a, MemDisk, G>, Session), NoMemory>
-    requires { next ≤ NUMBER_MAX }
+/// All names are picked.
+fn with_names<
+    D: Disk + Drop + Send,
+    N: PipeName + Send + Sync,
+    M: Ledger + Send + Sync,
+    G: Gate + Sync,
+    A: Act<G> + Sync,
+    R: Threads + Wait + Abort + Sync,
+>(rt: &R, alloc: Global, gate: &G, parts: Parts, journal: Journal<D>, act: &A) -> u64
+    requires opening { N.opening ≡ opening_on D.view parts.base journal N.opening.may_stall }
+    requires table { parts.table ≡ N.table }
+    requires batches { (parts.batches ≡ N.name) × (parts.sessions ≡ N.parts) }
+    requires answers { (parts.answers ≡ M.name) × (parts.sessions + parts.sessions ≡ M.parts) }
+    requires empty { len journal.state ≡ 0 }
+    requires next { journal.state.next ≡ parts.next }
 {
-    open_over(alloc, fresh, &ListOf::new(alloc), next, gate)
-}
-
-/// The same over what is recovered of a disk, once its journal is closed.
-fn open_again<'a>(
-    rt: &impl Abort,
-    alloc: Global,
-    mut journal: Journal<MemDisk>,
-    gate: &'a NoGate,
-) -> (Pipeline<'a, MemDisk, NoGate>, Session) {
-    if journal.close().is_err() {
-        panic!(rt; "a journal that is closed");
-    }
-    let mut disk = journal.into_disk();
-    let found = match recover(alloc, &mut disk, Mode::Strict) {
-        Ok(found) => found,
-        Err(_) => panic!(rt; "a disk that recovers"),
+    let Ok((pipe, mut sessions)) = Pipeline::<D, G, N, M>::new(journal, parts, gate) else {
+        panic!(rt; "memory");
     };
-    let fresh = Fresh::new(alloc).expect(rt, "memory");
-    open_over(alloc, fresh, &found.batches, found.next, gate).expect(rt, "memory")
-}
-
-/// A pipeline over no base, whose first number is 10.
-fn plain<'a>(
-    rt: &impl Abort,
-    alloc: Global,
-    gate: &'a NoGate,
-) -> (Pipeline<'a, MemDisk, NoGate>, Session) {
-    let fresh = Fresh::new(alloc).expect(rt, "memory");
-    open(alloc, fresh, FIRST, gate).expect(rt, "memory")
-}
-
-/// A batch that sets each of the keys to the same value.
-fn sets(alloc: Global, keys: &[&[u8]], value: &[u8]) -> Option<Unnumbered> {
-    let mut builder = BatchBuilder::new(alloc).ok()?;
-    for key in keys {
-        builder.set(key, value).ok()?;
-    }
-    builder.finish().ok()
-}
-
-fn set(rt: &impl Abort, alloc: Global, key: &[u8], value: &[u8]) -> Unnumbered {
-    sets(alloc, &[key], value).expect(rt, "a batch")
-}
-
-fn committed(first: u64, count: u32, synced: bool) -> Result<Committed, CommitFault> {
-    Ok(Committed {
-        first,
-        count,
-        synced,
-    })
-}
-
-/// The key is read as this value, where this number is visible.
-fn assert_read<G: Gate>(
-    rt: &impl Abort,
-    pipeline: &mut Pipeline<MemDisk, G>,
-    session: &mut Session,
-    key: &[u8],
-    value: Option<&[u8]>,
-    visible: u64,
-) {
-    let reply = pipeline.get(session, key).expect(rt, "memory");
-    assert_eq!(rt; reply.visible, visible);
-    let read = match &reply.value {
-        Some(bytes) => Some(bytes.as_slice()),
-        None => None,
-    };
-    assert!(rt; read == value, "the value of {key:?}");
-}
-
-#[test]
-fn a_batch_is_read_once_its_commit_returns(rt: HostRuntime) {
-    let alloc = rt.alloc();
-    let (mut pipeline, mut session) = plain(&rt, alloc, &NoGate);
-    assert_read(&rt, &mut pipeline, &mut session, b"a", None, 10);
-    let one = set(&rt, alloc, b"a", b"1");
+    each_acts(rt, alloc, &pipe, sessions.as_mut_slice(), act);
+    pipe.meet(rt, &mut sessions).expect(rt, "memory");
+    let finished = pipe.finish(sessions);
     assert_eq!(rt;
-        pipeline.commit(&mut session, one, false),
-        committed(10, 1, false)
+        finished.visible,
+        NUMBER_FIRST.wrapping_add(finished.batches)
     );
-    assert_read(&rt, &mut pipeline, &mut session, b"a", Some(b"1"), 11);
-    let two = sets(alloc, &[b"a", b"b"], b"2").expect(&rt, "a batch");
-    assert_eq!(rt;
-        pipeline.commit(&mut session, two, false),
-        committed(11, 2, false)
-    );
-    assert_read(&rt, &mut pipeline, &mut session, b"a", Some(b"2"), 13);
-    assert_read(&rt, &mut pipeline, &mut session, b"b", Some(b"2"), 13);
-    assert_read(&rt, &mut pipeline, &mut session, b"c", None, 13);
-    let finished = pipeline.finish(ListOf::new(alloc));
-    assert_eq!(rt; (finished.visible, finished.batches), (13, 2));
-    assert_eq!(rt; finished.journal.acked(), 0);
+    assert_eq!(rt; finished.journal.len(), finished.batches);
+    finished.batches
 }
 
-#[test]
-fn a_synced_commit_is_acked(rt: HostRuntime) {
-    let alloc = rt.alloc();
-    let (mut pipeline, mut session) = plain(&rt, alloc, &NoGate);
-    let one = set(&rt, alloc, b"a", b"1");
-    assert_eq!(rt;
-        pipeline.commit(&mut session, one, true),
-        committed(10, 1, true)
-    );
-    let journal = pipeline.into_journal();
-    assert_eq!(rt;
-        (journal.len(), journal.acked(), journal.segments()),
-        (1, 1, 1)
+/// Each session acts, on a thread of its own.
+fn each_acts<
+    D: Disk + Send,
+    N: PipeName + Send + Sync,
+    M: Ledger + Send + Sync,
+    G: Gate + Sync,
+    A: Act<G> + Sync,
+    R: Threads + Wait + Abort + Sync,
+>(rt: &R, alloc: Global, pipe: &Pipeline<'_, D, G, N, M>, sessions: &mut [Session<N, M>], act: &A)
+    ensures { length sessions.new ≡ length sessions.old }
+{
+    thread::for_each_mut(
+        rt,
+        sessions,
+        64,
+        &|_, session: &mut Session<N, M>| { act.act(rt, alloc, pipe, session) },
     );
 }
 
-#[test]
-fn a_commit_is_unsynced_where_each_sync_fails(rt: HostRuntime) {
-    let alloc = rt.alloc();
-    let mut fresh = Fresh::new(alloc).expect(&rt, "memory");
-    for index in 0..10 {
-        fresh.fail_op(&rt, 2 + 3 * index);
-    }
-    let (mut pipeline, mut session) = open(alloc, fresh, FIRST, &NoGate).expect(&rt, "memory");
-    let unsynced = CommitFault::Unsynced {
-        first: 10,
-        count: 1,
-        side: Side::Secondary,
-        faults: 10,
-    };
-    let one = set(&rt, alloc, b"a", b"1");
-    assert_eq!(rt; pipeline.commit(&mut session, one, true), Err(unsynced));
-    let dead = CommitFault::Dead {
-        side: Side::Secondary,
-        faults: 10,
-    };
-    let two = set(&rt, alloc, b"a", b"2");
-    assert_eq!(rt; pipeline.commit(&mut session, two, true), Err(dead));
-    assert_read(&rt, &mut pipeline, &mut session, b"a", Some(b"1"), 11);
-    let finished = pipeline.finish(ListOf::new(alloc));
-    assert_eq!(rt; (finished.visible, finished.batches), (11, 1));
-    assert_eq!(rt;
-        (finished.journal.segments(), finished.journal.acked()),
-        (10, 0)
-    );
-}
-
-#[test]
-fn no_batch_ends_past_the_numbers(rt: HostRuntime) {
-    let alloc = rt.alloc();
-    let fresh = Fresh::new(alloc).expect(&rt, "memory");
-    let next = 72_057_594_037_927_934;
-    let (mut pipeline, mut session) = open(alloc, fresh, next, &NoGate).expect(&rt, "memory");
-    let two = sets(alloc, &[b"a", b"b"], b"1").expect(&rt, "a batch");
-    let before = CommitFault::SeqExhausted {
-        next: 72_057_594_037_927_934,
-    };
-    assert_eq!(rt; pipeline.commit(&mut session, two, false), Err(before));
-    let one = set(&rt, alloc, b"a", b"1");
-    let last = committed(72_057_594_037_927_934, 1, true);
-    assert_eq!(rt; pipeline.commit(&mut session, one, true), last);
-    let one = set(&rt, alloc, b"a", b"2");
-    let after = CommitFault::SeqExhausted {
-        next: 72_057_594_037_927_935,
-    };
-    assert_eq!(rt; pipeline.commit(&mut session, one, true), Err(after));
-    let visible = 72_057_594_037_927_935;
-    assert_read(&rt, &mut pipeline, &mut session, b"a", Some(b"1"), visible);
-}
-
-/// The gate that keeps the points that were passed, with the session.
+/// Each session commits so many batches under its own key, and reads what it wrote.
 #[derive(Drop)]
-struct Recorder {
-    passed: Cell<[Option<(u32, GatePoint)>; 8]>,
-    count: Cell<usize>,
+struct ReadsItsWrites {
+    commits: u8,
 }
 
-impl Gate for Recorder {
+impl<G: Gate> Act<G> for ReadsItsWrites {
+    fn act<D: Disk, N: PipeName, M: Ledger, R: Wait + Abort>(
+        &self,
+        rt: &R,
+        alloc: Global,
+        pipe: &Pipeline<'_, D, G, N, M>,
+        session: &mut Session<N, M>,
+    ) {
+        let key = (session.number % 256) as u8;
+        for value in 0..self.commits {
+            let batch = one_set(rt, alloc, key, value);
+            let sync = value % 16 == 15;
+            let committed = pipe.commit(rt, session, batch, sync).expect(rt, "a commit");
+            assert_eq!(rt; committed.count, 1);
+            assert_eq!(rt; committed.synced, sync);
+            let reply = pipe.get(rt, session, &[key]).expect(rt, "memory");
+            let read = reply.value.expect(rt, "a value");
+            assert_eq!(rt; read.as_slice(), [value].as_slice());
+            assert!(rt; reply.visible > committed.first);
+        }
+    }
+}
+
+#[test]
+fn sessions_read_what_they_wrote(rt: HostRuntime) {
+    for sessions in [1usize, 2, 8, 64] {
+        let act = ReadsItsWrites { commits: 100 };
+        let batches = run(
+            &rt,
+            rt.alloc(),
+            &NoGate,
+            new_journal(&rt, rt.alloc()),
+            sessions,
+            &act,
+        );
+        assert_eq!(rt; batches, sessions as u64 * 100);
+    }
+}
+
+/// A gate that holds one session once it has its number until another one has marked its batch, for
+/// so many turns at most.
+#[derive(Drop)]
+struct Held {
+    held: u32,
+    other: u32,
+    marked: AtomicBool,
+    /// How many turns were left as the hold ended.
+    left: AtomicU64,
+}
+
+impl Held {
+    fn new(held: u32, other: u32) -> Held {
+        Held {
+            held,
+            other,
+            marked: AtomicBool::new(false),
+            left: AtomicU64::new(0),
+        }
+    }
+}
+
+impl Gate for Held {
     fn pass(&self, session: u32, point: GatePoint) {
-        let at = self.count.get();
-        let mut passed = self.passed.get();
-        if at < passed.len() {
-            passed[at] = Some((session, point));
-            self.count.set(at + 1);
+        if session == self.other && point == GatePoint::Marked {
+            self.marked.store(true, Ordering::SeqCst);
         }
-        self.passed.set(passed);
-    }
-}
-
-#[test]
-fn a_commit_passes_the_points_of_the_gate_in_order(rt: HostRuntime) {
-    let alloc = rt.alloc();
-    let recorder = Recorder {
-        passed: Cell::new([None; 8]),
-        count: Cell::new(0),
-    };
-    let fresh = Fresh::new(alloc).expect(&rt, "memory");
-    let (mut pipeline, mut session) = open(alloc, fresh, FIRST, &recorder).expect(&rt, "memory");
-    let one = set(&rt, alloc, b"a", b"1");
-    assert_eq!(rt;
-        pipeline.commit(&mut session, one, true),
-        committed(10, 1, true)
-    );
-    let points = [
-        GatePoint::Numbered,
-        GatePoint::Applied,
-        GatePoint::Marked,
-        GatePoint::Published,
-    ];
-    assert_eq!(rt; recorder.count.get(), 4);
-    for (at, point) in points.iter().enumerate() {
-        assert_eq!(rt; recorder.passed.get()[at], Some((0, *point)));
-    }
-}
-
-#[test]
-fn a_base_is_read_and_its_keys_are_changed(rt: HostRuntime) {
-    let alloc = rt.alloc();
-    let (mut pipeline, mut session) = plain(&rt, alloc, &NoGate);
-    let both = sets(alloc, &[b"a", b"b"], b"1").expect(&rt, "a batch");
-    assert_eq!(rt;
-        pipeline.commit(&mut session, both, false),
-        committed(10, 2, false)
-    );
-    let again = set(&rt, alloc, b"b", b"2");
-    assert_eq!(rt;
-        pipeline.commit(&mut session, again, false),
-        committed(12, 1, false)
-    );
-    let (mut pipeline, mut session) = open_again(&rt, alloc, pipeline.into_journal(), &NoGate);
-    assert_read(&rt, &mut pipeline, &mut session, b"a", Some(b"1"), 13);
-    assert_read(&rt, &mut pipeline, &mut session, b"b", Some(b"2"), 13);
-    let three = set(&rt, alloc, b"a", b"3");
-    assert_eq!(rt;
-        pipeline.commit(&mut session, three, false),
-        committed(13, 1, false)
-    );
-    assert_read(&rt, &mut pipeline, &mut session, b"a", Some(b"3"), 14);
-    assert_read(&rt, &mut pipeline, &mut session, b"b", Some(b"2"), 14);
-    let finished = pipeline.finish(ListOf::new(alloc));
-    assert_eq!(rt; (finished.visible, finished.batches), (14, 1));
-}
-
-#[test]
-fn a_deleted_key_has_no_value_and_a_note_takes_no_number(rt: HostRuntime) {
-    let alloc = rt.alloc();
-    let (mut pipeline, mut session) = plain(&rt, alloc, &NoGate);
-    let one = set(&rt, alloc, b"a", b"1");
-    assert_eq!(rt;
-        pipeline.commit(&mut session, one, false),
-        committed(10, 1, false)
-    );
-    let mut builder = BatchBuilder::new(alloc).expect(&rt, "memory");
-    builder.note(b"n").expect(&rt, "an entry");
-    builder.delete(b"a").expect(&rt, "an entry");
-    builder.note(b"m").expect(&rt, "an entry");
-    let Ok(gone) = builder.finish() else {
-        panic!(&rt; "a batch");
-    };
-    assert_eq!(rt;
-        pipeline.commit(&mut session, gone, false),
-        committed(11, 1, false)
-    );
-    assert_read(&rt, &mut pipeline, &mut session, b"a", None, 12);
-}
-
-#[test]
-fn a_stalled_side_is_left_for_the_other(rt: HostRuntime) {
-    let alloc = rt.alloc();
-    let (mut pipeline, mut session) = plain(&rt, alloc, &NoGate);
-    pipeline.stall(Side::Primary, 5);
-    let one = set(&rt, alloc, b"a", b"1");
-    assert_eq!(rt;
-        pipeline.commit(&mut session, one, true),
-        committed(10, 1, true)
-    );
-    let journal = pipeline.into_journal();
-    assert_eq!(rt; (journal.segments(), journal.acked()), (2, 1));
-}
-
-/// A pipeline of as many sessions as there may be, over no base.
-fn open_for_all<'a>(
-    rt: &impl Abort,
-    alloc: Global,
-    fresh: Fresh,
-    gate: &'a NoGate,
-) -> (Pipeline<'a, MemDisk, NoGate>, Sessions) {
-    let base = ListOf::new(alloc);
-    open_sessions(alloc, fresh, &base, FIRST, SESSIONS_MAX as usize, gate).expect(rt, "memory")
-}
-
-#[test]
-fn sessions_are_numbered_from_0(rt: HostRuntime) {
-    let alloc = rt.alloc();
-    let fresh = Fresh::new(alloc).expect(&rt, "memory");
-    let (pipeline, sessions) = open_for_all(&rt, alloc, fresh, &NoGate);
-    assert_eq!(rt; sessions.len(), 64);
-    for (number, session) in sessions.as_slice().iter().enumerate() {
-        assert_eq!(rt; session.number() as usize, number);
-    }
-    assert_eq!(rt; pipeline.finish(sessions).batches, 0);
-    a_pipeline_keeps_its_base();
-}
-
-/// The value that the key is read as, asked once more where memory ran out.
-fn value_of(
-    pipeline: &mut Pipeline<MemDisk, NoGate>,
-    session: &mut Session,
-) -> Result<Option<Blob>, NoMemory> {
-    match pipeline.get(session, b"a") {
-        Ok(reply) => Ok(reply.value),
-        Err(NoMemory) => Ok(pipeline.get(session, b"a")?.value),
-    }
-}
-
-/// Commits a digit with a sync, once more where memory ran out before it was numbered. Answers
-/// whether it was numbered.
-fn commit_digit(
-    rt: &impl Abort,
-    alloc: Global,
-    pipeline: &mut Pipeline<MemDisk, NoGate>,
-    session: &mut Session,
-    digit: u8,
-) -> bool {
-    for _ in 0..2 {
-        let Some(batch) = sets(alloc, &[b"a"], &[digit]) else {
-            continue;
-        };
-        match pipeline.commit(session, batch, true) {
-            Ok(_) | Err(CommitFault::NoMemorySync { .. }) => return true,
-            Err(CommitFault::NoMemory) => {}
-            Err(_) => panic!(rt; "a journal that lives"),
+        if session == self.held && point == GatePoint::Numbered {
+            for turn in 0..TURNS {
+                if self.marked.load(Ordering::SeqCst) {
+                    self.left.store(TURNS - turn, Ordering::SeqCst);
+                    return;
+                }
+                thread::yield_now();
+            }
         }
     }
-    false
+}
+
+/// Each session commits one batch.
+#[derive(Drop)]
+struct CommitsOne;
+
+impl<G: Gate> Act<G> for CommitsOne {
+    fn act<D: Disk, N: PipeName, M: Ledger, R: Wait + Abort>(
+        &self,
+        rt: &R,
+        alloc: Global,
+        pipe: &Pipeline<'_, D, G, N, M>,
+        session: &mut Session<N, M>,
+    ) {
+        let batch = one_set(rt, alloc, (session.number % 256) as u8, 0);
+        pipe.commit(rt, session, batch, false)
+            .expect(rt, "a commit");
+    }
 }
 
 #[test]
-fn memory_that_runs_out_once_loses_no_batch(rt: HostRuntime) {
-    let alloc = rt.alloc();
-    let Ok(fresh) = Fresh::new(alloc) else {
-        return;
-    };
-    let Ok((mut pipeline, mut session)) = open(alloc, fresh, FIRST, &NoGate) else {
-        return;
-    };
-    for digit in [b'1', b'2', b'3'] {
-        assert!(rt; commit_digit(&rt, alloc, &mut pipeline, &mut session, digit));
-        let value = value_of(&mut pipeline, &mut session).expect(&rt, "memory");
-        let Some(read) = value else {
-            panic!(&rt; "a value");
-        };
-        assert!(rt; read.as_slice() == [digit].as_slice());
+fn a_session_that_is_held_holds_up_no_other(rt: HostRuntime) {
+    for sessions in [2u32, 8, 64] {
+        for (held, other) in [(0, sessions - 1), (sessions - 1, 0)] {
+            let gate = Held::new(held, other);
+            let batches = run(
+                &rt,
+                rt.alloc(),
+                &gate,
+                new_journal(&rt, rt.alloc()),
+                sessions as usize,
+                &CommitsOne,
+            );
+            assert_eq!(rt; batches, u64::from(sessions));
+            assert!(rt; gate.left.load(Ordering::SeqCst) > 0);
+        }
     }
-    let finished = pipeline.finish(ListOf::new(alloc));
-    assert_eq!(rt; (finished.visible, finished.batches), (13, 3));
+}
+
+/// Each of so many sessions commits one batch with a sync, after polls of the primary side were
+/// left to stall. Answers the length of the journal, given up as it stands.
+fn run_stalled<D: StallDisk + Drop, R: Wait + Abort>(
+    rt: &R,
+    alloc: Global,
+    journal: Journal<D>,
+    sessions: usize,
+    polls: u32,
+) -> u64
+    requires sessions { (1 ≤ sessions) × (sessions ≤ SESSIONS_MAX) }
+    requires empty { len journal.state ≡ 0 }
+    requires next { journal.state.next ≡ NUMBER_FIRST }
+{
+    let base = Batches::new(alloc);
+    let parts = Parts::new(alloc, &base, NUMBER_FIRST, sessions).expect(rt, "memory");
+    stalled_table::<D, Brand, R>(rt, alloc, parts, journal, polls)
+}
+
+/// The name of the table is picked, by which polls may be left to stall.
+fn stalled_table<D: StallDisk + Drop, N: PipeName, R: Wait + Abort>(
+    rt: &R,
+    alloc: Global,
+    parts: Parts,
+    journal: Journal<D>,
+    polls: u32,
+) -> u64
+    requires opening { N.opening ≡ opening_on D.view parts.base journal N.opening.may_stall }
+    requires may_stall { N.opening.may_stall ≡ true }
+    requires table { parts.table ≡ N.table }
+    requires batches { (parts.batches ≡ N.name) × (parts.sessions ≡ N.parts) }
+    requires empty { len journal.state ≡ 0 }
+    requires next { journal.state.next ≡ parts.next }
+{
+    stalled_names::<D, N, Brand, R>(rt, alloc, parts, journal, polls)
+}
+
+/// All names are picked.
+fn stalled_names<D: StallDisk + Drop, N: PipeName, M: Ledger, R: Wait + Abort>(
+    rt: &R,
+    alloc: Global,
+    parts: Parts,
+    journal: Journal<D>,
+    polls: u32,
+) -> u64
+    requires opening { N.opening ≡ opening_on D.view parts.base journal N.opening.may_stall }
+    requires may_stall { N.opening.may_stall ≡ true }
+    requires table { parts.table ≡ N.table }
+    requires batches { (parts.batches ≡ N.name) × (parts.sessions ≡ N.parts) }
+    requires answers { (parts.answers ≡ M.name) × (parts.sessions + parts.sessions ≡ M.parts) }
+    requires empty { len journal.state ≡ 0 }
+    requires next { journal.state.next ≡ parts.next }
+{
+    let Ok((pipe, mut sessions)) = Pipeline::<D, NoGate, N, M>::new(journal, parts, &NoGate) else {
+        panic!(rt; "memory");
+    };
+    pipe.stall(rt, Side::Primary, polls);
+    for session in sessions.iter_mut() {
+        let batch = one_set(rt, alloc, 0, 0);
+        let committed = pipe.commit(rt, session, batch, true).expect(rt, "a commit");
+        assert!(rt; committed.synced);
+    }
+    pipe.into_journal().len()
+}
+
+#[test]
+fn a_journal_is_given_up_with_all_batches_though_polls_stalled(rt: HostRuntime) {
+    for polls in [0u32, 1, 2, 20] {
+        let journal = new_journal(&rt, rt.alloc());
+        let batches = run_stalled(&rt, rt.alloc(), journal, 3, polls);
+        assert_eq!(rt; batches, 3);
+    }
 }

@@ -1,9 +1,9 @@
-//! Laws of what a pipeline holds (docs/FORMATS.md, "What a pipeline holds").
+//! The law of what a journal holds since an opening (docs/FORMATS.md, "What a pipeline holds").
 
-ghost use Rattle.commit_pipeline.specs.Theorems.{EachPipelineKeepsItsBase};
+ghost use Rattle.commit_pipeline.specs.Theorems.{EachJournalKeepsItsBase};
 
-/// A pipeline whose journal kept a base at the opening recovers to it, and after it to a prefix of
-/// the batches that it holds, with all that are acked.
-pub fn a_pipeline_keeps_its_base()
-    ensures { EachPipelineKeepsItsBase }
+/// Whatever a journal kept as a base at the opening it recovers to, and after it to a prefix of the
+/// batches that it holds, with all that are acked.
+pub fn a_journal_keeps_its_base()
+    ensures { EachJournalKeepsItsBase }
 {}

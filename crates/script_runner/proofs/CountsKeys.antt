@@ -12,11 +12,11 @@ use Rattle.commit_queue.proofs.Laws.{longer_prefix}
 use Rattle.session_script.specs.declared.load.TheConstants.{LOAD_KEYS}
 use Rattle.session_script.specs.Load.{load_key, load_keys, live_keys}
 use Rattle.commit_pipeline.specs.declared.fault.Reply.{Reply}
-use Rattle.commit_pipeline.specs.Holding.{Opening}
-use Rattle.shared_pipeline.specs.declared.standing.Standing.{Standing}
-use Rattle.shared_pipeline.specs.Standings.{Idles}
-use Rattle.shared_pipeline.specs.Commits.{TellsRead}
-use Rattle.shared_pipeline.specs.Meeting.{StaysOn, StayOn}
+use Rattle.commit_pipeline.specs.Openings.{Opening}
+use Rattle.commit_pipeline.specs.declared.standing.Standing.{Standing}
+use Rattle.commit_pipeline.specs.Standings.{Idles}
+use Rattle.commit_pipeline.specs.Commits.{TellsRead}
+use Rattle.commit_pipeline.specs.Meeting.{StaysOn, StayOn}
 use Rattle.session_rounds.proofs.Laws.{prefix_whole}
 use Rattle.session_script.specs.Legal.{Replied}
 use Rattle.script_runner.specs.declared.performing.Told.{Told}

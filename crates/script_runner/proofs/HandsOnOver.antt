@@ -5,8 +5,8 @@ use Rattle.disk_face.specs.View.{DiskView, files}
 use Rattle.failover_writer.specs.State.{JournalView}
 use Rattle.failover_writer.specs.Running.{OthersSame}
 use Rattle.session_script.specs.declared.script.Round.{Round}
-use Rattle.commit_pipeline.specs.Holding.{Opening, KeepsJournal}
-use Rattle.shared_pipeline.specs.Ending.{StillKeeps}
+use Rattle.commit_pipeline.specs.Openings.{Opening, KeepsJournal}
+use Rattle.commit_pipeline.specs.Ending.{StillKeeps}
 use Rattle.script_runner.specs.declared.work.Work.{Work}
 use Rattle.script_runner.specs.declared.work.Work.TheVariants as works
 use Rattle.script_runner.specs.Rounds.{NameSessions}

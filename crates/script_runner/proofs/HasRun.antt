@@ -19,7 +19,7 @@ use Rattle.failover_writer.specs.Running.{PollsLeft, OthersSame}
 use Rattle.failover_writer.proofs.Laws.{len_is, synced_within, not_theirs, base_recovers, run_kept_now, none_of_opening, reads_as_image}
 use Rattle.session_script.specs.declared.replies.RunEnd.{RunEnd}
 use Rattle.session_script.specs.declared.script.Round.{Round}
-use Rattle.commit_pipeline.specs.Holding.{Opening, MayStall, KeepsJournal}
+use Rattle.commit_pipeline.specs.Openings.{Opening, MayStall, KeepsJournal}
 use Rattle.script_runner.specs.Runs.{WasClosed, StallsSome, EndsRunAs, HasRun, TellsJournal, run_opening}
 use Rattle.script_runner.proofs.AllowsStalls.{some_stall}
 

@@ -1,8 +1,8 @@
 -- The rounds of a load so far, and those that are left. Its replies are noted as if in one transcript, which keeps no line.
 use Rattle.std.proofs.Common.{◌≡◌, ◌∙◌, ◌||◌, Bool, false, List, [], ◌∷◌, length, None, refl, ap}
 use Rattle.session_script.specs.declared.script.Round.{Round}
-use Rattle.commit_pipeline.specs.Holding.{Opening}
-use Rattle.shared_pipeline.specs.declared.standing.Standing.{Standing}
+use Rattle.commit_pipeline.specs.Openings.{Opening}
+use Rattle.commit_pipeline.specs.declared.standing.Standing.{Standing}
 use Rattle.script_runner.specs.declared.transcript.Transcript.{Transcript}
 use Rattle.script_runner.specs.Transcripts.{any_limit, lines_text, with_lines, IsSilentTranscript}
 use Rattle.script_runner.specs.Rounds.{NameSessions, AllowsStalls, PlaysOn}

@@ -8,10 +8,10 @@ use Rattle.disk_face.specs.View.{DiskView}
 use Rattle.disk_face.specs.Script.{TellsOf}
 use Rattle.failover_writer.specs.State.{JournalView}
 use Rattle.session_script.specs.declared.replies.RunEnd.{RunEnd}
-use Rattle.commit_pipeline.specs.Holding.{Opening, first_number, first_of, KeepsJournal}
-use Rattle.shared_pipeline.specs.declared.standing.Standing.{Standing}
-use Rattle.shared_pipeline.specs.Parts.{AreNew}
-use Rattle.shared_pipeline.specs.Ending.{EndsPipeline}
+use Rattle.commit_pipeline.specs.Openings.{Opening, first_number, first_of, KeepsJournal}
+use Rattle.commit_pipeline.specs.declared.standing.Standing.{Standing}
+use Rattle.commit_pipeline.specs.Parts.{AreNew}
+use Rattle.commit_pipeline.specs.Ending.{EndsPipeline}
 use Rattle.script_runner.specs.declared.run.Outcome.{Outcome}
 use Rattle.script_runner.specs.declared.performing.Told.{Told}
 use Rattle.script_runner.specs.declared.work.Work.{Work}

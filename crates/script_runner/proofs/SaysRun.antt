@@ -9,10 +9,10 @@ use Rattle.failover_writer.specs.State.{JournalView, acked}
 use Rattle.session_script.specs.declared.replies.RunEnd.{RunEnd}
 use Rattle.session_script.specs.Legal.{Replied}
 use Rattle.session_script.proofs.Laws.{limited_exactly}
-use Rattle.commit_pipeline.specs.Holding.{Opening, first_of}
-use Rattle.shared_pipeline.specs.declared.standing.Standing.{Standing}
-use Rattle.shared_pipeline.specs.Parts.{AreNew}
-use Rattle.shared_pipeline.specs.Ending.{Finishes}
+use Rattle.commit_pipeline.specs.Openings.{Opening, first_of}
+use Rattle.commit_pipeline.specs.declared.standing.Standing.{Standing}
+use Rattle.commit_pipeline.specs.Parts.{AreNew}
+use Rattle.commit_pipeline.specs.Ending.{Finishes}
 use Rattle.session_rounds.specs.Legality.{SyncedAreAmong, HaveSeenThem}
 use Rattle.session_rounds.proofs.Laws.{played_legally, played_seen, deaths_lasting, visible_at_end}
 use Rattle.script_runner.specs.declared.performing.Told.{Told}

@@ -5,9 +5,9 @@ use Rattle.session_script.specs.declared.script.Line.{Line}
 use Rattle.session_script.specs.declared.script.StallLine.{StallLine}
 use Rattle.session_script.specs.declared.script.Round.{Round}
 use Rattle.session_script.specs.Legal.{Replied}
-use Rattle.commit_pipeline.specs.Holding.{Opening}
-use Rattle.shared_pipeline.specs.declared.standing.Standing.{Standing}
-use Rattle.shared_pipeline.specs.Meeting.{HaveMet}
+use Rattle.commit_pipeline.specs.Openings.{Opening}
+use Rattle.commit_pipeline.specs.declared.standing.Standing.{Standing}
+use Rattle.commit_pipeline.specs.Meeting.{HaveMet}
 use Rattle.session_rounds.specs.Playing.{LinesAreOfSome, PlaysRound, PlaysRounds}
 use Rattle.script_runner.specs.declared.transcript.Transcript.{Transcript}
 use Rattle.script_runner.specs.Transcripts.{NotesReplies, NotesRounds}

@@ -21,7 +21,7 @@ use Rattle.session_script.specs.Load.{live_keys}
 use Rattle.session_script.specs.Legal.{Replied, replies_text, AreLegal}
 use Rattle.session_script.specs.Lasting.{DeathLasts}
 use Rattle.session_script.specs.Theorems.{limit_told, IsLimitedExactly}
-use Rattle.commit_pipeline.specs.Holding.{Opening, first_of, opening_on, KeepsJournal}
+use Rattle.commit_pipeline.specs.Openings.{Opening, first_of, opening_on, KeepsJournal}
 use Rattle.script_runner.specs.declared.performing.Told.{Told}
 use Rattle.script_runner.specs.declared.run.Outcome.{Outcome}
 use Rattle.script_runner.specs.declared.work.Work.{Work}

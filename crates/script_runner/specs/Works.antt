@@ -8,10 +8,10 @@ use Rattle.session_script.specs.Load.{live_keys}
 use Rattle.session_script.specs.Script.{NamesItsSessions}
 use Rattle.session_script.specs.Legal.{Replied, replies_text}
 use Rattle.session_script.specs.Theorems.{limit_told}
-use Rattle.commit_pipeline.specs.Holding.{Opening}
-use Rattle.shared_pipeline.specs.declared.standing.Standing.{Standing}
-use Rattle.shared_pipeline.specs.Standings.{Idles}
-use Rattle.shared_pipeline.specs.Meeting.{StayOn}
+use Rattle.commit_pipeline.specs.Openings.{Opening}
+use Rattle.commit_pipeline.specs.declared.standing.Standing.{Standing}
+use Rattle.commit_pipeline.specs.Standings.{Idles}
+use Rattle.commit_pipeline.specs.Meeting.{StayOn}
 use Rattle.session_rounds.specs.Playing.{PlaysRounds}
 use Rattle.script_runner.specs.declared.work.Work.{Work}
 use Rattle.script_runner.specs.declared.work.Work.TheVariants as works

@@ -1,7 +1,7 @@
 //! The run of a script or of a generated load over a commit pipeline: round by round its sessions commit and read beside
 //! one another, and each of their lines has its reply.
 //!
-//! Stands on `session_rounds` for the rounds that sessions play, on `shared_pipeline` for the pipeline below them, on
+//! Stands on `session_rounds` for the rounds that sessions play, on `commit_pipeline` for the pipeline below them, on
 //! `session_script` for the script, the load and the lines of the replies, and on `failover_writer` for the journal. The
 //! layer above uses one contract, that of `run_work`: the lines of all rounds are answered, each round's stalls first and
 //! then its sessions beside one another, the replies are legal, and the journal is closed and holds what they say. A

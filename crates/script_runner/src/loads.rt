@@ -6,10 +6,9 @@ ghost use Rattle.script_runner.specs.Works.{AnswersLoad, CountsLive};
 
 use crate::rounds::run_round;
 use crate::transcript::Transcript;
-use commit_pipeline::Gate;
+use commit_pipeline::{Gate, PipeName, Pipeline, Session, Sessions};
 use disk_face::{Disk, StallDisk};
 use session_script::{LOAD_KEYS, Load, load_key};
-use shared_pipeline::{PipeName, Pipeline, Session, Sessions};
 use std::alloc::Global;
 use std::sync::Wait;
 use std::sync::ledger::Ledger;

@@ -5,11 +5,10 @@ ghost use Rattle.session_rounds.specs.Playing.{LinesAreOfSome};
 ghost use Rattle.script_runner.specs.Rounds.{NameSessions, AllowsPolls, AllowsStalls, PlaysOn, PlaysAll};
 
 use crate::transcript::Transcript;
-use commit_pipeline::Gate;
+use commit_pipeline::{Gate, PipeName, Pipeline, Sessions};
 use disk_face::StallDisk;
 use session_rounds::play_round;
 use session_script::{Round, Rounds, Stalls};
-use shared_pipeline::{PipeName, Pipeline, Sessions};
 use std::alloc::Global;
 use std::collections::VecDeque;
 use std::sync::Wait;

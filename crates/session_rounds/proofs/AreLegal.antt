@@ -11,12 +11,12 @@ use Rattle.disk_face.specs.View.{DiskView}
 use Rattle.failover_writer.specs.State.{State, acked}
 use Rattle.session_script.specs.declared.script.Round.{Round}
 use Rattle.session_script.specs.Legal.{Replied, RepliesToRounds, AreLegalRounds, AreLegal}
-use Rattle.commit_pipeline.specs.Holding.{Opening, first_of}
-use Rattle.shared_pipeline.specs.declared.standing.Standing.{Standing}
-use Rattle.shared_pipeline.specs.Standings.{new_standing}
-use Rattle.shared_pipeline.specs.Commits.{end_at}
-use Rattle.shared_pipeline.specs.Parts.{AreNew}
-use Rattle.shared_pipeline.specs.Ending.{owned, EachOnce, Finishes}
+use Rattle.commit_pipeline.specs.Openings.{Opening, first_of}
+use Rattle.commit_pipeline.specs.declared.standing.Standing.{Standing}
+use Rattle.commit_pipeline.specs.Standings.{new_standing}
+use Rattle.commit_pipeline.specs.Commits.{end_at}
+use Rattle.commit_pipeline.specs.Parts.{AreNew}
+use Rattle.commit_pipeline.specs.Ending.{owned, EachOnce, Finishes}
 use Rattle.session_rounds.specs.Playing.{PlaysRounds}
 use Rattle.session_rounds.specs.Legality.{AreOfSome, SyncedAreAmong, WhatIsPlayedIsLegal}
 use Rattle.session_rounds.proofs.IsPrefix.{row_end}

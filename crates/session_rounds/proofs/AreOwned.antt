@@ -7,9 +7,9 @@ use Rattle.commit_queue.proofs.Laws.{longer_prefix}
 use Rattle.session_script.specs.declared.script.Line.{Line}
 use Rattle.session_script.specs.declared.script.Round.{Round}
 use Rattle.session_script.specs.Legal.{Replied, replies_of_session}
-use Rattle.shared_pipeline.specs.declared.standing.Standing.{Standing}
-use Rattle.shared_pipeline.specs.Meeting.{StayOn, HaveMet}
-use Rattle.shared_pipeline.specs.Ending.{owned, EachOnce}
+use Rattle.commit_pipeline.specs.declared.standing.Standing.{Standing}
+use Rattle.commit_pipeline.specs.Meeting.{StayOn, HaveMet}
+use Rattle.commit_pipeline.specs.Ending.{owned, EachOnce}
 use Rattle.session_rounds.specs.Playing.{PlaysRound, PlaysRounds}
 use Rattle.session_rounds.proofs.Covers.{Covers, range, covers_many, covers_once}
 use Rattle.session_rounds.proofs.Courses.{Course, course_none, course_then, all_lines, all_sessions}

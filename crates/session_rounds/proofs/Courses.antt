@@ -14,10 +14,10 @@ use Rattle.session_script.specs.declared.script.Act.TheVariants.{Commit, Get}
 use Rattle.session_script.specs.declared.replies.Said.{Said}
 use Rattle.session_script.specs.declared.replies.Said.TheVariants.{Committed, Unsynced, Dead, Limit, Got}
 use Rattle.session_script.specs.Legal.{Replied, batch_of}
-use Rattle.shared_pipeline.specs.declared.standing.Standing.{Standing}
-use Rattle.shared_pipeline.specs.Numbering.{numbered}
-use Rattle.shared_pipeline.specs.Standings.{GainsOwn}
-use Rattle.shared_pipeline.specs.Ending.{owned}
+use Rattle.commit_pipeline.specs.declared.standing.Standing.{Standing}
+use Rattle.commit_pipeline.specs.Numbering.{numbered}
+use Rattle.commit_pipeline.specs.Standings.{GainsOwn}
+use Rattle.commit_pipeline.specs.Ending.{owned}
 use Rattle.session_rounds.specs.Acts.{Does, DoesLines}
 use Rattle.session_rounds.specs.Legality.{SyncedAreAmong}
 use Rattle.session_rounds.proofs.Covers.{among_left, among_right, among_cases}

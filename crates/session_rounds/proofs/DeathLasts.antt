@@ -12,10 +12,10 @@ use Rattle.session_script.specs.declared.replies.Said.{Said}
 use Rattle.session_script.specs.declared.replies.Said.TheVariants.{Committed, Unsynced, Dead, Limit, Got}
 use Rattle.session_script.specs.Legal.{Replied, replies_of_session}
 use Rattle.session_script.specs.Lasting.{shows_death, needs_life, DeathLastsInTurn, DeathLastsFrom}
-use Rattle.commit_pipeline.specs.Holding.{Opening}
-use Rattle.shared_pipeline.specs.declared.standing.Standing.{Standing}
-use Rattle.shared_pipeline.specs.Standings.{KnowsDeath}
-use Rattle.shared_pipeline.specs.Meeting.{HaveMet}
+use Rattle.commit_pipeline.specs.Openings.{Opening}
+use Rattle.commit_pipeline.specs.declared.standing.Standing.{Standing}
+use Rattle.commit_pipeline.specs.Standings.{KnowsDeath}
+use Rattle.commit_pipeline.specs.Meeting.{HaveMet}
 use Rattle.session_rounds.specs.Acts.{Does, DoesLines}
 use Rattle.session_rounds.specs.Playing.{PlaysRound, PlaysRounds}
 use Rattle.session_rounds.specs.Legality.{AreOfSome, DeathsLast}

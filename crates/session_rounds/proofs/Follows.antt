@@ -11,10 +11,10 @@ use Rattle.session_script.specs.declared.script.Round.{Round}
 use Rattle.session_script.specs.declared.replies.Said.{Said}
 use Rattle.session_script.specs.declared.replies.Said.TheVariants.{Committed, Unsynced, Dead, Limit, Got}
 use Rattle.session_script.specs.Legal.{Replied, replies_of_session}
-use Rattle.commit_pipeline.specs.Holding.{Opening, EndsBefore}
-use Rattle.shared_pipeline.specs.declared.standing.Standing.{Standing}
-use Rattle.shared_pipeline.specs.Standings.{SeesOn}
-use Rattle.shared_pipeline.specs.Meeting.{StaysOn, HaveMet}
+use Rattle.commit_pipeline.specs.Openings.{Opening, EndsBefore}
+use Rattle.commit_pipeline.specs.declared.standing.Standing.{Standing}
+use Rattle.commit_pipeline.specs.Standings.{SeesOn}
+use Rattle.commit_pipeline.specs.Meeting.{StaysOn, HaveMet}
 use Rattle.session_rounds.specs.Acts.{Does, DoesLines}
 use Rattle.session_rounds.specs.Playing.{PlaysRound, PlaysRounds}
 use Rattle.session_rounds.proofs.IsPrefix.{prefix_same, prefix_then}

@@ -13,11 +13,11 @@ use Rattle.session_script.specs.declared.script.Act.TheVariants.{Commit, Get}
 use Rattle.session_script.specs.declared.replies.Said.{Said}
 use Rattle.session_script.specs.declared.replies.Said.TheVariants.{Committed, Unsynced, Dead, Limit, Got}
 use Rattle.session_script.specs.Legal.{Replied, Answers, committed, unsynced, dead, past_numbers, past_batches, read, AnswersInTurn}
-use Rattle.commit_pipeline.specs.Holding.{first_of}
-use Rattle.shared_pipeline.specs.declared.standing.Standing.{Standing}
-use Rattle.shared_pipeline.specs.Numbering.{numbered}
-use Rattle.shared_pipeline.specs.Standings.{GainsOwn}
-use Rattle.shared_pipeline.specs.Commits.{end_at, Commits, SeesExhausted}
+use Rattle.commit_pipeline.specs.Openings.{first_of}
+use Rattle.commit_pipeline.specs.declared.standing.Standing.{Standing}
+use Rattle.commit_pipeline.specs.Numbering.{numbered}
+use Rattle.commit_pipeline.specs.Standings.{GainsOwn}
+use Rattle.commit_pipeline.specs.Commits.{end_at, Commits, SeesExhausted}
 use Rattle.session_rounds.specs.Acts.{Does, DoesLines}
 use Rattle.session_rounds.proofs.IsPrefix.{get_after, take_after, as_got, row_end, answer_seen}
 use Rattle.session_rounds.proofs.Follows.{End, IsWithin, within_before, lines_follow}

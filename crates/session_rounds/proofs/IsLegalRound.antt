@@ -7,10 +7,10 @@ use native.Mathlib.Decide.{dec_le}
 use Rattle.batch_repr.specs.declared.batch.Batch.{Batch}
 use Rattle.session_script.specs.declared.script.Line.{Line}
 use Rattle.session_script.specs.Legal.{Replied, batch_of, replies_of_session, AnswersInTurn, IsLegalRound}
-use Rattle.commit_pipeline.specs.Holding.{first_of}
-use Rattle.shared_pipeline.specs.declared.standing.Standing.{Standing}
-use Rattle.shared_pipeline.specs.Meeting.{HaveMet}
-use Rattle.shared_pipeline.specs.Ending.{owned, EachOnce}
+use Rattle.commit_pipeline.specs.Openings.{first_of}
+use Rattle.commit_pipeline.specs.declared.standing.Standing.{Standing}
+use Rattle.commit_pipeline.specs.Meeting.{HaveMet}
+use Rattle.commit_pipeline.specs.Ending.{owned, EachOnce}
 use Rattle.session_rounds.specs.Playing.{PlaysRound}
 use Rattle.session_rounds.specs.Legality.{SyncedAreAmong}
 use Rattle.session_rounds.proofs.Covers.{range, at_range}

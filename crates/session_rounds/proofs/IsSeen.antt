@@ -9,12 +9,12 @@ use Rattle.publish_core.specs.Machine.{Among}
 use Rattle.session_script.specs.declared.script.Line.{Line}
 use Rattle.session_script.specs.declared.script.Round.{Round}
 use Rattle.session_script.specs.Legal.{Replied}
-use Rattle.commit_pipeline.specs.Holding.{Opening}
-use Rattle.shared_pipeline.specs.declared.standing.Standing.{Standing}
-use Rattle.shared_pipeline.specs.Standings.{new_standing}
-use Rattle.shared_pipeline.specs.Parts.{AreNew}
-use Rattle.shared_pipeline.specs.Meeting.{StayOn, HaveMet}
-use Rattle.shared_pipeline.specs.Ending.{owned, EachOnce, Finishes}
+use Rattle.commit_pipeline.specs.Openings.{Opening}
+use Rattle.commit_pipeline.specs.declared.standing.Standing.{Standing}
+use Rattle.commit_pipeline.specs.Standings.{new_standing}
+use Rattle.commit_pipeline.specs.Parts.{AreNew}
+use Rattle.commit_pipeline.specs.Meeting.{StayOn, HaveMet}
+use Rattle.commit_pipeline.specs.Ending.{owned, EachOnce, Finishes}
 use Rattle.session_rounds.specs.Playing.{PlaysRound, PlaysRounds}
 use Rattle.session_rounds.specs.Legality.{WhatIsPlayedIsSeen}
 use Rattle.session_rounds.proofs.IsPrefix.{prefix_then, prefix_whole}

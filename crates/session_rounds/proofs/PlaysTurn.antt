@@ -5,8 +5,8 @@ use Rattle.std.proofs.lemmas.List.{map-append, append-nil, reverse-append}
 use Rattle.session_script.specs.declared.script.Line.{Line}
 use Rattle.session_script.specs.declared.replies.Said.{Said}
 use Rattle.session_script.specs.Legal.{Replied}
-use Rattle.commit_pipeline.specs.Holding.{Opening}
-use Rattle.shared_pipeline.specs.declared.standing.Standing.{Standing}
+use Rattle.commit_pipeline.specs.Openings.{Opening}
+use Rattle.commit_pipeline.specs.declared.standing.Standing.{Standing}
 use Rattle.session_rounds.specs.declared.answers.Answer.{Answer}
 use Rattle.session_rounds.specs.declared.course.Course.{Course}
 use Rattle.session_rounds.specs.Acts.{Does, DoesLines}

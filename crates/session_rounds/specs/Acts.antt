@@ -6,10 +6,10 @@ use Rattle.session_script.specs.declared.script.Act.TheVariants.{Commit, Get}
 use Rattle.session_script.specs.declared.replies.Said.{Said}
 use Rattle.session_script.specs.declared.replies.Said.TheVariants.{Committed, Unsynced, Dead, Limit, Got}
 use Rattle.session_script.specs.Legal.{Replied}
-use Rattle.commit_pipeline.specs.Holding.{Opening}
-use Rattle.shared_pipeline.specs.declared.standing.Standing.{Standing}
-use Rattle.shared_pipeline.specs.Standings.{KnowsDeath, Idles}
-use Rattle.shared_pipeline.specs.Commits.{Commits, CommitsWell, SeesExhausted, TellsRead}
+use Rattle.commit_pipeline.specs.Openings.{Opening}
+use Rattle.commit_pipeline.specs.declared.standing.Standing.{Standing}
+use Rattle.commit_pipeline.specs.Standings.{KnowsDeath, Idles}
+use Rattle.commit_pipeline.specs.Commits.{Commits, CommitsWell, SeesExhausted, TellsRead}
 
 -- what an act does to its session, by what is said of it
 abbrev pub Does : Opening → Standing → Act → Said → Standing → Type 0

@@ -9,11 +9,11 @@ use Rattle.session_script.specs.declared.script.Round.{Round}
 use Rattle.session_script.specs.declared.replies.Said.TheVariants.{Committed}
 use Rattle.session_script.specs.Legal.{Replied, AreLegal}
 use Rattle.session_script.specs.Lasting.{DeathLasts}
-use Rattle.commit_pipeline.specs.Holding.{Opening, first_of}
-use Rattle.shared_pipeline.specs.declared.standing.Standing.{Standing}
-use Rattle.shared_pipeline.specs.Parts.{AreNew}
-use Rattle.shared_pipeline.specs.Meeting.{StayOn}
-use Rattle.shared_pipeline.specs.Ending.{Finishes}
+use Rattle.commit_pipeline.specs.Openings.{Opening, first_of}
+use Rattle.commit_pipeline.specs.declared.standing.Standing.{Standing}
+use Rattle.commit_pipeline.specs.Parts.{AreNew}
+use Rattle.commit_pipeline.specs.Meeting.{StayOn}
+use Rattle.commit_pipeline.specs.Ending.{Finishes}
 use Rattle.session_rounds.specs.Playing.{PlaysRounds}
 
 -- Each line of the rounds is of one of so many sessions.

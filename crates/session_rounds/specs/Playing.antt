@@ -4,9 +4,9 @@ use Rattle.std.specs.List.{AllByRecursion}
 use Rattle.session_script.specs.declared.script.Line.{Line}
 use Rattle.session_script.specs.declared.script.Round.{Round}
 use Rattle.session_script.specs.Legal.{Replied, RepliesTo, replies_of_session}
-use Rattle.commit_pipeline.specs.Holding.{Opening}
-use Rattle.shared_pipeline.specs.declared.standing.Standing.{Standing}
-use Rattle.shared_pipeline.specs.Meeting.{HaveMet}
+use Rattle.commit_pipeline.specs.Openings.{Opening}
+use Rattle.commit_pipeline.specs.declared.standing.Standing.{Standing}
+use Rattle.commit_pipeline.specs.Meeting.{HaveMet}
 use Rattle.session_rounds.specs.declared.answers.Answer.{Answer}
 use Rattle.session_rounds.specs.Acts.{DoesLines}
 

@@ -3,8 +3,8 @@ use Rattle.std.specs.Prelude.{◌≡◌, ℕ, ◌<◌, false, List, [], ◌∷�
 use Rattle.std.specs.List.{AllByRecursion}
 use Rattle.session_script.specs.declared.script.Line.{Line}
 use Rattle.session_script.specs.Legal.{Replied, lines_of_session}
-use Rattle.commit_pipeline.specs.Holding.{Opening}
-use Rattle.shared_pipeline.specs.declared.standing.Standing.{Standing}
+use Rattle.commit_pipeline.specs.Openings.{Opening}
+use Rattle.commit_pipeline.specs.declared.standing.Standing.{Standing}
 use Rattle.session_rounds.specs.declared.answers.Answer.{Answer}
 use Rattle.session_rounds.specs.declared.course.Course.{Course}
 use Rattle.session_rounds.specs.Acts.{DoesLines}

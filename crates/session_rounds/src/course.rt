@@ -3,7 +3,7 @@
 
 use crate::answers::Answer;
 use session_script::Line;
-use shared_pipeline::Standing;
+use commit_pipeline::Standing;
 
 /// What contracts see of a session that plays a round.
 pub struct Course {

@@ -1,7 +1,7 @@
 //! The rounds of a run, played by sessions beside one another: each session does its lines of a
 //! round on a thread of its own, and between two rounds all sessions meet.
 //!
-//! Stands on `shared_pipeline` for commits and reads, and on `session_script` for lines, replies and
+//! Stands on `commit_pipeline` for commits and reads, and on `session_script` for lines, replies and
 //! what is legal. The layer above uses one contract and three laws: `play_round` tells what each session
 //! has done; what is played until a pipeline ends is legal, all of it is seen by all sessions after
 //! their last meeting, and a journal that died stays dead.

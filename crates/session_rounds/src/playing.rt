@@ -7,10 +7,9 @@ ghost use Rattle.session_rounds.specs.Turns.{beginning, session_of, answers_in, 
 
 use crate::answers::Answers;
 use crate::turns::Turn;
-use commit_pipeline::Gate;
+use commit_pipeline::{Gate, PipeName, Pipeline, Sessions};
 use disk_face::Disk;
 use session_script::Lines;
-use shared_pipeline::{PipeName, Pipeline, Sessions};
 use std::alloc::Global;
 use std::sync::Wait;
 use std::sync::ledger::Ledger;

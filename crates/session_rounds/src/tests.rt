@@ -1,18 +1,17 @@
 //! What a round comes to, by examples.
 ghost use Rattle.std.specs.Prelude.{◌≡◌, ◌+◌, ◌≤◌};
 ghost use Rattle.batch_repr.specs.declared.limits.TheConstants.{NUMBER_FIRST, SESSIONS_MAX};
-ghost use Rattle.commit_pipeline.specs.Holding.{opening_on};
+ghost use Rattle.commit_pipeline.specs.Openings.{opening_on};
 ghost use Rattle.failover_writer.specs.State.{len};
 ghost use Rattle.session_rounds.specs.Playing.{LinesAreOfSome};
 
 use crate::{Answer, Answers, play_round};
 use batch_repr::{Batches, NUMBER_FIRST, Unwritten};
-use commit_pipeline::NoGate;
+use commit_pipeline::{NoGate, Parts, PipeName, Pipeline};
 use disk_face::Disk;
 use failover_writer::Journal;
 use mem_disk::MemDisk;
 use session_script::{Act, Line, Lines, Said};
-use shared_pipeline::{Parts, PipeName, Pipeline};
 use std::alloc::Global;
 use std::marker::Brand;
 use std::process::Abort;

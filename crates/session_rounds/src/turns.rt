@@ -7,10 +7,9 @@ ghost use Rattle.session_rounds.specs.Turns.{beginning, with_line, PlaysTurn};
 
 use crate::answers::{Answer, Answers};
 use batch_repr::Unnumbered;
-use commit_pipeline::{CommitFault, Gate};
+use commit_pipeline::{CommitFault, Gate, PipeName, Pipeline, Session};
 use disk_face::Disk;
 use session_script::{Act, Line, Lines, Said};
-use shared_pipeline::{PipeName, Pipeline, Session};
 use std::alloc::Global;
 use std::marker::Model;
 use std::sync::Wait;

@@ -16,7 +16,7 @@ use Rattle.wal_recovery.specs.Recovering.{Recovers}
 use Rattle.wal_recovery.specs.Resting.{AreSegmentsStable, IsAsOrSynced, OnlySynced}
 use Rattle.disk_face.specs.declared.names.TheConstants.{WAL_MAX}
 use Rattle.failover_writer.specs.Running.{OthersOnlySynced, PollsLeft, LogsBatches, OthersSame}
-use Rattle.commit_pipeline.specs.Holding.{WentOn}
+use Rattle.commit_pipeline.specs.Openings.{WentOn}
 use Rattle.commit_pipeline.proofs.Laws.{went_further}
 use Rattle.script_runner.specs.declared.run.Outcome.{Outcome}
 use Rattle.script_runner.specs.declared.work.Work.{Work}

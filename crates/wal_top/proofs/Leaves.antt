@@ -6,7 +6,7 @@ use Rattle.disk_face.specs.Calls.{GoesOn, SameDisk}
 use Rattle.disk_face.proofs.Laws.{goes_on_from, same_from, moments_from}
 use Rattle.wal_recovery.specs.Listing.{IsNextWal}
 use Rattle.wal_recovery.specs.Resting.{AddsNoImage}
-use Rattle.commit_pipeline.specs.Holding.{WentOn}
+use Rattle.commit_pipeline.specs.Openings.{WentOn}
 use Rattle.script_runner.specs.Runs.{PollsNeverRise}
 use Rattle.wal_top.specs.declared.reading.TheConstants.{SCRIPT_MAX}
 use Rattle.wal_top.specs.Call.{Invocation, Stays}

@@ -26,7 +26,7 @@ use Rattle.session_script.specs.declared.script.Script.{Script}
 use Rattle.session_script.specs.Load.{load_rounds}
 use Rattle.session_script.specs.Script.{rounds_numbers, rounds_commits}
 use Rattle.session_script.specs.Theorems.{AsksTooMuch}
-use Rattle.commit_pipeline.specs.Holding.{WentOn}
+use Rattle.commit_pipeline.specs.Openings.{WentOn}
 use Rattle.script_runner.specs.declared.work.Work.{Work}
 use Rattle.script_runner.specs.declared.work.Work.TheVariants as works
 use Rattle.script_runner.specs.Works.{work_rounds}

@@ -1,8 +1,8 @@
 -- The work is done over the pipeline, and what it held is told of its journal.
 use Rattle.std.proofs.Common.{◌≡◌, ◌∙◌, Bool, IsTrue, refl, ap, sym, subst, arith, rules, length}
 use Rattle.std.specs.Vec.{vec_len}
-use Rattle.commit_pipeline.specs.Holding.{Opening, KeepsJournal}
-use Rattle.shared_pipeline.specs.Parts.{AreNew}
+use Rattle.commit_pipeline.specs.Openings.{Opening, KeepsJournal}
+use Rattle.commit_pipeline.specs.Parts.{AreNew}
 use Rattle.script_runner.specs.Works.{work_rounds, halts}
 use Rattle.script_runner.specs.Runs.{EndsJournal}
 use Rattle.script_runner.proofs.AllowsStalls.{allowed}

@@ -4,8 +4,8 @@ use base.Fml.{Lft}
 use denote.Param.{param}
 use denote.Param.Send.{IsSync, sendable, given_sync}
 use Rattle.std.proofs.Crossing.{crosses}
-use Rattle.shared_pipeline.specs.contracts.pipeline.Pipeline as pipeline
-use Rattle.shared_pipeline.proofs.Laws.{pipeline_shared}
+use Rattle.commit_pipeline.specs.contracts.pipeline.Pipeline as pipeline
+use Rattle.commit_pipeline.proofs.Laws.{pipeline_shared}
 use Rattle.session_rounds.proofs.playing.play_all.Goals as goal
 
 pub for_each_mut-requires-sync-F : goal.for_each_mut-requires-sync-F

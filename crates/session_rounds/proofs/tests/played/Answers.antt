@@ -1,7 +1,7 @@
 use Rattle.std.specs.Prelude.{List}
 use Rattle.std.proofs.Common.{sym, subst}
 use Rattle.batch_repr.specs.declared.batch.Batch.{Batch}
-use Rattle.commit_pipeline.specs.Holding.{EndsBefore}
+use Rattle.commit_pipeline.specs.Openings.{EndsBefore}
 use Rattle.commit_pipeline.proofs.Laws.{no_base}
 use Rattle.session_rounds.proofs.tests.played.Goals as goal
 

@@ -1,5 +1,5 @@
 use Rattle.std.specs.Prelude.{false}
-use Rattle.commit_pipeline.specs.Holding.{opening_on}
+use Rattle.commit_pipeline.specs.Openings.{opening_on}
 use Rattle.session_rounds.proofs.tests.played.Given as goal
 
 -- the table, and what the pipeline is made of

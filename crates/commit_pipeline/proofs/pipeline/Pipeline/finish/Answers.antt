@@ -1,15 +1,17 @@
--- What a pipeline held, its journal keeps.
-use Rattle.std.proofs.Common.{sym, subst, ◌∙◌}
-use Rattle.failover_writer.proofs.Laws.{len_is}
-use Rattle.commit_pipeline.specs.Holding.{Pipe, pipe_stage, PipelineHolds}
-use Rattle.commit_pipeline.proofs.Staging.{numbered_store}
+use Rattle.std.proofs.Common.{sym, ◌∙◌}
+use Rattle.commit_queue.specs.Seats.{producer_table, producer_view, flush_table, flush_seat_view}
+use Rattle.commit_pipeline.proofs.Finishes.{finishes}
 use Rattle.commit_pipeline.proofs.pipeline.Pipeline.finish.Goals as goal
 
-pub returns-clause-tells : goal.returns-clause-tells
-returns-clause-tells g c opening batches holds =
-    let here = subst (λ (p : Pipe _). PipelineHolds g.D.Disk.tells opening batches (pipe_stage g.D.Disk.view p)) (sym c.self.view_is) holds in
-    let journal = c.self.inside.journal in (
-      c.next-visible.ensures ∙ sym (numbered_store g.D.Disk.tells opening batches
-          (pipe_stage g.D.Disk.view (record { journal = journal; shards = c.self.inside.shards })) here).ends,
-      c.len-batches.ensures.len ∙ len_is g.D.Disk.tells batches journal.state (g.D.Disk.view journal.disk) here.journal.stands,
+pub returns : goal.returns
+returns g c =
+    let was = c.journal.inside in
+    let own = c.gather.ensures.own in
+    let died = c.gather.ensures.dead in (
+      (producer_view was.producer).history,
+      finishes g.D.Disk.tells g.N.PipeName.table g.N.PipeName.opening was.journal.state (g.D.Disk.view was.journal.disk)
+          (producer_table was.producer) (producer_view was.producer) (producer_view c.gather.new.producer) (producer_view c.retire.new.p)
+          (flush_table was.flush) (flush_seat_view was.flush) was.batches.total was.answers.total c.args.sessions.items c.next.result c.len.result
+          c.journal.invariant.0 c.gather.ensures.back c.retire.ensures.back (sym own.1 ∙ c.audit.ensures.whole (own.0 ∙ c.requires.all.0))
+          (sym died.1 ∙ c.audit-2.ensures.whole (died.0 ∙ c.requires.all.1)) c.next.ensures c.len.ensures.len,
     )

@@ -1,23 +1,24 @@
--- At the opening a pipeline holds the base and nothing else.
-use Rattle.std.proofs.Common.{arith}
-use Rattle.commit_pipeline.specs.Holding.{first_number}
-use Rattle.commit_pipeline.proofs.Staging.{opens_on}
+-- Over a journal of no record the parts are tied, and the sessions have seen nothing.
+use Rattle.commit_pipeline.proofs.Opening.{FitJournal, fits_journal, tied_at_first}
+use Rattle.commit_pipeline.proofs.pipeline.Pipeline.new.Given.{Over}
+use Rattle.commit_pipeline.proofs.pipeline.Pipeline.new.Goals.{After-len-none}
 use Rattle.commit_pipeline.proofs.pipeline.Pipeline.new.Goals as goal
 
-pub returns-clause-holds : goal.returns-clause-holds
-returns-clause-holds g c =
-    opens_on g.D.Disk.tells g.D.Disk.view c.args.base.now c.args.journal c.in-Ok.shards c.requires.empty c.requires.base
-    c.len-none.ensures.stands c.len-none.ensures.sound c.in-Ok.ensures
+-- what the parts open
+fits : (g : Over) (c : After-len-none g)
+    → FitJournal g.D.Disk.view c.args.journal g.N.PipeName.opening g.N.PipeName.table c.parts.inside.base.value c.parts.inside.batches.parts
+    c.parts.inside.table c.parts.inside.producer c.parts.inside.flush c.parts.inside.seats
+fits g c =
+    let i = c.parts.inside in
+    fits_journal g.D.Disk.view c.args.journal g.N.PipeName.opening g.N.PipeName.table i.base.value i.next i.batches.parts i.batches.name i.answers.name
+    i.table i.producer i.flush i.seats c.args.parts c.parts.invariant.0 c.parts.view_is c.requires.opening c.requires.table c.requires.next
 
-pub invariant_of-pipeline : goal.invariant_of-pipeline
-invariant_of-pipeline g c = record {
-  small = c.requires.within;
-  few = omega (arith, c.requires.empty);
-  reached = record {
-    start = first_number c.args.journal.state.next c.args.base.now;
-    batches = c.args.base.now;
-    contiguous = c.requires.base.contiguous;
-    ends = c.requires.base.ends;
-    are = c.in-Ok.ensures;
-  };
-}
+pub invariant_of-new : goal.invariant_of-new
+invariant_of-new g c =
+    let i = c.parts.inside in (
+      tied_at_first g.D.Disk.tells g.D.Disk.view c.args.journal g.N.PipeName.opening g.N.PipeName.table i.base.value i.batches.parts i.table i.producer
+          i.flush i.seats c.open-batches.result.0.total c.open-answers.result.0.total (fits g (goal.at.invariant_of-new g c).After-len-none)
+          c.requires.empty c.len-none.ensures.stands c.len-none.ensures.sound c.open-batches.ensures.total c.open-answers.ensures.total,
+      c.in-Ok.ensures.own,
+      c.in-Ok.ensures.dead,
+    )

@@ -1,7 +1,7 @@
 -- A pipeline may stand on no batches.
 use Rattle.std.proofs.Common.{List, sym, subst}
 use Rattle.batch_repr.specs.declared.batch.Batch.{Batch}
-use Rattle.commit_pipeline.specs.Holding.{EndsBefore}
+use Rattle.commit_pipeline.specs.Openings.{EndsBefore}
 use Rattle.commit_pipeline.proofs.Laws.{no_base}
 use Rattle.script_runner.proofs.tests.numbers.told_over.Goals as goal
 

@@ -1,5 +1,5 @@
 use Rattle.std.specs.Prelude.{true}
-use Rattle.commit_pipeline.specs.Holding.{opening_on}
+use Rattle.commit_pipeline.specs.Openings.{opening_on}
 use Rattle.script_runner.proofs.tests.numbers.told_over.Given as goal
 
 -- the table, and what the pipeline is made of

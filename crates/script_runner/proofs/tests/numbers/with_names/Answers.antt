@@ -1,6 +1,6 @@
 -- There are as many sessions as the script has, and the opening allows stalls.
 use Rattle.std.proofs.Common.{IsTrue, length, refl, ap, sym, subst, ◌∙◌}
-use Rattle.commit_pipeline.specs.Holding.{Opening}
+use Rattle.commit_pipeline.specs.Openings.{Opening}
 use Rattle.script_runner.specs.Works.{work_rounds}
 use Rattle.script_runner.proofs.AllowsStalls.{allowed}
 use Rattle.script_runner.proofs.HandsOnOver.{named_own}

@@ -1,0 +1,55 @@
+-- What a session commits with, and what the calls behind the lock leave of it. Nothing of it is seen from outside.
+use Rattle.std.specs.Prelude.{◌≡◌, ◌⊎◌, ℕ, ◌+◌, ◌<◌, ◌≤◌, [], length, Result, Err, IfOk}
+use Rattle.std.specs.declared.sync.ledger.Share.{Share}
+use Rattle.atomic_table.specs.Seated.{TableId}
+use Rattle.disk_face.specs.View.{DiskView}
+use Rattle.failover_writer.specs.State.{JournalView, acked}
+use Rattle.failover_writer.specs.Stepping.{HasWork}
+use Rattle.failover_writer.specs.Remaining.{measure}
+use Rattle.failover_writer.specs.declared.fault.Step.{Step}
+use Rattle.failover_writer.specs.declared.fault.JournalFault.{JournalFault}
+use Rattle.failover_writer.specs.declared.fault.JournalFault.TheVariants as faults
+use Rattle.commit_queue.specs.declared.view.View.{View}
+use Rattle.commit_queue.specs.Seats.{HoldsNothing, session_table, session_view}
+use Rattle.commit_pipeline.specs.Openings.{Opening}
+use Rattle.commit_pipeline.specs.declared.desk.Desk.{Desk}
+use Rattle.commit_pipeline.specs.Commits.{TellsDeath}
+
+-- A seat of the pipeline's table that holds no batch, with shares of one part each.
+pub record IsIdleDesk (table : TableId) (opening : Opening) (seat : TableId) (v : View) (own_parts dead_parts told_parts : ℕ) : Type 0 where
+  pub of_table : seat ≡ table
+  pub base : v.base ≡ opening.journal.next
+  pub idle : HoldsNothing v
+  pub none : v.pieces ≡ []
+  pub within : v.seat.published ≤ length v.history
+  pub own_part : own_parts ≡ 1
+  pub dead_part : dead_parts ≡ 1
+  pub told_part : told_parts ≡ 1
+
+-- So it is of a session's desk.
+abbrev pub IsDeskIdle : {N M : Type 0} → TableId → Opening → Desk N M → Type 0
+IsDeskIdle table opening desk =
+    IsIdleDesk table opening (session_table desk.seat) (session_view desk.seat) desk.own.parts desk.dead.parts desk.told.parts
+
+-- so many deaths it knows of
+abbrev pub known : {N M : Type 0} → Desk N M → ℕ
+known desk = desk.dead.amount + desk.told.amount
+
+-- A share stands for so many more.
+abbrev pub Raises : {L : Type 0} → Share L → ℕ → Share L → Type 0
+Raises old more new = (new.parts ≡ old.parts) × (new.amount ≡ old.amount + more)
+
+-- A step that ends with no fault leaves fewer steps to come, where there was work; or the batch of this place is synced.
+abbrev pub FallsUnlessAcked : {Disk : Type 0} → (Disk → DiskView) → ℕ → JournalView Disk → JournalView Disk → Result Step JournalFault → Type 0
+FallsUnlessAcked view index old new answer = IfOk answer (λ step. HasWork old.state
+    → (measure new.state (view new.disk) < measure old.state (view old.disk)) ⊎ (index < acked new.state))
+
+-- A fault of the journal tells of a death, or of want of memory.
+abbrev pub TellsFault : JournalFault → Type 0
+TellsFault (faults.Dead side count) = TellsDeath side count
+TellsFault faults.NoMemory = Unit {0}
+
+-- so many answers more told of a death
+abbrev pub deaths_stepped : Result Step JournalFault → ℕ
+deaths_stepped (Err (faults.Dead side count)) = 1
+deaths_stepped _ = 0
