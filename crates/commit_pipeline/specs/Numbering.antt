@@ -82,6 +82,11 @@ pub record LogsRecord (tells : Bool) (batch : Batch) (sync : Bool) (old new : St
   pub next : new.next ≡ end_of batch
   pub one_more : len new ≡ len old + 1
 
+-- So it is of the batch of these entries with the next number, and of a journal with its disk.
+abbrev pub LogsNext : {Disk : Type 0} → Bool → (Disk → DiskView) → List Entry → Bool → JournalView Disk → JournalView Disk → Type 0
+LogsNext tells view entries sync old new =
+    LogsRecord tells (numbered entries old.state.next) sync old.state new.state (view old.disk) (view new.disk)
+
 -- what a try to number a batch does to the seat
 abbrev pub Numbers : List Entry → View → Numbering → View → Type 0
 Numbers entries v (case.Done first index) v' = HoldsNumbered (numbered entries first) index v v'

@@ -59,17 +59,14 @@ pub(crate) struct Locked<D: Disk, N: PipeName, M: Ledger> {
 }
 
 impl<D: Disk, N: PipeName, M: Ledger> Model for Locked<D, N, M> {
-    ghost use Rattle.std.specs.Prelude.{◌≡◌};
     ghost use Rattle.failover_writer.specs.State.{JournalView};
-    ghost use Rattle.commit_queue.specs.Seats.{producer_table, producer_view};
-    ghost use Rattle.commit_queue.specs.Seats.{flush_table, flush_seat_view};
-    ghost use Rattle.commit_pipeline.specs.Ties.{IsTied, IsSpare};
+    ghost use Rattle.commit_pipeline.specs.Ties.{AreTied, IsSpareShare};
 
     ghost Value = { JournalView D };
 
     ghost view = { λ l. l.journal };
 
-    ghost invariant = { λ l. IsTied D.tells N.table N.opening l.journal.state (D.view l.journal.disk) (producer_table l.producer) (producer_view l.producer) (flush_table l.flush) (flush_seat_view l.flush) l.batches.total l.answers.total × IsSpare l.own.parts l.own.amount × IsSpare l.dead.parts l.dead.amount };
+    ghost invariant = { λ l. AreTied D.tells D.view N.table N.opening l.journal l.producer l.flush l.batches l.answers × IsSpareShare l.own × IsSpareShare l.dead };
 }
 
 impl<D: Disk, N: PipeName, M: Ledger> Locked<D, N, M> {

@@ -22,14 +22,18 @@ use crate::name::PipeName;
 use crate::session::Session;
 use batch_repr::{BATCHES_MAX, Unnumbered};
 use commit_queue::PipeTable;
+use crossbeam_utils::Backoff;
 use disk_face::{Disk, Side, StallDisk};
 use failover_writer::{DeadMark, Journal, JournalFault, Step};
 use memtable_shards::{Pieces, split};
 use shard_gate::ShardGate;
 use std::alloc::Global;
 use std::sync::ledger::Ledger;
-use std::sync::{Mutex, Wait};
+use std::sync::{Mutex, MutexGuard, Wait};
 use std::thread;
+
+/// So often a thread looks whether the lock is free before it sleeps.
+const LOOKS: u32 = 100;
 
 /// Why a batch got no number.
 #[derive(Drop)]
@@ -89,6 +93,19 @@ impl<'a, D: Disk, G: Gate, N: PipeName, M: Ledger> Pipeline<'a, D, G, N, M> {
         })
     }
 
+    /// Takes the lock. Whoever has it mostly gives it back soon, and waking a thread takes longer: so
+    /// a thread looks some times before it sleeps.
+    fn locked<R: Wait>(&self, rt: &R) -> MutexGuard<'_, Locked<D, N, M>> {
+        let backoff = Backoff::new();
+        for _ in 0..LOOKS {
+            if let Some(locked) = self.lock.try_lock() {
+                return locked;
+            }
+            backoff.snooze();
+        }
+        self.lock.lock(rt)
+    }
+
     /// Numbers the batch, or tells why not. A limit is told once all that made it is published.
     fn start<R: Wait>(
         &self,
@@ -141,10 +158,7 @@ impl<'a, D: Disk, G: Gate, N: PipeName, M: Ledger> Pipeline<'a, D, G, N, M> {
     {
         let mut batch = batch;
         for _ in rt.forever() {
-            let numbering = self
-                .lock
-                .lock(rt)
-                .number(rt, &self.table, desk, batch, sync);
+            let numbering = self.locked(rt).number(rt, &self.table, desk, batch, sync);
             match numbering {
                 Numbering::Done { first, index } => return Ok((first, index)),
                 Numbering::Busy { batch: again } => batch = again,
@@ -204,10 +218,7 @@ impl<'a, D: Disk, G: Gate, N: PipeName, M: Ledger> Pipeline<'a, D, G, N, M> {
             if self.table.acked(&mut desk.seat) > numbers.index {
                 return Ok(());
             }
-            let stepped = self
-                .lock
-                .lock(rt)
-                .step_for(&self.table, desk, numbers.index);
+            let stepped = self.locked(rt).step_for(&self.table, desk, numbers.index);
             match stepped {
                 Ok(Step::Moved) => {}
                 Ok(_) => thread::yield_now(),

@@ -8,7 +8,7 @@ ghost use Rattle.commit_queue.specs.Tables.{IsOfTable};
 ghost use Rattle.commit_queue.specs.Seats.{producer_table, producer_view};
 ghost use Rattle.commit_queue.specs.Seats.{session_table, session_view};
 ghost use Rattle.commit_pipeline.specs.Numbering.{numbered, HasFreeSlot, Appends};
-ghost use Rattle.commit_pipeline.specs.Numbering.{LogsRecord, HoldsNumbered};
+ghost use Rattle.commit_pipeline.specs.Numbering.{LogsNext, HoldsNumbered};
 
 use batch_repr::Unnumbered;
 use commit_queue::{PipeTable, ProducerSeat, SessionSeat};
@@ -43,7 +43,7 @@ pub(crate) fn enter<D: Disk, R: Wait>(
     ensures appends { Appends (numbered batch journal.old.state.next) (producer_view producer.old) (producer_view producer.new) }
     ensures index { result ≡ len journal.old.state }
     ensures numbered { HoldsNumbered (numbered batch journal.old.state.next) result (session_view seat.old) (session_view seat.new) }
-    ensures logs { LogsRecord D.tells (numbered batch journal.old.state.next) sync journal.old.state journal.new.state (D.view journal.old.disk) (D.view journal.new.disk) }
+    ensures logs { LogsNext D.tells D.view batch sync journal.old journal.new }
 {
     let numbered = batch.number(journal.next());
     table.place(producer, &numbered);

@@ -4,9 +4,8 @@ ghost use Rattle.batch_repr.specs.declared.limits.TheConstants.{NUMBER_FIRST, SE
 ghost use Rattle.commit_pipeline.specs.Openings.{opening_on};
 ghost use Rattle.failover_writer.specs.State.{len};
 
-use crate::{Parts, PipeName, Pipeline, Session};
+use crate::{Gate, GatePoint, NoGate, Parts, PipeName, Pipeline, Session};
 use batch_repr::{BatchBuilder, Batches, NUMBER_FIRST, Unnumbered};
-use crate::{Gate, GatePoint, NoGate};
 use disk_face::{Disk, Side, StallDisk};
 use failover_writer::Journal;
 use mem_disk::MemDisk;

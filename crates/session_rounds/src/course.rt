@@ -2,8 +2,8 @@
 //! as a list of any length.
 
 use crate::answers::Answer;
-use session_script::Line;
 use commit_pipeline::Standing;
+use session_script::Line;
 
 /// What contracts see of a session that plays a round.
 pub struct Course {
