@@ -4,12 +4,12 @@ use Rattle.batch_repr.specs.declared.batch.Batch.{Batch}
 use Rattle.disk_face.specs.View.{DiskView, files}
 use Rattle.failover_writer.specs.State.{JournalView}
 use Rattle.failover_writer.specs.Running.{OthersSame}
+use Rattle.session_script.specs.Script.{NameSessions}
 use Rattle.session_script.specs.declared.script.Round.{Round}
 use Rattle.commit_pipeline.specs.Openings.{Opening, KeepsJournal}
 use Rattle.commit_pipeline.specs.Ending.{StillKeeps}
 use Rattle.script_runner.specs.declared.work.Work.{Work}
 use Rattle.script_runner.specs.declared.work.Work.TheVariants as works
-use Rattle.script_runner.specs.Rounds.{NameSessions}
 use Rattle.script_runner.specs.Works.{work_rounds, work_sessions, NamesItsOwn}
 use Rattle.script_runner.specs.Runs.{StallNone, PollsNeverRise, run_opening, GoesOnKept, HandsOnOver}
 use Rattle.script_runner.proofs.AllowsStalls.{none_stalls}

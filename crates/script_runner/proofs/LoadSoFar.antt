@@ -1,11 +1,12 @@
 -- The rounds of a load so far, and those that are left. Its replies are noted as if in one transcript, which keeps no line.
 use Rattle.std.proofs.Common.{◌≡◌, ◌∙◌, ◌||◌, Bool, false, List, [], ◌∷◌, length, None, refl, ap}
+use Rattle.session_script.specs.Script.{NameSessions}
 use Rattle.session_script.specs.declared.script.Round.{Round}
 use Rattle.commit_pipeline.specs.Openings.{Opening}
 use Rattle.commit_pipeline.specs.declared.standing.Standing.{Standing}
 use Rattle.script_runner.specs.declared.transcript.Transcript.{Transcript}
 use Rattle.script_runner.specs.Transcripts.{any_limit, lines_text, with_lines, IsSilentTranscript}
-use Rattle.script_runner.specs.Rounds.{NameSessions, AllowsStalls, PlaysOn}
+use Rattle.script_runner.specs.Rounds.{AllowsStalls, PlaysOn}
 use Rattle.script_runner.specs.Works.{AnswersLoad}
 use Rattle.script_runner.proofs.RoundsSoFar.{RoundsSoFar, no_round_yet, round_more, all_played}
 

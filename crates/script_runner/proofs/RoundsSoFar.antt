@@ -1,12 +1,12 @@
 -- The rounds so far, and those that are left.
 use Rattle.std.proofs.Common.{◌≡◌, ◌∙◌, ℕ, List, [], ◌∷◌, ◌++◌, length, refl, sym, ap, subst, append_assoc}
 use Rattle.std.proofs.lemmas.List.{append-nil}
+use Rattle.session_script.specs.Script.{LinesAreOfSome, NameSessions}
 use Rattle.session_script.specs.declared.script.Round.{Round}
 use Rattle.commit_pipeline.specs.Openings.{Opening}
 use Rattle.commit_pipeline.specs.declared.standing.Standing.{Standing}
-use Rattle.session_rounds.specs.Playing.{LinesAreOfSome}
 use Rattle.script_runner.specs.declared.transcript.Transcript.{Transcript}
-use Rattle.script_runner.specs.Rounds.{NameSessions, AllowsPolls, AllowsStalls, PlaysOn, PlaysAll}
+use Rattle.script_runner.specs.Rounds.{AllowsPolls, AllowsStalls, PlaysOn, PlaysAll}
 use Rattle.script_runner.proofs.PlaysAll.{none_played, one_more_played, plays_count}
 
 pub record RoundsSoFar (opening : Opening) (ss : List Standing) (all rest : List Round) (mid : List Standing) (before after : Transcript)

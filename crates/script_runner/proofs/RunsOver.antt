@@ -7,6 +7,7 @@ use Rattle.disk_face.specs.declared.Side.{Side}
 use Rattle.disk_face.specs.View.{DiskView}
 use Rattle.disk_face.specs.Script.{TellsOf}
 use Rattle.failover_writer.specs.State.{JournalView}
+use Rattle.session_script.specs.Script.{NameSessions}
 use Rattle.session_script.specs.declared.replies.RunEnd.{RunEnd}
 use Rattle.commit_pipeline.specs.Openings.{Opening, first_number, first_of, KeepsJournal}
 use Rattle.commit_pipeline.specs.declared.standing.Standing.{Standing}
@@ -15,7 +16,6 @@ use Rattle.commit_pipeline.specs.Ending.{EndsPipeline}
 use Rattle.script_runner.specs.declared.run.Outcome.{Outcome}
 use Rattle.script_runner.specs.declared.performing.Told.{Told}
 use Rattle.script_runner.specs.declared.work.Work.{Work}
-use Rattle.script_runner.specs.Rounds.{NameSessions}
 use Rattle.script_runner.specs.Works.{work_rounds, halts, PerformsWork}
 use Rattle.script_runner.specs.Runs.{SaysRun, HasRun, RunsWork, run_opening, GoesOnKept, EndsJournal, RunsOver}
 use Rattle.script_runner.proofs.HasRun.{IsStarted, has_run}

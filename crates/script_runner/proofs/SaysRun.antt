@@ -6,6 +6,7 @@ use Rattle.batch_repr.specs.declared.batch.Batch.{Batch}
 use Rattle.disk_face.specs.View.{DiskView}
 use Rattle.failover_writer.specs.declared.fault.DeadMark.{DeadMark}
 use Rattle.failover_writer.specs.State.{JournalView, acked}
+use Rattle.session_script.specs.Script.{NameSessions}
 use Rattle.session_script.specs.declared.replies.RunEnd.{RunEnd}
 use Rattle.session_script.specs.Legal.{Replied}
 use Rattle.session_script.proofs.Laws.{limited_exactly}
@@ -18,7 +19,6 @@ use Rattle.session_rounds.proofs.Laws.{played_legally, played_seen, deaths_lasti
 use Rattle.script_runner.specs.declared.performing.Told.{Told}
 use Rattle.script_runner.specs.declared.work.Work.{Work}
 use Rattle.script_runner.specs.declared.work.Work.TheVariants as works
-use Rattle.script_runner.specs.Rounds.{NameSessions}
 use Rattle.script_runner.specs.Works.{work_rounds, halts, Keeps, PerformsWork}
 use Rattle.script_runner.specs.Runs.{TellsWork, SaysRun, EndsJournal}
 

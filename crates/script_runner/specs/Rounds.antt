@@ -1,5 +1,5 @@
 -- How rounds are played over a pipeline, one after another (docs/FORMATS.md, "The run of a script").
-use Rattle.std.specs.Prelude.{◌≡◌, ◌⊎◌, ℕ, List, [], IsTrue}
+use Rattle.std.specs.Prelude.{◌≡◌, ◌⊎◌, List, [], IsTrue}
 use Rattle.std.specs.List.{AllByRecursion}
 use Rattle.session_script.specs.declared.script.Line.{Line}
 use Rattle.session_script.specs.declared.script.StallLine.{StallLine}
@@ -8,13 +8,9 @@ use Rattle.session_script.specs.Legal.{Replied}
 use Rattle.commit_pipeline.specs.Openings.{Opening}
 use Rattle.commit_pipeline.specs.declared.standing.Standing.{Standing}
 use Rattle.commit_pipeline.specs.Meeting.{HaveMet}
-use Rattle.session_rounds.specs.Playing.{LinesAreOfSome, PlaysRound, PlaysRounds}
+use Rattle.session_rounds.specs.Playing.{PlaysRound, PlaysRounds}
 use Rattle.script_runner.specs.declared.transcript.Transcript.{Transcript}
 use Rattle.script_runner.specs.Transcripts.{NotesReplies, NotesRounds}
-
--- Each line of the rounds is of one of so many sessions.
-abbrev pub NameSessions : ℕ → List Round → Type 0
-NameSessions sessions rounds = AllByRecursion (λ (round : Round). LinesAreOfSome sessions round.lines) rounds
 
 -- There is no stall, or the opening allows some.
 abbrev pub AllowsPolls : Opening → List StallLine → Type 0

@@ -2,10 +2,10 @@
 use Rattle.std.specs.Prelude.{◌≡◌, ◌++◌, ℕ, Bool, false, List, Contains}
 use Rattle.batch_repr.specs.declared.batch.Batch.{Batch}
 use Rattle.commit_queue.specs.Rule.{IsPrefix}
+use Rattle.session_script.specs.Script.{NameSessions, NamesItsSessions}
 use Rattle.session_script.specs.declared.load.TheConstants.{LOAD_SESSIONS}
 use Rattle.session_script.specs.declared.script.Round.{Round}
 use Rattle.session_script.specs.Load.{live_keys}
-use Rattle.session_script.specs.Script.{NamesItsSessions}
 use Rattle.session_script.specs.Legal.{Replied, replies_text}
 use Rattle.session_script.specs.Theorems.{limit_told}
 use Rattle.commit_pipeline.specs.Openings.{Opening}
@@ -16,7 +16,6 @@ use Rattle.session_rounds.specs.Playing.{PlaysRounds}
 use Rattle.script_runner.specs.declared.work.Work.{Work}
 use Rattle.script_runner.specs.declared.work.Work.TheVariants as works
 use Rattle.script_runner.specs.declared.performing.Told.{Told}
-use Rattle.script_runner.specs.Rounds.{NameSessions}
 
 -- the rounds of some work
 abbrev pub work_rounds : Work → List Round

@@ -1,7 +1,8 @@
 //! A load: its rounds, and the keys that have a value after them.
 
 ghost use Rattle.std.specs.Prelude.{length, IfOk};
-ghost use Rattle.script_runner.specs.Rounds.{NameSessions, AllowsStalls};
+ghost use Rattle.session_script.specs.Script.{NameSessions};
+ghost use Rattle.script_runner.specs.Rounds.{AllowsStalls};
 ghost use Rattle.script_runner.specs.Works.{AnswersLoad, CountsLive};
 
 use crate::rounds::run_round;

@@ -1,7 +1,8 @@
 //! What happens over a pipeline between its opening and its end.
 
-ghost use Rattle.std.specs.Prelude.{◌≡◌, ◌≤◌, length, IfOk};
-ghost use Rattle.script_runner.specs.Rounds.{NameSessions, AllowsStalls};
+ghost use Rattle.std.specs.Prelude.{◌≤◌, length, IfOk};
+ghost use Rattle.session_script.specs.Script.{NameSessions};
+ghost use Rattle.script_runner.specs.Rounds.{AllowsStalls};
 ghost use Rattle.script_runner.specs.Works.{work_rounds, Performs, KeepsReplies, KeepsCount, PerformsWork};
 
 use crate::loads::{count_live, run_load};

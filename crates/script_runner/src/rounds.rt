@@ -1,8 +1,8 @@
 //! Rounds, played one after another.
 
-ghost use Rattle.std.specs.Prelude.{◌≡◌, length, IfOk};
-ghost use Rattle.session_rounds.specs.Playing.{LinesAreOfSome};
-ghost use Rattle.script_runner.specs.Rounds.{NameSessions, AllowsPolls, AllowsStalls, PlaysOn, PlaysAll};
+ghost use Rattle.std.specs.Prelude.{length, IfOk};
+ghost use Rattle.session_script.specs.Script.{LinesAreOfSome, NameSessions};
+ghost use Rattle.script_runner.specs.Rounds.{AllowsPolls, AllowsStalls, PlaysOn, PlaysAll};
 
 use crate::transcript::Transcript;
 use commit_pipeline::{Gate, PipeName, Pipeline, Sessions};

@@ -3,11 +3,11 @@ use Rattle.std.specs.Prelude.{◌≡◌, ◌⊎◌, ℕ, zero, suc, ◌<◌, Boo
 use Rattle.std.proofs.Common.{inl, inr, refl, sym, ap, ◌∙◌, subst, append_assoc, ne_eqb}
 use Rattle.std.proofs.lemmas.List.{append-nil, length-set}
 use Rattle.std.proofs.lemmas.Bool.{eq-eqb}
+use Rattle.session_script.specs.Script.{LinesAreOfSome}
 use Rattle.session_script.specs.declared.script.Line.{Line}
 use Rattle.session_script.specs.Legal.{is_of, lines_of_session}
 use Rattle.commit_pipeline.specs.declared.standing.Standing.{Standing}
 use Rattle.session_rounds.specs.declared.course.Course.{Course}
-use Rattle.session_rounds.specs.Playing.{LinesAreOfSome}
 use Rattle.session_rounds.specs.Turns.{turn_with, beginning, with_line, AreDealt}
 
 -- The turns as they begin are those of no line.

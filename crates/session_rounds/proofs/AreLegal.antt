@@ -9,6 +9,7 @@ use Rattle.batch_repr.specs.Batches.{IsContiguous, end_after}
 use Rattle.batch_repr.proofs.Laws.{contiguous_append, end_append}
 use Rattle.disk_face.specs.View.{DiskView}
 use Rattle.failover_writer.specs.State.{State, acked}
+use Rattle.session_script.specs.Script.{NameSessions}
 use Rattle.session_script.specs.declared.script.Round.{Round}
 use Rattle.session_script.specs.Legal.{Replied, RepliesToRounds, AreLegalRounds, AreLegal}
 use Rattle.commit_pipeline.specs.Openings.{Opening, first_of}
@@ -18,7 +19,7 @@ use Rattle.commit_pipeline.specs.Commits.{end_at}
 use Rattle.commit_pipeline.specs.Parts.{AreNew}
 use Rattle.commit_pipeline.specs.Ending.{owned, EachOnce, Finishes}
 use Rattle.session_rounds.specs.Playing.{PlaysRounds}
-use Rattle.session_rounds.specs.Legality.{AreOfSome, SyncedAreAmong, WhatIsPlayedIsLegal}
+use Rattle.session_rounds.specs.Legality.{SyncedAreAmong, WhatIsPlayedIsLegal}
 use Rattle.session_rounds.proofs.IsPrefix.{row_end}
 use Rattle.session_rounds.proofs.Follows.{End, AllWithin, before_meeting, before_rounds}
 use Rattle.session_rounds.proofs.InTurn.{store, in_store}
@@ -34,7 +35,7 @@ module _ (e : End) where
 
   -- round by round
   legal_from : (count : ℕ) (rounds : List Round) (replies : List (List Replied)) (ss last : List Standing) → HaveMade e count ss
-      → AreOfSome (length ss) rounds → PlaysRounds e.opening ss rounds replies last → AllWithin e last → EachOnce (length e.batches) (owned last)
+      → NameSessions (length ss) rounds → PlaysRounds e.opening ss rounds replies last → AllWithin e last → EachOnce (length e.batches) (owned last)
       → LegalFrom count rounds replies
   unfolding PlaysRounds RepliesToRounds AreLegalRounds
   legal_from count [] [] ss last were some plays within own = record {
@@ -60,7 +61,7 @@ module _ (e : End) where
       let long : length met ≡ length ss = plays.3.stay.all ∙ one.all in
       let rest = legal_from (greatest count mid) rounds more met last
       (made e count round.lines replies later.0 ss mid met last were some.0 one plays.3 at_mid own later.1)
-      (subst (λ (n : ℕ). AreOfSome n rounds) (sym long) some.1) plays.4 within own in
+      (subst (λ (n : ℕ). NameSessions n rounds) (sym long) some.1) plays.4 within own in
       record {
         answered = (one.answered, rest.answered);
         legal = (

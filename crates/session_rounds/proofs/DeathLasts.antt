@@ -4,6 +4,7 @@ use Rattle.std.specs.Prelude.{IsFalse, slice_get}
 use Rattle.std.specs.List.{list_any, AllByRecursion}
 use Rattle.std.proofs.lemmas.Option.{slice_get_within}
 use native.Mathlib.Decide.{dec_le}
+use Rattle.session_script.specs.Script.{NameSessions}
 use Rattle.session_script.specs.declared.script.Act.{Act}
 use Rattle.session_script.specs.declared.script.Act.TheVariants.{Commit, Get}
 use Rattle.session_script.specs.declared.script.Line.{Line}
@@ -18,7 +19,7 @@ use Rattle.commit_pipeline.specs.Standings.{KnowsDeath}
 use Rattle.commit_pipeline.specs.Meeting.{HaveMet}
 use Rattle.session_rounds.specs.Acts.{Does, DoesLines}
 use Rattle.session_rounds.specs.Playing.{PlaysRound, PlaysRounds}
-use Rattle.session_rounds.specs.Legality.{AreOfSome, DeathsLast}
+use Rattle.session_rounds.specs.Legality.{DeathsLast}
 use Rattle.session_rounds.proofs.BySessions.{no_reply}
 use Rattle.session_rounds.proofs.Follows.{Follows, lines_follow, has_some}
 
@@ -168,7 +169,7 @@ module _ (opening : Opening) (lines : List Line) (replies : List Replied) (ss mi
 
 -- round by round
 lasts_from : (opening : Opening) (dead : Bool) (rounds : List Round) (replies : List (List Replied)) (ss last : List Standing)
-    → AreOfSome (length ss) rounds → PlaysRounds opening ss rounds replies last → (IsTrue dead → AllKnow ss) → DeathLastsFrom dead replies
+    → NameSessions (length ss) rounds → PlaysRounds opening ss rounds replies last → (IsTrue dead → AllKnow ss) → DeathLastsFrom dead replies
 unfolding PlaysRounds DeathLastsFrom
 lasts_from opening dead [] [] ss last some plays knows = tt
 lasts_from opening dead [] (replies ∷ more) ss last some plays knows = absurd plays
@@ -179,7 +180,7 @@ lasts_from opening dead (round ∷ rounds) (replies ∷ more) ss last some plays
     let one = plays.2 in
     let long : length met ≡ length ss = plays.3.stay.all ∙ one.all in (
       each_lasts opening round.lines replies ss mid met some.0 one plays.3 dead knows,
-      lasts_from opening (dead || any_shows replies) rounds more met last (subst (λ (n : ℕ). AreOfSome n rounds) (sym long) some.1) plays.4
+      lasts_from opening (dead || any_shows replies) rounds more met last (subst (λ (n : ℕ). NameSessions n rounds) (sym long) some.1) plays.4
           (known_after opening round.lines replies ss mid met some.0 one plays.3 dead knows),
     )
 

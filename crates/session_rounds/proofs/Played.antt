@@ -8,6 +8,7 @@ use Rattle.std.proofs.lemmas.List.Elements.{filter-append}
 use Rattle.std.proofs.lemmas.Option.{slice_get_within, get_or_from_slice_get}
 use Rattle.std.proofs.lemmas.Bool.{eq-eqb}
 use Rattle.std.proofs.lemmas.Bool.Decides.{eqb_tells}
+use Rattle.session_script.specs.Script.{LinesAreOfSome}
 use Rattle.session_script.specs.declared.script.Line.{Line}
 use Rattle.session_script.specs.Legal.{Replied, is_of, lines_of_session, replies_of_session, AreBySession}
 use Rattle.commit_pipeline.specs.Openings.{Opening}
@@ -15,7 +16,7 @@ use Rattle.commit_pipeline.specs.declared.standing.Standing.{Standing}
 use Rattle.session_rounds.specs.declared.answers.Answer.{Answer}
 use Rattle.session_rounds.specs.declared.course.Course.{Course}
 use Rattle.session_rounds.specs.Acts.{DoesLines}
-use Rattle.session_rounds.specs.Playing.{LinesAreOfSome, answers_of, AnswersPlayed}
+use Rattle.session_rounds.specs.Playing.{answers_of, AnswersPlayed}
 use Rattle.session_rounds.specs.Turns.{turn_with, session_of, answers_in, AreDealt, PlaysTurn, PlayAll, NoneStarved}
 
 -- Of two numbers the one is below the other, or not.

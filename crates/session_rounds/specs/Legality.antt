@@ -4,7 +4,7 @@ use Rattle.std.specs.List.{AllByRecursion}
 use Rattle.batch_repr.specs.declared.batch.Batch.{Batch}
 use Rattle.disk_face.specs.View.{DiskView}
 use Rattle.failover_writer.specs.State.{State, acked}
-use Rattle.session_script.specs.declared.script.Line.{Line}
+use Rattle.session_script.specs.Script.{NameSessions}
 use Rattle.session_script.specs.declared.script.Round.{Round}
 use Rattle.session_script.specs.declared.replies.Said.TheVariants.{Committed}
 use Rattle.session_script.specs.Legal.{Replied, AreLegal}
@@ -16,11 +16,6 @@ use Rattle.commit_pipeline.specs.Meeting.{StayOn}
 use Rattle.commit_pipeline.specs.Ending.{Finishes}
 use Rattle.session_rounds.specs.Playing.{PlaysRounds}
 
--- Each line of the rounds is of one of so many sessions.
-abbrev pub AreOfSome : ℕ → List Round → Type 0
-AreOfSome sessions rounds =
-    AllByRecursion (λ (round : Round). AllByRecursion (λ (line : Line). line.session < sessions) round.lines) rounds
-
 -- Each batch that is answered synced is among the first ones, so many.
 abbrev pub SyncedAreAmong : List Batch → ℕ → List Replied → Type 0
 SyncedAreAmong batches acked replies = (reply : Replied) (first count : ℕ) → Contains replies reply → reply.said ≡ Committed first count true
@@ -30,7 +25,7 @@ SyncedAreAmong batches acked replies = (reply : Replied) (first count : ℕ) →
 abbrev pub WhatIsPlayedIsLegal : Type 0
 WhatIsPlayedIsLegal = (tells : Bool) (opening : Opening) (rounds : List Round) (replies : List (List Replied)) (ss ss' : List Standing)
     (batches : List Batch) (state : State) (v : DiskView) (visible count : ℕ) (died : Bool)
-    → AreNew (length ss) ss → AreOfSome (length ss) rounds → PlaysRounds opening ss rounds replies ss'
+    → AreNew (length ss) ss → NameSessions (length ss) rounds → PlaysRounds opening ss rounds replies ss'
     → Finishes tells opening batches ss' state v visible count → (state.dead ≢ None → IsTrue died)
     → AreLegal (first_of opening) opening.base died rounds batches replies × AllByRecursion (SyncedAreAmong batches (acked state)) replies
 
@@ -44,11 +39,11 @@ pub record HaveSeenThem (tells : Bool) (opening : Opening) (batches : List Batch
 abbrev pub WhatIsPlayedIsSeen : Type 0
 WhatIsPlayedIsSeen = (tells : Bool) (opening : Opening) (rounds : List Round) (replies : List (List Replied)) (ss mid ss' : List Standing)
     (batches : List Batch) (state : State) (v : DiskView) (visible count : ℕ)
-    → AreNew (length ss) ss → AreOfSome (length ss) rounds → PlaysRounds opening ss rounds replies mid → StayOn mid ss'
+    → AreNew (length ss) ss → NameSessions (length ss) rounds → PlaysRounds opening ss rounds replies mid → StayOn mid ss'
     → Finishes tells opening batches ss' state v visible count → HaveSeenThem tells opening batches mid state v visible count
 
 -- Once a reply to what sessions play shows that the journal is dead, no later one of its session, and none of a later round, needs a
 -- journal that lives.
 abbrev pub DeathsLast : Type 0
 DeathsLast = (opening : Opening) (rounds : List Round) (replies : List (List Replied)) (ss ss' : List Standing)
-    → AreOfSome (length ss) rounds → PlaysRounds opening ss rounds replies ss' → DeathLasts replies
+    → NameSessions (length ss) rounds → PlaysRounds opening ss rounds replies ss' → DeathLasts replies

@@ -1,6 +1,5 @@
 -- How rounds are played by sessions beside one another (docs/FORMATS.md, "The run of a script").
-use Rattle.std.specs.Prelude.{◌≡◌, ℕ, ◌<◌, List, [], ◌∷◌, length, map, Some, slice_get}
-use Rattle.std.specs.List.{AllByRecursion}
+use Rattle.std.specs.Prelude.{◌≡◌, ℕ, List, [], ◌∷◌, length, map, Some, slice_get}
 use Rattle.session_script.specs.declared.script.Line.{Line}
 use Rattle.session_script.specs.declared.script.Round.{Round}
 use Rattle.session_script.specs.Legal.{Replied, RepliesTo, replies_of_session}
@@ -9,10 +8,6 @@ use Rattle.commit_pipeline.specs.declared.standing.Standing.{Standing}
 use Rattle.commit_pipeline.specs.Meeting.{HaveMet}
 use Rattle.session_rounds.specs.declared.answers.Answer.{Answer}
 use Rattle.session_rounds.specs.Acts.{DoesLines}
-
--- Each line is of one of so many sessions.
-abbrev pub LinesAreOfSome : ℕ → List Line → Type 0
-LinesAreOfSome sessions lines = AllByRecursion (λ (line : Line). line.session < sessions) lines
 
 -- Each session has done its lines of a round, which are answered by these replies.
 pub record PlaysRound (opening : Opening) (lines : List Line) (ss : List Standing) (replies : List Replied) (ss' : List Standing)

@@ -2,7 +2,8 @@
 
 ghost use Rattle.std.specs.Prelude.{◌≡◌, ◌++◌, length, map, IfOk, OnOk};
 ghost use Rattle.std.specs.List.{flat_map};
-ghost use Rattle.session_rounds.specs.Playing.{LinesAreOfSome, AnswersPlayed};
+ghost use Rattle.session_script.specs.Script.{LinesAreOfSome};
+ghost use Rattle.session_rounds.specs.Playing.{AnswersPlayed};
 ghost use Rattle.session_rounds.specs.Turns.{beginning, session_of, answers_in, AreDealt, NoneStarved, PlayAll};
 
 use crate::answers::Answers;

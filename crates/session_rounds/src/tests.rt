@@ -1,9 +1,9 @@
 //! What a round comes to, by examples.
 ghost use Rattle.std.specs.Prelude.{◌≡◌, ◌+◌, ◌≤◌};
 ghost use Rattle.batch_repr.specs.declared.limits.TheConstants.{NUMBER_FIRST, SESSIONS_MAX};
+ghost use Rattle.session_script.specs.Script.{LinesAreOfSome};
 ghost use Rattle.commit_pipeline.specs.Openings.{opening_on};
 ghost use Rattle.failover_writer.specs.State.{len};
-ghost use Rattle.session_rounds.specs.Playing.{LinesAreOfSome};
 
 use crate::{Answer, Answers, play_round};
 use batch_repr::{Batches, NUMBER_FIRST, Unwritten};

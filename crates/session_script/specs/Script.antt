@@ -112,11 +112,19 @@ round_commits round = count_by (λ (line : Line). is_commit line.act) round.line
 abbrev pub rounds_commits : List Round → ℕ
 rounds_commits rounds = sum_by round_commits rounds
 
+-- Each line is of one of so many sessions.
+abbrev pub LinesAreOfSome : ℕ → List Line → Type 0
+LinesAreOfSome sessions lines = AllByRecursion (λ (line : Line). line.session < sessions) lines
+
+-- So is each line of the rounds.
+abbrev pub NameSessions : ℕ → List Round → Type 0
+NameSessions sessions rounds = AllByRecursion (λ (round : Round). LinesAreOfSome sessions round.lines) rounds
+
 -- There is a session at least, there are not too many, and each line is of one of them.
 pub record NamesItsSessions (script : Script) : Type 0 where
   pub some : 1 ≤ script.sessions
   pub few : script.sessions ≤ SESSIONS_MAX
-  pub within : AllByRecursion (λ (round : Round). AllByRecursion (λ (line : Line). line.session < script.sessions) round.lines) script.rounds
+  pub within : NameSessions script.sessions script.rounds
 
 -- ---- the first bad line
 

@@ -3,13 +3,12 @@
 use Rattle.std.specs.Prelude.{◌≡◌, ◌⊎◌, ℕ, ◌+◌, ◌/◌, ◌<◌, ◌≤◌, List, [], ◌++◌, length, Bool, true, false, map}
 use Rattle.session_script.specs.declared.script.Script.{Script}
 use Rattle.session_script.specs.Words.{lines_of}
-use Rattle.session_script.specs.Script.{IsScript, IsFirstBad, NamesItsSessions, script_numbers, rounds_numbers, rounds_commits}
+use Rattle.session_script.specs.Script.{IsScript, IsFirstBad, NamesItsSessions, NameSessions, script_numbers, rounds_numbers, rounds_commits}
 use Rattle.std.specs.List.{AllByRecursion, list_any}
 use Rattle.batch_repr.specs.declared.batch.Batch.{Batch}
 use Rattle.batch_repr.specs.declared.limits.TheConstants.{NUMBER_MAX, BATCHES_MAX}
 use Rattle.batch_repr.specs.Batches.{end_after}
 use Rattle.session_script.specs.declared.load.TheConstants.{LOAD_SESSIONS}
-use Rattle.session_script.specs.declared.script.Line.{Line}
 use Rattle.session_script.specs.declared.script.Round.{Round}
 use Rattle.session_script.specs.declared.replies.Said.{Said}
 use Rattle.session_script.specs.declared.replies.Said.TheVariants.{Committed, Unsynced, Dead, Limit, Got}
@@ -132,8 +131,7 @@ LoadsNameTheirSessions = (seed batches : ℕ) → 1 ≤ batches → NamesItsSess
 
 -- Each line of a load is of one of four sessions, however few its batches are.
 abbrev pub LoadsNameFourSessions : Type 0
-LoadsNameFourSessions = (seed batches : ℕ)
-    → AllByRecursion (λ (round : Round). AllByRecursion (λ (line : Line). line.session < LOAD_SESSIONS) round.lines) (load_rounds seed batches)
+LoadsNameFourSessions = (seed batches : ℕ) → NameSessions LOAD_SESSIONS (load_rounds seed batches)
 
 -- No round of a load stalls a poll.
 abbrev pub LoadsStallNothing : Type 0
