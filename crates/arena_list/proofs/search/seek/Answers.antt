@@ -1,0 +1,34 @@
+-- Each level is cut from where the one above stopped.
+use Rattle.std.proofs.Common.{◌≡◌, ◌+◌, ◌-◌, ℕ, ◌<◌, length, length-set, inl, inr, sym, ◌∙◌, subst, arith, slice_index, slice_set}
+use Rattle.std.proofs.lemmas.Bool.{cases_eq}
+use Rattle.std.proofs.lemmas.List.{get_or-set_same, get_or-set_other}
+use Rattle.arena_list.specs.declared.node.TheConstants.{LEVELS}
+use Rattle.arena_list.specs.Steps.{IsCut, MayStop}
+use Rattle.arena_list.proofs.Cuts.{may_go_on, may_stop}
+use Rattle.arena_list.proofs.search.seek.Goals as goal
+
+pub loop-level-preserved : goal.loop-level-preserved
+loop-level-preserved c =
+    let nodes = c.args.nodes.now in
+    let key = c.args.key.now in
+    let number = c.args.number in
+    let level = c.loop-level.level - 1 in
+    let last = c.seek_on_level-stop.result.last in
+    let less : level < LEVELS = omega arith in
+    let low : level < length c.loop-level.lasts = omega (arith, c.loop-level.invariant.len) in
+    let cut : IsCut nodes level key number last = c.seek_on_level-stop.ensures.cut in record {
+      within = omega arith;
+      len = length-set c.loop-level.lasts level last ∙ c.loop-level.invariant.len;
+      cuts = λ at from below. elim (cases_eq at level) [
+        | inl is ↦ subst (λ (l : ℕ). IsCut nodes l key number (slice_index (slice_set c.loop-level.lasts level last) l)) (sym is)
+            (subst (IsCut nodes level key number) (sym (get_or-set_same c.loop-level.lasts level last 0 low)) cut)
+        | inr other ↦ subst (IsCut nodes at key number) (sym (get_or-set_other c.loop-level.lasts level at last 0 other))
+            (c.loop-level.invariant.cuts at (omega (arith, from, other)) below)
+      ];
+      goes = λ more. may_go_on nodes (level - 1) key number last c.requires.linked (omega (arith, more, less))
+          (subst (λ (l : ℕ). IsCut nodes l key number last) (one_above level more) cut);
+      stops = subst (MayStop nodes key number) (sym c.seek_on_level-stop.ensures.next) (may_stop nodes level key number last c.requires.linked less cut);
+    }
+  where
+    one_above : (n : ℕ) → 0 < n → n ≡ n - 1 + 1
+    one_above n more = omega (arith, more)

@@ -1,0 +1,6 @@
+pub mod Versions
+pub mod Newest
+pub mod Arena
+pub mod Chains
+pub mod Nodes
+pub mod Steps

@@ -1,0 +1,25 @@
+//! The versions of keys in order, in nodes that stand in one vector and name each other by their places in it.
+//!
+//! Stands on `wal_base` alone, for bytes and for `NoMemory`. The layers above use one contract: what a list answers is
+//! what the sorted list of its versions answers, by key ascending and by number descending.
+//!
+//! What holds of each value here: the node at place 0 holds nothing and heads each level; what is linked at a level
+//! ascends, and is linked at the level below too; each other node is linked at level 0 or is free, and no place is both.
+#![tactic(auto)]
+
+mod found;
+mod links;
+mod list;
+mod node;
+mod search;
+mod version;
+mod walk;
+
+pub use found::Found;
+pub use list::ArenaList;
+pub use node::LEVELS;
+pub use version::Version;
+pub use walk::Walk;
+
+#[cfg(test)]
+mod tests;

@@ -1,0 +1,159 @@
+//! The list.
+
+ghost use Rattle.std.specs.Prelude.{◌≡◌, ◌↔◌, ◌+◌, ◌-◌, ◌<◌, ◌≤◌, [], IsTrue, IfOk, IfErr, OnOk, OnErr, IsOk};
+ghost use Rattle.std.specs.Bool.{OnTrue, OnFalse};
+ghost use Rattle.arena_list.specs.Versions.{version_with, AscendVersions, HoldsVersion, Adds, LeavesOut, AreSomeOf};
+ghost use Rattle.arena_list.specs.Newest.{FindsNewest};
+ghost use Rattle.arena_list.specs.Arena.{on_level, places_in, UsesPlace};
+
+use crate::found::Found;
+use crate::links::{FreeList, put_in, take_out, take_place};
+use crate::node::{Held, LEVELS, Node};
+use crate::search::{find, seek};
+use crate::walk::Walk;
+use std::alloc::Global;
+use std::marker::Model;
+use wal_base::{Blob, NoMemory};
+
+/// How many nodes a new list has room for.
+const FIRST_ROOM: usize = 4;
+
+/// The versions of keys, by key ascending and, within a key, by number descending. Contracts see the list of them, what
+/// is linked at each level, and the number of free places.
+#[derive(Drop)]
+pub struct ArenaList {
+    nodes: Vec<Node>,
+    free: FreeList,
+    /// How many insertions there were.
+    inserted: u64,
+}
+
+impl Model for ArenaList {
+    ghost use Rattle.arena_list.specs.Arena.{Arena};
+    ghost use Rattle.arena_list.specs.Nodes.{arena_of, IsArena};
+
+    ghost Value = { Arena };
+
+    ghost view = { λ a. arena_of a.nodes.items a.free.count };
+
+    ghost invariant = { λ a. IsArena a.nodes.items a.free.first a.free.count };
+}
+
+/// The height of the tower of the n-th insertion: 1 plus the number of trailing zero bits of n, at most `LEVELS`.
+fn tower_height(n: u64) -> usize
+    ensures some { 0 < result }
+    ensures most { result ≤ LEVELS }
+{
+    (n.trailing_zeros() as usize + 1).min(LEVELS)
+}
+
+impl ArenaList {
+    /// Holds nothing. Memory for the first nodes is taken now.
+    pub fn new(alloc: Global) -> Result<ArenaList, NoMemory>
+        ensures versions { IfOk result (λ list. list.versions ≡ []) }
+        ensures free { IfOk result (λ list. list.free ≡ 0) }
+    {
+        let mut nodes = Vec::with_capacity(alloc, FIRST_ROOM)?;
+        nodes.push(Node::vacant(0))?;
+        Ok(ArenaList {
+            nodes,
+            free: FreeList { first: 0, count: 0 },
+            inserted: 0,
+        })
+    }
+
+    /// Adds a version, whose key and number are not held. `Err` means out of memory or of places, hands key and value
+    /// back, and changes nothing.
+    pub fn insert(
+        &mut self,
+        key: Blob,
+        seq: u64,
+        value: Option<Blob>,
+    ) -> Result<(), (Blob, Option<Blob>)>
+        requires absent { HoldsVersion self.old.versions key seq → ⊥ }
+        ensures added { OnOk result
+            (Adds self.old.versions (version_with key seq value) self.new.versions) }
+        ensures place { OnOk result (UsesPlace self.old self.new) }
+        ensures room { 0 < self.old.free → IsOk result }
+        ensures back { IfErr result (λ back. back ≡ (key, value)) }
+        ensures unchanged { OnErr result (self.new ≡ self.old) }
+    {
+        let lasts = seek(self.nodes.as_slice(), key.as_slice(), seq);
+        let Ok(place) = take_place(&mut self.nodes, &mut self.free) else {
+            return Err((key, value));
+        };
+        self.inserted = self.inserted.wrapping_add(1);
+        let height = tower_height(self.inserted);
+        let held = Held::new(key, value);
+        put_in(self.nodes.as_mut_slice(), &lasts, place, height, held, seq);
+        Ok(())
+    }
+
+    /// The key's version with the greatest number below `below`. It takes no memory.
+    pub fn newest(&self, key: &[u8], below: u64) -> Found<'_>
+        ensures { FindsNewest self.now.versions key.now below result }
+    {
+        let Some(number) = below.checked_sub(1) else {
+            return Found::Nothing;
+        };
+        let nodes = self.nodes.as_slice();
+        let lasts = seek(nodes, key, number);
+        let place = nodes[lasts[0] as usize].links[0];
+        if place == 0 || !nodes[place as usize].has_key(key) {
+            return Found::Nothing;
+        }
+        Found::one(&nodes[place as usize])
+    }
+
+    /// Goes over all versions, by key ascending and, within a key, by number descending. It takes no memory.
+    pub fn walk(&self) -> Walk<'_>
+        ensures versions { result ≡ self.now.versions }
+        ensures ascend { AscendVersions self.now.versions }
+    {
+        self.walk_level(0)
+    }
+
+    /// Goes over the versions that are linked at a level, in the same order. It takes no memory.
+    pub fn walk_level(&self, level: u32) -> Walk<'_>
+        requires { level < LEVELS }
+        ensures level { result ≡ on_level self.now level }
+        ensures lowest { on_level self.now 0 ≡ self.now.versions }
+        ensures ascend { AscendVersions (on_level self.now level) }
+        ensures some { AreSomeOf (on_level self.now level) (on_level self.now (level - 1)) }
+    {
+        Walk::new(self.nodes.as_slice(), level as usize)
+    }
+
+    /// Takes the version with this key and number out, and frees its place. False exactly where it was not held. It takes
+    /// no memory.
+    pub fn remove(&mut self, key: &[u8], seq: u64) -> bool
+        ensures held { IsTrue result ↔ HoldsVersion self.old.versions key.now seq }
+        ensures versions { LeavesOut self.old.versions key.now seq self.new.versions }
+        ensures free { OnTrue result (self.new.free ≡ self.old.free + 1) }
+        ensures places { places_in self.new ≡ places_in self.old }
+        ensures unchanged { OnFalse result (self.new ≡ self.old) }
+    {
+        let lasts = seek(self.nodes.as_slice(), key, seq);
+        let Some(place) = find(self.nodes.as_slice(), &lasts, key, seq) else {
+            return false;
+        };
+        take_out(self.nodes.as_mut_slice(), &lasts, place, self.free.first);
+        self.free.first = place;
+        self.free.count += 1;
+        true
+    }
+
+    /// How many places there are: one for each version, and the free ones.
+    pub fn places(&self) -> usize
+        ensures { result ≡ places_in self.now }
+    {
+        self.nodes.len() - 1
+    }
+
+    /// How many places are free: so many insertions take no memory.
+    pub fn free_places(&self) -> usize
+        ensures { result ≡ self.now.free }
+    {
+        self.free.count
+    }
+}

@@ -1,0 +1,68 @@
+//! The search for where a version stands, from the top level down.
+
+ghost use Rattle.std.specs.Prelude.{◌≡◌, ◌<◌, length, IfSome, IfNone, Contains};
+ghost use Rattle.arena_list.specs.Nodes.{next_on, places_on, version_at, versions_on, IsLinked};
+ghost use Rattle.arena_list.specs.Versions.{IsAt, HoldsVersion};
+ghost use Rattle.arena_list.specs.Steps.{IsCut, MayGoOn, MayStop, AreCuts};
+
+use crate::node::{LEVELS, Node};
+
+/// Where a search of one level stopped: the last node that goes before what is sought, and the node after it.
+#[derive(Clone, Copy)]
+pub(crate) struct Stop {
+    pub(crate) last: u32,
+    pub(crate) next: u32,
+}
+
+/// Goes on along one level, from where the level above stopped. The node where that one stopped is not compared again.
+fn seek_on_level(nodes: &[Node], level: usize, from: Stop, key: &[u8], number: u64) -> Stop
+    requires level { level < LEVELS }
+    requires head { 0 < length nodes.now }
+    requires linked { IsLinked nodes.now }
+    requires last { MayGoOn nodes.now level key.now number from.last }
+    requires next { MayStop nodes.now key.now number from.next }
+    ensures cut { IsCut nodes.now level key.now number result.last }
+    ensures next { result.next ≡ next_on nodes.now level result.last }
+{
+    let mut last = from.last;
+    let mut next = nodes[last as usize].links[level];
+    while next != from.next && next != 0 && nodes[next as usize].is_before(key, number) {
+        last = next;
+        next = nodes[last as usize].links[level];
+    }
+    Stop { last, next }
+}
+
+/// For each level the last node there that goes before the version of a key and a number.
+pub(crate) fn seek(nodes: &[Node], key: &[u8], number: u64) -> [u32; LEVELS]
+    requires head { 0 < length nodes.now }
+    requires linked { IsLinked nodes.now }
+    ensures { AreCuts nodes.now key.now number result }
+{
+    let mut lasts = [0; LEVELS];
+    let mut stop = Stop { last: 0, next: 0 };
+    let mut level = LEVELS;
+    while level > 0 {
+        level -= 1;
+        stop = seek_on_level(nodes, level, stop, key, number);
+        lasts[level] = stop.last;
+    }
+    lasts
+}
+
+/// The place of the version with this key and number, which these are the last nodes before. `None` exactly where it is
+/// not held.
+pub(crate) fn find(nodes: &[Node], lasts: &[u32; LEVELS], key: &[u8], number: u64) -> Option<u32>
+    requires head { 0 < length nodes.now }
+    requires linked { IsLinked nodes.now }
+    requires cuts { AreCuts nodes.now key.now number lasts.now }
+    ensures held { IfSome result (Contains (places_on nodes.now 0)) }
+    ensures at { IfSome result (λ place. IsAt (version_at nodes.now place) key.now number) }
+    ensures none { IfNone result (HoldsVersion (versions_on nodes.now 0) key.now number → ⊥) }
+{
+    let place = nodes[lasts[0] as usize].links[0];
+    if place == 0 || !nodes[place as usize].is_at(key, number) {
+        return None;
+    }
+    Some(place)
+}
