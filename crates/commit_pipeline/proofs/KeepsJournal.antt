@@ -217,9 +217,9 @@ kept_opened tells opening opened least = record {
 -- ---- a stop
 
 -- what its files recover to
-pub journal_recovers : (tells : Bool) (opening : Opening) (batches : List Batch) (state : State) (v : DiskView) (base : List Batch) → IsTrue tells
+pub opened_base_recovers : (tells : Bool) (opening : Opening) (batches : List Batch) (state : State) (v : DiskView) (base : List Batch) → IsTrue tells
     → KeepsJournal tells opening batches state v → KeepsBase tells base opening.journal opening.disk → RecoversTo base batches (acked state) (files v)
-journal_recovers tells opening batches state v base told holds keeps =
+opened_base_recovers tells opening batches state v base told holds keeps =
     let k = holds.kept base keeps in
     base_recovers state.wal state.base batches base (acked state) k.opening (files v) k.begun
     (run_kept_now tells batches k.opening state v told holds.stands

@@ -7,7 +7,7 @@ use Rattle.disk_face.specs.View.{DiskView}
 use Rattle.failover_writer.specs.State.{State, JournalView, len}
 use Rattle.failover_writer.specs.Ranges.{Stands}
 use Rattle.failover_writer.specs.Sound.{IsSoundJournal}
-use Rattle.memtable_shards.specs.declared.version.Version.{Version}
+use Rattle.arena_list.specs.Versions.{Version}
 use Rattle.memtable_shards.specs.Versions.{AreShardsOf}
 use Rattle.commit_queue.specs.declared.pipe_table.PipeTable.{PipeTable}
 use Rattle.commit_queue.specs.declared.seats.FlushSeat.{FlushSeat}

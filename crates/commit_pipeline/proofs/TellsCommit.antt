@@ -5,7 +5,7 @@ use Rattle.std.specs.declared.sync.ledger.Share.{Share}
 use Rattle.atomic_table.specs.Seated.{TableId}
 use Rattle.wal_base.specs.declared.entry.Entry.{Entry}
 use Rattle.batch_repr.specs.Batches.{count_of}
-use Rattle.memtable_shards.specs.declared.version.Version.{Version}
+use Rattle.arena_list.specs.Versions.{Version}
 use Rattle.memtable_shards.specs.Versions.{AreShardsOf}
 use Rattle.publish_core.specs.Machine.{Among, ends}
 use Rattle.commit_queue.specs.declared.view.View.{View}

@@ -6,9 +6,10 @@ use Rattle.atomic_table.specs.Seated.{TableId}
 use Rattle.batch_repr.specs.declared.batch.Batch.{Batch}
 use Rattle.batch_repr.specs.Batches.{IsContiguous, end_after, end_of, answer}
 use Rattle.batch_repr.proofs.Laws.{contiguous_append, contiguous_front, end_append}
-use Rattle.memtable_shards.specs.declared.version.Version.{Version}
-use Rattle.memtable_shards.specs.declared.found.Found.{Found}
-use Rattle.memtable_shards.specs.Newest.{FindsNewest, value_found}
+use Rattle.arena_list.specs.Versions.{Version}
+use Rattle.arena_list.specs.declared.found.Found.{Found}
+use Rattle.arena_list.specs.Newest.{FindsNewest}
+use Rattle.memtable_shards.specs.Newest.{value_found}
 use Rattle.memtable_shards.specs.Versions.{AreShardsOf, HaveBelow, shard_of}
 use Rattle.memtable_shards.proofs.Laws.{below_append, shard_answers_below}
 use Rattle.publish_core.specs.Machine.{ends}

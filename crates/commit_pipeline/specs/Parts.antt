@@ -4,7 +4,7 @@ use Rattle.atomic_table.specs.Seated.{TableId}
 use Rattle.batch_repr.specs.declared.batch.Batch.{Batch}
 use Rattle.batch_repr.specs.declared.limits.TheConstants.{NUMBER_MAX, SESSIONS_MAX}
 use Rattle.batch_repr.specs.Batches.{IsContiguous, end_after}
-use Rattle.memtable_shards.specs.declared.version.Version.{Version}
+use Rattle.arena_list.specs.Versions.{Version}
 use Rattle.memtable_shards.specs.Versions.{AreShardsOf}
 use Rattle.commit_queue.specs.declared.pipe_table.PipeTable.{PipeTable}
 use Rattle.commit_queue.specs.declared.seats.FlushSeat.{FlushSeat}

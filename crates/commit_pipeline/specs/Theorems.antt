@@ -8,8 +8,8 @@ use Rattle.commit_pipeline.specs.Openings.{Opening, KeepsJournal}
 
 -- Whatever a journal kept as a base at the opening it recovers to, and after it to a prefix of the batches that it holds, with all
 -- that are acked.
-abbrev pub EachJournalKeepsItsBase : Type 0
-EachJournalKeepsItsBase =
+abbrev pub EachOpenedBaseIsKept : Type 0
+EachOpenedBaseIsKept =
     (tells : Bool) (opening : Opening) (batches : List Batch) (state : State) (v : DiskView) (base : List Batch)
     → IsTrue tells
     → KeepsJournal tells opening batches state v

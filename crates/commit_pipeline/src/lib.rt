@@ -34,7 +34,7 @@ pub use parts::Parts;
 pub use pipeline::Pipeline;
 pub use session::{Session, Sessions};
 pub use standing::Standing;
-pub use theorems::a_journal_keeps_its_base;
+pub use theorems::an_opened_base_is_kept;
 
 #[cfg(test)]
 mod tests;

@@ -88,7 +88,7 @@ fn load(alloc: Global, base: &Batches, next: u64) -> Result<Shards, NoMemory>
 {
     let mut shards = Vec::with_capacity(alloc, SHARDS)?;
     for _ in 0..SHARDS {
-        shards.push(Shard::new(alloc))?;
+        shards.push(Shard::new(alloc)?)?;
     }
     for batch in base.as_slice() {
         apply(alloc, &mut shards, batch)?;

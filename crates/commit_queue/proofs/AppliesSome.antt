@@ -4,7 +4,7 @@ use Rattle.std.proofs.lemmas.Bool.{cases_lt}
 use mathlib.Core.Option.{some, some-injective}
 use lib.ListN.{get_elem?}
 use Rattle.batch_repr.specs.declared.batch.Batch.{Batch}
-use Rattle.memtable_shards.specs.declared.version.Version.{Version}
+use Rattle.arena_list.specs.Versions.{Version}
 use Rattle.memtable_shards.specs.Pieces.{PiecesLeft, IsNextPiece, NoPieceIsLeft}
 use Rattle.memtable_shards.specs.Versions.{touches, piece_in, Gains, HaveOtherNumbers}
 use Rattle.memtable_shards.proofs.Laws.{next_is_piece, none_between, none_left}

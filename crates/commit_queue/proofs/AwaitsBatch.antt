@@ -5,7 +5,7 @@ use lib.ListN.{get_elem?}
 use Rattle.wal_base.specs.declared.entry.Entry.{Entry}
 use Rattle.batch_repr.specs.declared.batch.Batch.{Batch}
 use Rattle.batch_repr.specs.declared.limits.TheConstants.{BATCHES_MAX}
-use Rattle.memtable_shards.specs.declared.version.Version.{Version}
+use Rattle.arena_list.specs.Versions.{Version}
 use Rattle.memtable_shards.specs.Pieces.{PiecesLeft}
 use Rattle.publish_core.specs.declared.seat.Kind.TheVariants.{Producer, Worker}
 use Rattle.publish_core.specs.declared.seat.Reading.{Reading}

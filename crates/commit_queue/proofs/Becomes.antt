@@ -6,7 +6,7 @@ use lib.Seq.{set-get_or}
 use Rattle.atomic_table.specs.Table.{Act, keeps, Valid, carried_after, stepped}
 use Rattle.atomic_table.proofs.Lists.{at_set}
 use Rattle.batch_repr.specs.declared.batch.Batch.{Batch}
-use Rattle.memtable_shards.specs.declared.version.Version.{Version}
+use Rattle.arena_list.specs.Versions.{Version}
 use Rattle.publish_core.specs.declared.seat.Kind.TheVariants.{Producer, Worker, Spent}
 use Rattle.publish_core.specs.declared.seat.SeatState.{SeatState}
 use Rattle.publish_core.specs.Machine.{Among, updated, ends, visible, Acts}

@@ -5,7 +5,7 @@ use lib.ListN.{get_elem?}
 use Rattle.atomic_table.specs.Table.{Splits, Joins}
 use Rattle.atomic_table.proofs.Lists.{at_set, set_else}
 use Rattle.batch_repr.specs.declared.batch.Batch.{Batch}
-use Rattle.memtable_shards.specs.declared.version.Version.{Version}
+use Rattle.arena_list.specs.Versions.{Version}
 use Rattle.memtable_shards.specs.Versions.{touches}
 use Rattle.publish_core.specs.declared.seat.Kind.{Kind}
 use Rattle.publish_core.specs.declared.seat.Kind.TheVariants.{Producer, Note, Worker, Spent}

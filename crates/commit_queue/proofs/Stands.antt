@@ -1,7 +1,7 @@
 -- What holds of a seat between two calls holds after each call.
 use Rattle.std.proofs.Common.{◌≡◌, Option, Some, None, [], ◌∷◌, ◌++◌, ℕ, suc, ◌+◌, ◌<◌, ◌≤◌, ◌^◌, List, length, length-append, sym, refl, ap, ap₂, ◌∙◌, subst, arith, Bool, cond, false}
 use Rattle.batch_repr.specs.declared.batch.Batch.{Batch}
-use Rattle.memtable_shards.specs.declared.version.Version.{Version}
+use Rattle.arena_list.specs.Versions.{Version}
 use Rattle.publish_core.specs.declared.seat.Kind.TheVariants.{Worker}
 use Rattle.publish_core.specs.Machine.{ends, both_held}
 use Rattle.publish_core.proofs.Laws.{ends_snoc}

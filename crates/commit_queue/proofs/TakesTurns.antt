@@ -10,7 +10,7 @@ use prog.Atomic.{either}
 use Rattle.atomic_table.specs.Table.{step, keeps, takes, gives, rest, put_back, Allows}
 use Rattle.atomic_table.proofs.Lists.{at_set, set_here, set_else, exchanged}
 use Rattle.batch_repr.specs.declared.batch.Batch.{Batch}
-use Rattle.memtable_shards.specs.declared.version.Version.{Version}
+use Rattle.arena_list.specs.Versions.{Version}
 use Rattle.memtable_shards.specs.Versions.{piece_in, touches, Gains, HasSameVersions}
 use Rattle.publish_core.specs.declared.seat.Pair.{Pair}
 use Rattle.publish_core.specs.declared.seat.SeatState.{SeatState}

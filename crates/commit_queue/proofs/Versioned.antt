@@ -10,7 +10,7 @@ use Rattle.std.proofs.lemmas.List.Elements.{Contains-append_left, Contains-appen
 use Rattle.wal_base.proofs.Laws.{none_within}
 use Rattle.batch_repr.specs.declared.batch.Batch.{Batch}
 use Rattle.batch_repr.specs.Batches.{IsContiguous, end_of}
-use Rattle.memtable_shards.specs.declared.version.Version.{Version}
+use Rattle.arena_list.specs.Versions.{Version}
 use Rattle.memtable_shards.specs.Versions.{versions_of, versions_in, of_shard, piece_in, Gains, HasSameVersions}
 use Rattle.memtable_shards.proofs.Laws.{version_within, in_piece, touched}
 use Rattle.publish_core.specs.Machine.{Among, ends}

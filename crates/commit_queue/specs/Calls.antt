@@ -10,7 +10,7 @@ use Rattle.publish_core.specs.Machine.{Among, ends, both_held, held_or}
 use Rattle.commit_queue.specs.declared.published.Published.{Published}
 use Rattle.commit_queue.specs.declared.published.Published.TheVariants.{Raised, NotReady, Raced}
 use Rattle.commit_queue.specs.declared.view.View.{View}
-use Rattle.memtable_shards.specs.declared.version.Version.{Version}
+use Rattle.arena_list.specs.Versions.{Version}
 use Rattle.memtable_shards.specs.Pieces.{PiecesLeft}
 use Rattle.memtable_shards.specs.Versions.{piece_in, touches, Gains, HasSameVersions}
 use Rattle.commit_queue.specs.Rule.{numbers, IsPrefix}

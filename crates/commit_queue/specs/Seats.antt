@@ -2,7 +2,7 @@
 use Rattle.std.specs.Prelude.{◌≡◌, ℕ, List, All, length, None}
 use Rattle.atomic_table.specs.Seated.{TableId}
 use Rattle.publish_core.specs.declared.seat.Kind.TheVariants.{Worker}
-use Rattle.memtable_shards.specs.declared.version.Version.{Version}
+use Rattle.arena_list.specs.Versions.{Version}
 use Rattle.commit_queue.specs.declared.pipe_table.PipeTable.{PipeTable}
 use Rattle.commit_queue.specs.declared.seats.ProducerSeat.{ProducerSeat}
 use Rattle.commit_queue.specs.declared.seats.SessionSeat.{SessionSeat}

@@ -4,7 +4,7 @@ use Rattle.atomic_table.specs.Table.{Me, Step, rest}
 use Rattle.batch_repr.specs.declared.batch.Batch.{Batch}
 use Rattle.batch_repr.specs.declared.limits.TheConstants.{BATCHES_MAX}
 use Rattle.batch_repr.specs.Batches.{IsContiguous}
-use Rattle.memtable_shards.specs.declared.version.Version.{Version}
+use Rattle.arena_list.specs.Versions.{Version}
 use Rattle.publish_core.specs.declared.seat.Claim.TheVariants.{Taken, Emptied}
 use Rattle.publish_core.specs.declared.seat.Kind.TheVariants.{Producer}
 use Rattle.publish_core.specs.declared.seat.Reading.{Reading}

@@ -2,7 +2,7 @@
 //! array as a list of any length.
 
 use batch_repr::Batch;
-use memtable_shards::Version;
+use memtable_shards::Shard;
 use publish_core::SeatState;
 
 /// What a seat knows of the acked word, which the flush seat alone raises.
@@ -24,7 +24,7 @@ pub struct View {
     /// The table's first number.
     pub base: u64,
     /// The versions of each shard as the table was made.
-    pub opening: [[Version; 0]; 0],
+    pub opening: [Shard; 0],
     /// So many batches are admitted, where the seat is the producer's.
     pub head: u64,
     /// The batches that it has seen, from the first on.
@@ -36,7 +36,7 @@ pub struct View {
     /// What it knows of the acked word.
     pub acked_known: AckedKnown,
     /// The versions of the shard as the seat took it.
-    pub taken: [Version; 0],
+    pub taken: Shard,
     /// The shards where the batch that the seat holds is applied.
     pub pieces: [u64; 0],
 }

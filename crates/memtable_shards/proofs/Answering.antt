@@ -8,11 +8,12 @@ use Rattle.std.proofs.lemmas.List.Elements.{Contains-append_left, Contains-appen
 use Rattle.batch_repr.specs.declared.batch.Batch.{Batch}
 use Rattle.batch_repr.specs.Batches.{IsContiguous, end_after, entries_in, answer, value_left, is_about}
 use Rattle.batch_repr.proofs.Laws.{contiguous_back, contiguous_front}
-use Rattle.memtable_shards.specs.declared.version.Version.{Version}
+use Rattle.arena_list.specs.Versions.{Version}
 use Rattle.memtable_shards.specs.Versions.{versions_of, versions_in, shard_of, HaveBelow, AreShardsOf}
-use Rattle.memtable_shards.specs.declared.found.Found.{Found}
-use Rattle.memtable_shards.specs.declared.found.Found.TheVariants.{Nothing, Gone, Value}
-use Rattle.memtable_shards.specs.Newest.{HasNoneBelow, IsNewestOf, version_found, FindsNewest, value_found}
+use Rattle.arena_list.specs.declared.found.Found.{Found}
+use Rattle.arena_list.specs.declared.found.Found.TheVariants.{Nothing, Gone, Value}
+use Rattle.arena_list.specs.Newest.{HasNoneBelow, IsNewestOf, version_found, FindsNewest}
+use Rattle.memtable_shards.specs.Newest.{value_found}
 use Rattle.memtable_shards.proofs.Numbers.{number_within}
 use Rattle.memtable_shards.proofs.Reading.{answer_read, version_of, value_of}
 

@@ -10,7 +10,7 @@ use Rattle.wal_base.proofs.Laws.{none_within}
 use Rattle.batch_repr.specs.declared.batch.Batch.{Batch}
 use Rattle.batch_repr.specs.Batches.{end_of, IsContiguous, end_after}
 use Rattle.memtable_shards.specs.declared.sharding.TheConstants.{SHARDS}
-use Rattle.memtable_shards.specs.declared.version.Version.{Version}
+use Rattle.arena_list.specs.Versions.{Version}
 use Rattle.memtable_shards.specs.Versions.{versions_from, versions_of, versions_in, shard_of, of_shard, piece_in, Gains, HaveOtherNumbers, AreShardsOf}
 use Rattle.memtable_shards.specs.Pieces.{PiecesLeft, whole_pieces, versions_cut, IsNextPiece, NoPieceIsLeft, AreShardsAmid}
 use Rattle.memtable_shards.proofs.Numbers.{number_within}

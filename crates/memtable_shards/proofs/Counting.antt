@@ -6,9 +6,9 @@ use Rattle.std.proofs.lemmas.List.{append-nil}
 use Rattle.std.proofs.lemmas.List.Elements.{Contains-append_right}
 use Rattle.wal_base.proofs.Laws.{within_head}
 use Rattle.batch_repr.specs.declared.limits.TheConstants.{NUMBER_MAX}
-use Rattle.memtable_shards.specs.declared.version.Version.{Version}
+use Rattle.arena_list.specs.Versions.{Version}
 use Rattle.memtable_shards.specs.Parts.{counted_from, HaveNumbers, MayWait}
-use Rattle.memtable_shards.proofs.Waiting.{few_versions}
+use Rattle.memtable_shards.proofs.MayWait.{few_versions}
 
 -- a version under its number
 abbrev pub moved : ℕ → Version → Version

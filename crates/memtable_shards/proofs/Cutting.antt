@@ -12,7 +12,7 @@ use Rattle.std.proofs.lemmas.List.Elements.{filter-append}
 use Rattle.wal_base.proofs.Laws.{none_within, within_head, within_tail, within_cases}
 use Rattle.wal_base.specs.declared.entry.Entry.{Entry}
 use Rattle.wal_base.specs.declared.entry.Entry.TheVariants.{Set, Delete, Note}
-use Rattle.memtable_shards.specs.declared.version.Version.{Version}
+use Rattle.arena_list.specs.Versions.{Version}
 use Rattle.memtable_shards.specs.Versions.{versions_from, shard_of, of_shard}
 use Rattle.memtable_shards.specs.Parts.{counted_from, HaveOwnNumbers, AreByShard}
 use Rattle.memtable_shards.proofs.Numbers.{number_within, versions-append, count-append, count_is_length}

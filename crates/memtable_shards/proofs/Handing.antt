@@ -6,7 +6,7 @@ use Rattle.std.proofs.lemmas.Bool.{cases_lt}
 use Rattle.std.proofs.lemmas.Option.{slice_get-get_or}
 use Rattle.wal_base.specs.declared.entry.Entry.{Entry}
 use Rattle.memtable_shards.specs.declared.sharding.TheConstants.{SHARDS}
-use Rattle.memtable_shards.specs.declared.version.Version.{Version}
+use Rattle.arena_list.specs.Versions.{Version}
 use Rattle.memtable_shards.specs.Versions.{versions_from, shard_of, of_shard}
 use Rattle.memtable_shards.specs.Pieces.{IsNextPiece, NoPieceIsLeft}
 use Rattle.memtable_shards.specs.Parts.{counted_from, MayWait, AreEmptyBetween, IsFirstWithAny, AreCut}

@@ -4,14 +4,11 @@ mod Numbers
 mod Newer
 mod Reading
 mod Answering
-mod Indexing
-mod Searching
-mod Ascending
 mod Counting
 mod Cutting
 mod Handing
-mod Waiting
-mod Settling
+mod MayWait
+mod IsShard
 mod Applying
 mod Touching
 mod Rigs

@@ -1,10 +1,10 @@
 -- What is found in two lists of versions is the newer one of what is found in each.
-use Rattle.std.proofs.Common.{◌≡◌, inl, inr, ℕ, ◌≤◌, ◌<◌, List, [], ◌∷◌, ◌++◌, Option, Some, None, refl, sym, ap, ◌∙◌, arith}
-use Rattle.std.specs.Prelude.{Contains, option_map}
+use Rattle.std.proofs.Common.{◌≡◌, inl, inr, ℕ, ◌≤◌, ◌<◌, List, [], ◌∷◌, ◌++◌, Option, Some, None, sym, ap, ◌∙◌, arith}
+use Rattle.std.specs.Prelude.{Contains, option_map, ◌↔◌}
 use Rattle.std.proofs.lemmas.List.Elements.{Contains-append_left, Contains-append_right, Contains-append_cases}
 use Rattle.wal_base.proofs.Laws.{none_within, within_head, within_cases}
-use Rattle.memtable_shards.specs.declared.version.Version.{Version}
-use Rattle.memtable_shards.specs.Newest.{HasNoneBelow, IsNewestOf}
+use Rattle.arena_list.specs.Versions.{Version}
+use Rattle.arena_list.specs.Newest.{HasNoneBelow, IsNewestOf}
 
 abbrev pub number_of : Option Version → Option ℕ
 number_of version = option_map (λ (v : Version). v.number) version
@@ -90,12 +90,15 @@ module _ (xs ys : List Version) (key : List ℕ) (below : ℕ) where
       let en : n ≡ b.number = cc in
       first a one (λ w h about low. omega (arith, two.0.last w h (about ∙ sym two.1) low, em, en, less))
 
--- a version more that is of another key, or not below the number
-pub newest_skips : (xs : List Version) (key : List ℕ) (below : ℕ) (v : Version) (found : Option Version) → (v.key ≡ key → below ≤ v.number)
-    → IsNewestOf xs key below found → IsNewestOf (xs ++ v ∷ []) key below found
-newest_skips xs key below v found apart one = first_alone xs (v ∷ []) key below found None refl one (newest_other key below v apart)
-
--- no stamp or version that is left out is below the number
-pub newest_before : (xs ys : List Version) (key : List ℕ) (below : ℕ) (found : Option Version) → HasNoneBelow ys key below
-    → IsNewestOf xs key below found → IsNewestOf (xs ++ ys) key below found
-newest_before xs ys key below found over one = first_alone xs ys key below found None refl one over
+-- The order of the versions says nothing, nor how often each of them stands there.
+pub newest_same : (xs ys : List Version) (key : List ℕ) (below : ℕ) (found : Option Version)
+    → ((v : Version) → Contains ys v ↔ Contains xs v) → IsNewestOf xs key below found → IsNewestOf ys key below found
+newest_same xs ys key below None same none = λ v h about. none v ((same v).0 h) about
+newest_same xs ys key below (Some version) same is = (
+  record {
+    stands = (same version).1 is.0.stands;
+    under = is.0.under;
+    last = λ other h about low. is.0.last other ((same other).0 h) about low;
+  },
+  is.1,
+)

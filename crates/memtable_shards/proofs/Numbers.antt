@@ -7,7 +7,7 @@ use Rattle.wal_base.specs.declared.entry.Entry.{Entry}
 use Rattle.wal_base.specs.declared.entry.Entry.TheVariants.{Set, Delete, Note}
 use Rattle.batch_repr.specs.declared.batch.Batch.{Batch}
 use Rattle.batch_repr.specs.Batches.{count_of, is_counted, end_of, IsContiguous, end_after, entries_in}
-use Rattle.memtable_shards.specs.declared.version.Version.{Version}
+use Rattle.arena_list.specs.Versions.{Version}
 use Rattle.memtable_shards.specs.Versions.{versions_from, versions_of, versions_in}
 
 -- ---- numbers

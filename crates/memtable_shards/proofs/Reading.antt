@@ -9,9 +9,9 @@ use Rattle.wal_base.specs.declared.entry.Entry.{Entry}
 use Rattle.wal_base.specs.declared.entry.Entry.TheVariants.{Set, Delete, Note}
 use Rattle.batch_repr.specs.declared.batch.Batch.{Batch}
 use Rattle.batch_repr.specs.Batches.{is_about, value_left, IsContiguous, end_after, entries_in, answer}
-use Rattle.memtable_shards.specs.declared.version.Version.{Version}
+use Rattle.arena_list.specs.Versions.{Version}
 use Rattle.memtable_shards.specs.Versions.{versions_from, versions_in}
-use Rattle.memtable_shards.specs.Newest.{IsNewestOf}
+use Rattle.arena_list.specs.Newest.{IsNewestOf}
 use Rattle.wal_base.proofs.Laws.{none_within, within_head, within_tail, within_cases}
 use Rattle.memtable_shards.proofs.Numbers.{versions_together, end_together, number_within, one_number}
 

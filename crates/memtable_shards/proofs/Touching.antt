@@ -9,7 +9,7 @@ use Rattle.wal_base.proofs.Laws.{none_within, within_head}
 use Rattle.batch_repr.specs.declared.batch.Batch.{Batch}
 use Rattle.batch_repr.specs.Batches.{count_of}
 use Rattle.memtable_shards.specs.declared.sharding.TheConstants.{SHARDS}
-use Rattle.memtable_shards.specs.declared.version.Version.{Version}
+use Rattle.arena_list.specs.Versions.{Version}
 use Rattle.memtable_shards.specs.Versions.{versions_of, versions_in, shard_of, of_shard, piece_in, touches, HaveBelow}
 use Rattle.memtable_shards.specs.Pieces.{PiecesLeft, versions_cut, IsNextPiece, NoPieceIsLeft}
 use Rattle.memtable_shards.proofs.Numbers.{number_within}

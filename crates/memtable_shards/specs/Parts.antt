@@ -4,8 +4,8 @@ use Rattle.wal_base.specs.declared.entry.Entry.{Entry}
 use Rattle.batch_repr.specs.declared.limits.TheConstants.{NUMBER_MAX}
 use Rattle.batch_repr.specs.Batches.{count_of}
 use Rattle.memtable_shards.specs.declared.sharding.TheConstants.{SHARDS}
-use Rattle.memtable_shards.specs.declared.version.Version.{Version}
-use Rattle.memtable_shards.specs.Versions.{versions_from, of_shard}
+use Rattle.arena_list.specs.Versions.{Version}
+use Rattle.memtable_shards.specs.Versions.{versions_from, of_shard, HaveOtherNumbers}
 
 -- versions whose numbers were counted from this one on
 abbrev pub counted_from : ℕ → List Version → List Version
@@ -24,6 +24,11 @@ HaveOwnNumbers (version ∷ versions) = ((other : Version) → Contains versions
 pub record MayWait (waiting : List Version) : Type 0 where
   pub numbers : HaveNumbers waiting
   pub apart : HaveOwnNumbers waiting
+
+-- What a shard keeps: versions that wait, and whose numbers no settled version has.
+pub record IsShard (settled waiting : List Version) : Type 0 where
+  pub ready : MayWait waiting
+  pub apart : HaveOtherNumbers settled waiting
 
 -- Each of the lists has the versions of the shard at its place.
 abbrev pub AreByShard : List Version → List (List Version) → Type 0

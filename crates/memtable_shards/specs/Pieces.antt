@@ -3,7 +3,7 @@ use Rattle.std.specs.Prelude.{◌≡◌, ◌≢◌, ◌⊎◌, ◌↔◌, ℕ, �
 use Rattle.wal_base.specs.declared.entry.Entry.{Entry}
 use Rattle.batch_repr.specs.declared.batch.Batch.{Batch}
 use Rattle.memtable_shards.specs.declared.sharding.TheConstants.{SHARDS}
-use Rattle.memtable_shards.specs.declared.version.Version.{Version}
+use Rattle.arena_list.specs.Versions.{Version}
 use Rattle.memtable_shards.specs.Versions.{versions_from, versions_of, versions_in, shard_of, of_shard}
 
 -- the entries, the first number, if they are numbered, and the shard from which on pieces are left

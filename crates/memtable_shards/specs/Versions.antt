@@ -1,15 +1,11 @@
 -- The versions that batches leave, and the shards that hold them (docs/FORMATS.md, "The shards").
-use Rattle.std.specs.Prelude.{◌≡◌, ◌≢◌, ◌⊎◌, ℕ, ◌+◌, ◌<◌, ◌==◌, nat_lt, ◌%◌, Bool, List, [], ◌∷◌, length, Option, Some, None, Contains, filter, slice_get, ◌↔◌}
+use Rattle.std.specs.Prelude.{◌≡◌, ◌≢◌, ◌⊎◌, ℕ, ◌+◌, ◌<◌, ◌==◌, nat_lt, ◌%◌, Bool, List, [], ◌∷◌, length, Some, None, Contains, filter, slice_get, ◌↔◌}
 use Rattle.std.specs.List.{flat_map, sum}
 use Rattle.wal_base.specs.declared.entry.Entry.{Entry}
 use Rattle.wal_base.specs.declared.entry.Entry.TheVariants.{Set, Delete, Note}
 use Rattle.batch_repr.specs.declared.batch.Batch.{Batch}
 use Rattle.memtable_shards.specs.declared.sharding.TheConstants.{SHARDS}
-use Rattle.memtable_shards.specs.declared.version.Version.{Version}
-
--- a version, by its parts
-abbrev pub version_under : List ℕ → ℕ → Option (List ℕ) → Version
-version_under key number value = record { key = key; number = number; value = value }
+use Rattle.arena_list.specs.Versions.{Version, AscendVersions}
 
 -- the versions of some entries, of which the first that is counted has this number
 unfoldable pub versions_from : ℕ → List Entry → List Version
@@ -48,6 +44,10 @@ Gains old more new = (version : Version) → Contains new version ↔ (Contains 
 -- They are the same versions, in another order maybe.
 abbrev pub HasSameVersions : List Version → List Version → Type 0
 HasSameVersions old new = (version : Version) → Contains new version ↔ Contains old version
+
+-- Nothing waits in the shard.
+abbrev pub IsSettled : List Version → Type 0
+IsSettled shard = AscendVersions shard
 
 -- No version of the one has the number of a version of the other.
 abbrev pub HaveOtherNumbers : List Version → List Version → Type 0

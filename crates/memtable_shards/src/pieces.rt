@@ -12,7 +12,7 @@ ghost use Rattle.memtable_shards.specs.Parts.{AreEmptyBetween, IsFirstWithAny};
 ghost use Rattle.memtable_shards.specs.Pieces.{whole_pieces, IsNextPiece, NoPieceIsLeft};
 
 use crate::sharding::{SHARDS, shard_index};
-use crate::version::Version;
+use crate::waiting::WaitingVersion;
 use batch_repr::Unnumbered;
 use std::alloc::Global;
 use std::collections::LinkedList;
@@ -22,18 +22,18 @@ use std::{array, mem};
 use wal_base::{Entries, Entry, NoMemory};
 
 /// The versions for each shard, at its place.
-type Lists = [LinkedList<Version>; SHARDS];
+type Lists = [LinkedList<WaitingVersion>; SHARDS];
 
 /// The versions that a batch has for one shard, in nodes that are linked without memory.
 /// Contracts see the list of them.
 #[derive(Drop)]
 pub struct PieceNode {
-    pub(crate) nodes: LinkedList<Version>,
+    pub(crate) nodes: LinkedList<WaitingVersion>,
 }
 
 impl Model for PieceNode {
     ghost use Rattle.std.specs.Prelude.{List};
-    ghost use Rattle.memtable_shards.specs.declared.version.Version.{Version};
+    ghost use Rattle.arena_list.specs.Versions.{Version};
     ghost use Rattle.memtable_shards.specs.Parts.{MayWait};
 
     ghost Value = { List Version };
@@ -109,7 +109,7 @@ fn first_with_any(lists: &Lists, from: usize) -> Option<usize>
 }
 
 /// Takes a list, and leaves an empty one. It takes no memory.
-fn take_list(list: &mut LinkedList<Version>) -> LinkedList<Version>
+fn take_list(list: &mut LinkedList<WaitingVersion>) -> LinkedList<WaitingVersion>
     ensures taken { result ≡ list.old }
     ensures left { list.new ≡ [] }
 {
@@ -118,7 +118,7 @@ fn take_list(list: &mut LinkedList<Version>) -> LinkedList<Version>
 }
 
 /// Adds a first number to that of each version, and links the nodes anew. It takes no memory.
-fn number_nodes(mut nodes: LinkedList<Version>, first: u64) -> LinkedList<Version>
+fn number_nodes(mut nodes: LinkedList<WaitingVersion>, first: u64) -> LinkedList<WaitingVersion>
     requires { MayWait (counted_from first nodes) }
     ensures { result ≡ counted_from first nodes }
 {
@@ -164,16 +164,16 @@ fn empty_lists(alloc: Global) -> Lists
 }
 
 /// The version that an entry leaves under a number: none where it is a note.
-fn version_of(entry: &Entry, number: u64) -> Result<Option<Version>, NoMemory>
+fn version_of(entry: &Entry, number: u64) -> Result<Option<WaitingVersion>, NoMemory>
     ensures { IfOk result (λ version. option_to_list version ≡ versions_from number (entry.now ∷ [])) }
 {
     match entry {
-        Entry::Set { key, value } => Ok(Some(Version {
+        Entry::Set { key, value } => Ok(Some(WaitingVersion {
             key: key.share()?,
             number,
             value: Some(value.share()?),
         })),
-        Entry::Delete { key } => Ok(Some(Version {
+        Entry::Delete { key } => Ok(Some(WaitingVersion {
             key: key.share()?,
             number,
             value: None,
@@ -183,7 +183,7 @@ fn version_of(entry: &Entry, number: u64) -> Result<Option<Version>, NoMemory>
 }
 
 /// Adds a version at the end of its shard's list.
-fn add_version(lists: &mut Lists, version: Version) -> Result<(), NoMemory>
+fn add_version(lists: &mut Lists, version: WaitingVersion) -> Result<(), NoMemory>
     requires eight { length lists.old ≡ SHARDS }
     ensures eight { length lists.new ≡ SHARDS }
     ensures added { OnOk result (AddsByShard version lists.old lists.new) }

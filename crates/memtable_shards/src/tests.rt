@@ -1,9 +1,11 @@
-ghost use Rattle.std.specs.Prelude.{◌≡◌, [], length};
+ghost use Rattle.std.specs.Prelude.{◌≡◌, ◌<◌, [], length};
 ghost use Rattle.memtable_shards.specs.Parts.{AreByShard};
 
 use crate::{Found, SHARDS, Shard, shard_index, split, split_entries};
+use arena_list::Version;
 use batch_repr::{BatchBuilder, Unnumbered};
 use std::alloc::Global;
+use std::collections::BTreeMap;
 use std::marker::Model;
 use std::process::Abort;
 use wal_base::{Blob, Entries, Entry, NoMemory};
@@ -36,7 +38,8 @@ fn new_shards(rt: &impl Abort, alloc: Global) -> Vec<Shard>
 {
     let mut shards = Vec::new(alloc);
     for _ in 0..SHARDS {
-        shards.push(Shard::new(alloc)).expect(rt, "memory");
+        let shard = Shard::new(alloc).expect(rt, "memory");
+        shards.push(shard).expect(rt, "memory");
     }
     shards
 }
@@ -260,7 +263,7 @@ fn entries_are_cut_as_their_batch_is(rt: HostRuntime) {
     pieces.number(20);
     let (at, node) = pieces.take().expect(&rt, "a piece");
     assert_eq!(&rt; at, 1);
-    let mut shard = Shard::new(alloc);
+    let mut shard = Shard::new(alloc).expect(&rt, "memory");
     shard.apply(node);
     assert_eq!(&rt; shard.newest(b"a", 20), Found::Nothing);
     assert_eq!(&rt; shard.newest(b"a", 21), Found::Gone { seq: 20 });
@@ -276,4 +279,136 @@ fn entries_that_take_no_number_have_no_piece(rt: HostRuntime) {
     let mut pieces = split_entries(alloc, &entries).expect(&rt, "memory");
     pieces.number(10);
     assert!(&rt; pieces.take().is_none());
+}
+
+#[test]
+fn a_settled_shard_lends_its_versions_in_order(rt: HostRuntime) {
+    let alloc = rt.alloc();
+    // The three keys have one shard.
+    let changes = [
+        Change::Set(b"i", b"3"),
+        Change::Set(b"a", b"1"),
+        Change::Note(b"a"),
+        Change::Delete(b"a"),
+        Change::Set(b"q", b""),
+    ];
+    let batch = batch_of(&rt, alloc, &changes);
+    let mut pieces = split(alloc, &batch).expect(&rt, "memory");
+    pieces.number(10);
+    let (_, node) = pieces.take().expect(&rt, "a piece");
+    let mut shard = Shard::new(alloc).expect(&rt, "memory");
+    shard.apply(node);
+    assert!(&rt; shard.index().walk().next().is_none());
+    shard.settle().expect(&rt, "memory");
+    let wanted: [(&[u8], u64, Option<&[u8]>); 4] = [
+        (b"a", 12, None),
+        (b"a", 11, Some(b"1")),
+        (b"i", 10, Some(b"3")),
+        (b"q", 13, Some(b"")),
+    ];
+    let mut walk = shard.index().walk();
+    for (key, seq, value) in wanted {
+        assert_eq!(&rt; walk.next(), Some(Version { key, seq, value }));
+    }
+    assert!(&rt; walk.next().is_none());
+}
+
+/// Numbers that look random: those of a linear congruential generator.
+#[derive(Drop)]
+struct Dice(u64);
+
+impl Dice {
+    /// The next number, below a bound that is not 0.
+    fn roll(&mut self, bound: u64) -> u64
+        requires { 0 < bound }
+        ensures { result < bound }
+    {
+        self.0 = self
+            .0
+            .wrapping_mul(6_364_136_223_846_793_005)
+            .wrapping_add(1_442_695_040_888_963_407);
+        (self.0 >> 33) % bound
+    }
+
+    fn key(&mut self) -> &'static [u8] {
+        const KEYS: [&[u8]; 8] = [b"", b"a", b"i", b"q", b"h", b"ab", b"ba", b"b"];
+        KEYS[self.roll(8) as usize]
+    }
+}
+
+/// What shards are to answer, as a plain program keeps it: for each key its values, by number.
+type Plain = BTreeMap<Vec<u8>, BTreeMap<u64, Option<Vec<u8>>>>;
+
+fn plain_newest<'a>(plain: &'a Plain, key: &[u8], below: u64) -> Found<'a> {
+    let Some(values) = plain.get(key) else {
+        return Found::Nothing;
+    };
+    match values.range(..below).next_back() {
+        None => Found::Nothing,
+        Some((seq, None)) => Found::Gone { seq: *seq },
+        Some((seq, Some(bytes))) => Found::Value {
+            seq: *seq,
+            bytes: bytes.as_slice(),
+        },
+    }
+}
+
+fn plain_put(
+    alloc: Global,
+    plain: &mut Plain,
+    seq: u64,
+    change: Change<'_>,
+) -> Result<(), NoMemory> {
+    let (key, value) = match change {
+        Change::Set(key, value) => (key, Some(Vec::from_slice(alloc, value)?)),
+        Change::Delete(key) => (key, None),
+        Change::Note(_) => return Ok(()),
+    };
+    if let Some(values) = plain.get_mut(key) {
+        values.insert(seq, value)?;
+        return Ok(());
+    }
+    let mut values = BTreeMap::new(alloc);
+    values.insert(seq, value)?;
+    let key = Vec::from_slice(alloc, key)?;
+    plain.insert(key, values)?;
+    Ok(())
+}
+
+/// Gives both a batch of two entries, which may be about one key.
+fn give_both(rt: &impl Abort, rig: &mut Rig, plain: &mut Plain, dice: &mut Dice) {
+    let first = if dice.roll(3) == 0 {
+        Change::Delete(dice.key())
+    } else {
+        Change::Set(dice.key(), dice.key())
+    };
+    let second = Change::Set(dice.key(), dice.key());
+    let (alloc, seq) = (rig.alloc, rig.next);
+    give(rt, alloc, rig, &[first, second]);
+    plain_put(alloc, plain, seq, first).expect(rt, "memory");
+    plain_put(alloc, plain, seq.saturating_add(1), second).expect(rt, "memory");
+}
+
+/// One step at random, on both: their answers agree.
+fn step(rt: &impl Abort, rig: &mut Rig, plain: &mut Plain, dice: &mut Dice) {
+    let kind = dice.roll(8);
+    if kind < 3 {
+        give_both(rt, rig, plain, dice);
+    } else if kind == 3 {
+        rig.settle().expect(rt, "memory");
+    } else {
+        let (key, below) = (dice.key(), dice.roll(8_000));
+        assert_eq!(rt; rig.read(key, below), plain_newest(plain, key, below));
+    }
+}
+
+#[test]
+fn shards_answer_as_a_map_does(rt: HostRuntime) {
+    let alloc = rt.alloc();
+    let mut rig = Rig::new(&rt, alloc);
+    let mut plain = BTreeMap::new(alloc);
+    let mut dice = Dice(7);
+    for _ in 0..10_000 {
+        step(&rt, &mut rig, &mut plain, &mut dice);
+    }
 }

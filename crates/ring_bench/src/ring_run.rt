@@ -44,7 +44,7 @@ fn eight(alloc: Global) -> Result<Shards, NoMemory>
 {
     let mut shards = ListOf::new(alloc);
     for _ in 0..SHARDS {
-        shards.push(Shard::new(alloc)).map_err(|_| NoMemory)?;
+        shards.push(Shard::new(alloc)?).map_err(|_| NoMemory)?;
     }
     Ok(shards)
 }

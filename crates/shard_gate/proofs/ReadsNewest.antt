@@ -1,9 +1,10 @@
 -- What is found among the same versions in another order.
 use Rattle.std.proofs.Common.{◌≡◌, ℕ, List, Some, sym, refl, ap, ◌∙◌, subst}
 use Rattle.std.specs.Prelude.{Option, None, Result, Ok, Err, IfOk, IsErrAnd, MatchResult}
-use Rattle.memtable_shards.specs.declared.found.Found.{Found}
-use Rattle.memtable_shards.specs.declared.version.Version.{Version}
-use Rattle.memtable_shards.specs.Newest.{FindsNewest, IsNewestOf, value_found, version_found}
+use Rattle.arena_list.specs.declared.found.Found.{Found}
+use Rattle.arena_list.specs.Versions.{Version}
+use Rattle.arena_list.specs.Newest.{FindsNewest, IsNewestOf, version_found}
+use Rattle.memtable_shards.specs.Newest.{value_found}
 use Rattle.memtable_shards.specs.Versions.{shard_of, HasSameVersions}
 use Rattle.commit_queue.specs.declared.view.View.{View}
 use Rattle.commit_queue.specs.Calls.{GivesSame}

@@ -4,9 +4,10 @@ use mathlib.Core.Option.{some}
 use lib.ListN.{get_elem?}
 use Rattle.atomic_table.specs.Seated.{TableId}
 use Rattle.batch_repr.specs.declared.batch.Batch.{Batch}
-use Rattle.memtable_shards.specs.declared.found.Found.{Found}
-use Rattle.memtable_shards.specs.declared.version.Version.{Version}
-use Rattle.memtable_shards.specs.Newest.{FindsNewest, value_found}
+use Rattle.arena_list.specs.declared.found.Found.{Found}
+use Rattle.arena_list.specs.Versions.{Version}
+use Rattle.arena_list.specs.Newest.{FindsNewest}
+use Rattle.memtable_shards.specs.Newest.{value_found}
 use Rattle.memtable_shards.specs.Pieces.{PiecesLeft}
 use Rattle.memtable_shards.specs.Versions.{piece_in, shard_of, touches}
 use Rattle.publish_core.specs.Machine.{Among, ends}

@@ -41,7 +41,8 @@ fn eight(rt: &impl Abort, alloc: Global) -> Shards
 {
     let mut shards = ListOf::new(alloc);
     for _ in 0..SHARDS {
-        if shards.push(Shard::new(alloc)).is_err() {
+        let shard = Shard::new(alloc).expect(rt, "memory");
+        if shards.push(shard).is_err() {
             panic!(rt; "memory");
         }
     }

@@ -1,6 +1,6 @@
 -- The first node is numbered, taken off, and linked behind the others.
-use Rattle.std.proofs.Common.{◌≡◌, ◌++◌, ℕ, ◌+◌, List, true, false, refl, ap, arith}
-use Rattle.memtable_shards.specs.declared.version.Version.{Version}
+use Rattle.std.proofs.Common.{◌≡◌, ◌++◌, ℕ, ◌+◌, List, true, false, refl, ap, ◌∙◌, arith}
+use Rattle.arena_list.specs.Versions.{Version, version_with}
 use Rattle.memtable_shards.specs.Parts.{counted_from}
 use Rattle.memtable_shards.proofs.Counting.{moved, number_fits, number_more, fewer_left, all_numbered, few_numbered}
 use Rattle.memtable_shards.proofs.pieces.number_nodes.Goals as goal
@@ -14,6 +14,7 @@ overflow_add-version c = record {
     arith,
     number_fits c.args.first c.loop-version.numbered c.loop-version.nodes (counted_from c.args.first c.args.nodes) c.in-Some.version.now
         c.loop-version.invariant c.requires.numbers (c.in-Some.ensures.variant.0 refl) c.in-Some.ensures.value,
+    ap (λ (v : Version). v.number) c.version.view_is,
   );
 }
 
@@ -31,8 +32,9 @@ loop-version-smaller c = fewer_left c.loop-version.nodes c.in-Ok.rest _ (c.in-So
 pub loop-version-preserved : goal.loop-version-preserved
 loop-version-preserved c =
     let version : Version = c.in-Some.version.now in
-    let new : record { key = version.key; number = version.number + c.args.first; value = version.value } ≡ moved c.args.first version =
-    ap (λ (n : ℕ). record { key = version.key; number = n; value = version.value }) (omega arith) in
+    let new : version_with c.version.inside.key (c.version.inside.number + c.args.first) c.version.inside.value ≡ moved c.args.first version =
+    ap (λ (v : Version). version_with v.key (v.number + c.args.first) v.value) c.version.view_is
+    ∙ ap (λ (n : ℕ). version_with version.key n version.value) (omega arith) in
     number_more c.args.first c.loop-version.numbered c.loop-version.nodes (counted_from c.args.first c.args.nodes) c.split_off.new.self c.append.new.self
     c.in-Ok.rest version _ c.loop-version.invariant (c.in-Some.ensures.variant.0 refl) c.in-Some.ensures.value new c.in-Ok.ensures.items
     c.in-Ok.ensures.tail c.in-Ok-append.ensures.items

@@ -1,9 +1,14 @@
--- No key, and no version that waits.
-use Rattle.std.proofs.Common.{sym, subst}
-use Rattle.memtable_shards.specs.Indexed.{AllAscend}
+-- Nothing is settled, and nothing waits.
+use Rattle.std.proofs.Common.{List, sym, subst}
+use Rattle.std.specs.Prelude.{Contains}
+use Rattle.wal_base.proofs.Laws.{none_within}
+use Rattle.arena_list.specs.Versions.{Version}
 use Rattle.memtable_shards.specs.Parts.{MayWait}
-use Rattle.memtable_shards.proofs.Waiting.{none_wait}
+use Rattle.memtable_shards.proofs.MayWait.{none_wait}
 use Rattle.memtable_shards.proofs.shard.Shard.new.Goals as goal
 
 pub invariant_of-result : goal.invariant_of-result
-invariant_of-result c = record { ascending = subst AllAscend (sym c.new.ensures.empty) tt; ready = subst MayWait (sym c.new-2.ensures) none_wait }
+invariant_of-result c = record {
+  ready = subst MayWait (sym c.new-2.ensures) none_wait;
+  apart = λ one other h k. absurd (none_within other (subst (λ (l : List Version). Contains l other) c.new-2.ensures k));
+}

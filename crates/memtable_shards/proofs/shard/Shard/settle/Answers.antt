@@ -1,10 +1,10 @@
 -- Version by version, from the first. Those that were moved are not too many to be linked.
-use Rattle.std.proofs.Common.{◌≡◌, true, false, List, ◌++◌, refl, ap, ◌∙◌, subst, arith, length, set}
+use Rattle.std.proofs.Common.{◌≡◌, true, false, List, refl, ap, ◌∙◌, subst, arith, length, set}
 use Rattle.std.specs.Prelude.{Contains, ◌↔◌}
-use Rattle.memtable_shards.specs.declared.version.Version.{Version}
-use Rattle.memtable_shards.specs.Indexed.{indexed}
-use Rattle.memtable_shards.proofs.Waiting.{few_versions}
-use Rattle.memtable_shards.proofs.Settling.{same_set, one_settled, rest_moves, first_kept, few_moved, count_moved}
+use Rattle.arena_list.specs.Versions.{Version}
+use Rattle.arena_list.specs.Arena.{Arena}
+use Rattle.memtable_shards.proofs.MayWait.{few_versions}
+use Rattle.memtable_shards.proofs.IsShard.{seen, same_set, first_absent, one_settled, rest_moves, first_kept, few_moved, count_moved, none_waits, settled_alone}
 use Rattle.memtable_shards.proofs.shard.Shard.settle.Goals as goal
 
 pub loop-version-init : goal.loop-version-init
@@ -14,17 +14,24 @@ loop-version-init c = (
   omega (arith, ap (λ (l : List Version). length l) c.new-moved.ensures),
 )
 
-pub returns-in_err-put : goal.returns-in_err-put
-returns-in_err-put c v =
+pub put-requires : goal.put-requires
+put-requires c = record {
+  absent =
+      first_absent c.loop-version.self-inside.index.versions c.loop-version.self-inside.waiting c.in-Some.version.now
+      (c.in-Some.ensures.variant.0 refl) c.in-Some.ensures.value c.loop-version.invariant.0;
+}
+
+pub returns-in_err-put-clause-same : goal.returns-in_err-put-clause-same
+returns-in_err-put-clause-same c v =
     let waiting : List Version = c.loop-version.self-inside.waiting in
     let left : List Version = set waiting 0 c.put.new.version in
     let same : left ≡ waiting =
     first_kept waiting c.in-Some.version.now c.put.new.version (c.in-Some.ensures.variant.0 refl) c.in-Some.ensures.value c.in_err-put.ensures.kept in
-    subst (λ (old : List Version). Contains (indexed c.put.new.index ++ left) v ↔ Contains old v) c.self.view_is
-    (same_set (indexed c.put.new.index ++ left) (indexed c.loop-version.self-inside.index ++ waiting)
-    (indexed c.self.inside.index ++ c.self.inside.waiting) v
-    (ap (λ (l : List Version). indexed c.put.new.index ++ l) same
-    ∙ ap (λ (l : List Version). l ++ waiting) c.in_err-put.ensures.same)
+    subst (λ (old : List Version). Contains (seen c.put.new.index.versions left) v ↔ Contains old v) c.self.view_is
+    (same_set (seen c.put.new.index.versions left) (seen c.loop-version.self-inside.index.versions waiting)
+    (seen c.self.inside.index.versions c.self.inside.waiting) v
+    (ap (λ (l : List Version). seen c.put.new.index.versions l) same
+    ∙ ap (λ (index : Arena). seen index.versions waiting) c.in_err-put.ensures.same)
     (c.loop-version.invariant.1 v))
 
 pub unreachable-requires-in_default-append : goal.unreachable-requires-in_default-append
@@ -39,16 +46,22 @@ unreachable-requires-in_default-append c =
 pub loop-version-preserved : goal.loop-version-preserved
 loop-version-preserved c =
     let moves =
-    one_settled (indexed c.self.inside.index ++ c.self.inside.waiting) (indexed c.loop-version.self-inside.index) (indexed c.put.new.index)
+    one_settled (seen c.self.inside.index.versions c.self.inside.waiting) c.loop-version.self-inside.index.versions c.put.new.index.versions
     c.loop-version.self-inside.waiting c.in-Ok.rest c.in-Some.version.now (c.in-Some.ensures.variant.0 refl) c.in-Some.ensures.value
     (rest_moves c.loop-version.self-inside.waiting c.in-Ok.rest c.put.new.version c.in-Ok.ensures.tail) c.in_ok-put.ensures.added
-    c.loop-version.invariant.0.ready c.loop-version.invariant.1 in (
-      record { ascending = c.put.ensures.ascending; ready = moves.0 },
+    c.loop-version.invariant.0 c.loop-version.invariant.1 in (
+      moves.0,
       moves.1,
       count_moved c.loop-version.moved c.append.new.self c.loop-version.self-inside.waiting c.split_off.new.self c.in-Ok.rest c.put.new.version _
           (c.in-Some.ensures.variant.0 refl) c.in-Ok.ensures.items c.in-Ok.ensures.tail c.in-Ok-append.ensures.items c.loop-version.invariant.2,
     )
 
-pub returns : goal.returns
-returns c v = subst (λ (old : List Version). Contains (indexed c.loop-version.self-inside.index ++ c.loop-version.self-inside.waiting) v ↔ Contains old v)
+pub returns-clause-same : goal.returns-clause-same
+returns-clause-same c v =
+    subst (λ (old : List Version). Contains (seen c.loop-version.self-inside.index.versions c.loop-version.self-inside.waiting) v ↔ Contains old v)
     c.self.view_is (c.loop-version.invariant.1 v)
+
+pub returns-clause-settled : goal.returns-clause-settled
+returns-clause-settled c =
+    settled_alone c.loop-version.self-inside.index.versions c.loop-version.self-inside.waiting
+    (none_waits c.loop-version.self-inside.waiting c.in_default.ensures.variant.1) c.walk-walk.ensures.ascend

@@ -9,7 +9,7 @@ use Rattle.shard_gate.proofs.gate.ShardGate.try_newest.Goals as goal
 pub give_shard-requires-clause-gives : goal.give_shard-requires-clause-gives
 give_shard-requires-clause-gives c =
     gives_same c.args.s.now.seat.me.0 c.take_shard.new.h.seat.me.0 c.shard_index.result c.in-Some.taken c.settle.new.self
-    c.in-Some.ensures.taken c.settle.ensures
+    c.in-Some.ensures.taken c.settle.ensures.same
 
 pub returns-clause-read : goal.returns-clause-read
 returns-clause-read c = if_ok_still c.match-settle.value c.map_err.result Reads _ c.map_err.ensures.cases
@@ -18,7 +18,7 @@ returns-clause-read c = if_ok_still c.match-settle.value c.map_err.result Reads 
           (if_ok_more w.value_of-value.result (λ value. value ≡ value_found w.newest.result) Reads
           (λ value is. reads_newest c.args.s.now.seat.me.0 c.take_shard.new.h.seat.me.0 c.give_shard.new.h.seat.me.0 c.args.key.now
           c.args.below c.shard_index.result c.in-Some.taken c.settle.new.self w.newest.result value c.shard_index.ensures.shard
-          c.in-Some.ensures.taken c.settle.ensures w.newest.ensures is c.give_shard.ensures.ended) w.value_of-value.ensures)
+          c.in-Some.ensures.taken c.settle.ensures.same w.newest.ensures is c.give_shard.ensures.ended) w.value_of-value.ensures)
       | in-Err w ↦ subst (λ (r : Result (Option (List ℕ)) NoMemory). IfOk r Reads) (sym w.value-is) tt
     ])
   where

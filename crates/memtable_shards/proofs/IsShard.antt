@@ -1,0 +1,202 @@
+-- A shard's versions, as they are linked and moved into the index. What waits is seen twice.
+use Rattle.std.proofs.Common.{◌≡◌, ◌⊎◌, true, false, inl, inr, ℕ, ◌+◌, ◌<◌, ◌≤◌, List, [], ◌∷◌, ◌++◌, length, drop, take, set, refl, sym, ap, ◌∙◌, subst, arith}
+use Rattle.std.proofs.Common.{append_assoc, get_or, length-append}
+use Rattle.std.specs.Prelude.{Contains, ◌↔◌}
+use Rattle.std.proofs.lemmas.List.{append-nil}
+use Rattle.std.proofs.lemmas.List.Elements.{Contains-append_left, Contains-append_right, Contains-append_cases}
+use Rattle.wal_base.proofs.Laws.{within_head, within_tail, within_cases}
+use Rattle.arena_list.specs.Versions.{Version, AscendVersions, Adds, HoldsVersion}
+use Rattle.arena_list.proofs.Laws.{never_before_itself}
+use Rattle.memtable_shards.specs.Versions.{Gains, HaveOtherNumbers, IsSettled}
+use Rattle.memtable_shards.specs.Parts.{HaveOwnNumbers, MayWait, IsShard}
+use Rattle.memtable_shards.proofs.MayWait.{rest_waits}
+
+-- what a shard is seen as
+abbrev pub seen : List Version → List Version → List Version
+seen index waiting = index ++ waiting ++ waiting
+
+pub seen_cases : (index waiting : List Version) (v : Version) → Contains (seen index waiting) v → Contains index v ⊎ Contains waiting v
+seen_cases index waiting v h = elim (Contains-append_cases (index ++ waiting) waiting v h) [
+  | inl once ↦ Contains-append_cases index waiting v once
+  | inr twice ↦ inr twice
+]
+
+pub seen_index : (index waiting : List Version) (v : Version) → Contains index v → Contains (seen index waiting) v
+seen_index index waiting v h = Contains-append_left (index ++ waiting) waiting v (Contains-append_left index waiting v h)
+
+pub seen_waiting : (index waiting : List Version) (v : Version) → Contains waiting v → Contains (seen index waiting) v
+seen_waiting index waiting v h = Contains-append_right (index ++ waiting) waiting v h
+
+-- the same versions, with each of them once
+pub seen_once : (index waiting : List Version) (v : Version) → Contains (seen index waiting) v ↔ Contains (index ++ waiting) v
+seen_once index waiting v = (
+  λ h. elim (Contains-append_cases (index ++ waiting) waiting v h) [
+    | inl once ↦ once
+    | inr twice ↦ Contains-append_right index waiting v twice
+  ],
+  λ h. Contains-append_left (index ++ waiting) waiting v h,
+)
+
+-- ---- nothing waits
+
+seen_alone : (index : List Version) → seen index [] ≡ index
+seen_alone index = append-nil (index ++ []) ∙ append-nil index
+
+pub settled_alone : (index waiting : List Version) → waiting ≡ [] → AscendVersions index → IsSettled (seen index waiting)
+settled_alone index waiting none ascends = subst (λ (l : List Version). AscendVersions (seen index l)) (sym none)
+    (subst AscendVersions (sym (seen_alone index)) ascends)
+
+ascends_back : (xs ys : List Version) → AscendVersions (xs ++ ys) → AscendVersions ys
+unfolding AscendVersions
+ascends_back [] ys ascends = ascends
+ascends_back (x ∷ xs) ys ascends = ascends_back xs ys ascends.1
+
+-- what stands twice does not ascend
+pub settled_whole : (index waiting : List Version) → IsSettled (seen index waiting) → index ≡ seen index waiting
+unfolding AscendVersions
+settled_whole index [] settled = sym (seen_alone index)
+settled_whole index (v ∷ waiting) settled =
+    let twice : AscendVersions ((v ∷ waiting) ++ v ∷ waiting) =
+    ascends_back index ((v ∷ waiting) ++ v ∷ waiting) (subst AscendVersions (append_assoc index (v ∷ waiting) (v ∷ waiting)) settled) in
+    absurd (never_before_itself v (twice.0 v (Contains-append_right waiting (v ∷ waiting) v (within_head v waiting))))
+
+-- ---- one version more, or fewer
+
+-- versions that are linked
+pub linked_gains : (index waiting nodes all : List Version) → all ≡ waiting ++ nodes → Gains (seen index waiting) nodes (seen index all)
+linked_gains index waiting nodes all is v = (to, from)
+  where
+    to : Contains (seen index all) v → Contains (seen index waiting) v ⊎ Contains nodes v
+    to h = elim (seen_cases index all v h) [
+      | inl here ↦ inl (seen_index index waiting v here)
+      | inr there ↦ elim (Contains-append_cases waiting nodes v (subst (λ (l : List Version). Contains l v) is there)) [
+        | inl was ↦ inl (seen_waiting index waiting v was)
+        | inr more ↦ inr more
+      ]
+    ]
+
+    back : (w : Version) → Contains (waiting ++ nodes) w → Contains (seen index all) w
+    back w h = seen_waiting index all w (subst (λ (l : List Version). Contains l w) (sym is) h)
+
+    from : Contains (seen index waiting) v ⊎ Contains nodes v → Contains (seen index all) v
+    from (inl h) = elim (seen_cases index waiting v h) [
+      | inl here ↦ seen_index index all v here
+      | inr there ↦ back v (Contains-append_left waiting nodes v there)
+    ]
+    from (inr h) = back v (Contains-append_right waiting nodes v h)
+
+-- their numbers are other ones
+pub linked_apart : (index waiting nodes all : List Version) → all ≡ waiting ++ nodes → HaveOtherNumbers index waiting
+    → HaveOtherNumbers (seen index waiting) nodes → HaveOtherNumbers index all
+linked_apart index waiting nodes all is was more one other h k =
+    elim (Contains-append_cases waiting nodes other (subst (λ (l : List Version). Contains l other) is k)) [
+      | inl there ↦ was one other h there
+      | inr new ↦ more one other (seen_index index waiting one h) new
+    ]
+
+-- a version moves from those that wait to the index
+moved_in : (old new wait rest : List Version) (version : Version) → wait ≡ version ∷ rest → Adds old version new → (v : Version)
+    → Contains (seen new rest) v ↔ Contains (seen old wait) v
+moved_in old new wait rest version e adds v = (to, from)
+  where
+    waits : (w : Version) → Contains (version ∷ rest) w → Contains (seen old wait) w
+    waits w h = seen_waiting old wait w (subst (λ (l : List Version). Contains l w) (sym e) h)
+
+    to : Contains (seen new rest) v → Contains (seen old wait) v
+    to h = elim (seen_cases new rest v h) [
+      | inl here ↦ elim ((adds v).0 here) [
+        | inl was ↦ seen_index old wait v was
+        | inr is ↦ waits v (subst (λ (w : Version). Contains (version ∷ rest) w) (sym is) (within_head version rest))
+      ]
+      | inr there ↦ waits v (within_tail version rest v there)
+    ]
+
+    from : Contains (seen old wait) v → Contains (seen new rest) v
+    from h = elim (seen_cases old wait v h) [
+      | inl was ↦ seen_index new rest v ((adds v).1 (inl was))
+      | inr there ↦ elim (within_cases version rest v (subst (λ (l : List Version). Contains l v) e there)) [
+        | inl is ↦ seen_index new rest v ((adds v).1 (inr (sym is)))
+        | inr later ↦ seen_waiting new rest v later
+      ]
+    ]
+
+both : {A B C : Type 0} → A ↔ B → B ↔ C → A ↔ C
+both one two = (λ a. two.0 (one.0 a), λ c. one.1 (two.1 c))
+
+-- the same list
+pub same_set : (xs ys zs : List Version) (v : Version) → xs ≡ ys → Contains ys v ↔ Contains zs v → Contains xs v ↔ Contains zs v
+same_set xs ys zs v e same = subst (λ (l : List Version). Contains l v ↔ Contains zs v) (sym e) same
+
+-- a list whose first item was looked at
+first_waits : (waiting : List Version) (version : Version) → 0 < length waiting → version ≡ get_or waiting 0 version
+    → waiting ≡ version ∷ drop 1 waiting
+first_waits [] version some is = absurd (omega (arith, some))
+first_waits (v ∷ waiting) version some is = ap (λ (w : Version). w ∷ waiting) (sym is)
+
+-- a list that has no first item
+pub none_waits : (waiting : List Version) → (0 < length waiting → false ≡ true) → waiting ≡ []
+none_waits [] none = refl
+none_waits (v ∷ waiting) none = let clash : false ≡ true = none (omega arith) in absurd cc
+
+-- the first one is not in the index
+pub first_absent : (index waiting : List Version) (version : Version) → 0 < length waiting → version ≡ get_or waiting 0 version
+    → IsShard index waiting → HoldsVersion index version.key version.number → ⊥
+first_absent index waiting version some is shard holds =
+    shard.apart holds.0 version holds.1 (subst (λ (l : List Version). Contains l version) (sym (first_waits waiting version some is))
+    (within_head version (drop 1 waiting))) holds.2.1
+
+-- the first one moves to the index
+pub one_settled : (was old new waiting rest : List Version) (version : Version) → 0 < length waiting → version ≡ get_or waiting 0 version
+    → rest ≡ drop 1 waiting → Adds old version new → IsShard old waiting → ((v : Version) → Contains (seen old waiting) v ↔ Contains was v)
+    → IsShard new rest × ((v : Version) → Contains (seen new rest) v ↔ Contains was v)
+unfolding HaveOwnNumbers
+one_settled was old new waiting rest version some is off adds shard same = (
+  record { ready = rest_waits waiting rest version whole shard.ready; apart = apart },
+  λ v. both (moved_in old new waiting rest version whole adds v) (same v),
+)
+  where
+    whole : waiting ≡ version ∷ rest
+    whole = first_waits waiting version some is ∙ ap (λ (l : List Version). version ∷ l) (sym off)
+
+    all : MayWait (version ∷ rest)
+    all = subst MayWait whole shard.ready
+
+    apart : HaveOtherNumbers new rest
+    apart one other h k = elim ((adds one).0 h) [
+      | inl was ↦ shard.apart one other was (subst (λ (l : List Version). Contains l other) (sym whole) (within_tail version rest other k))
+      | inr e ↦ (λ (clash : one.number ≡ other.number). all.apart.0 other k (sym clash ∙ ap (λ (v : Version). v.number) e))
+    ]
+
+-- the rest of versions whose first one was written
+rest_written : (waiting : List Version) (version : Version) → drop 1 (set waiting 0 version) ≡ drop 1 waiting
+rest_written [] version = refl
+rest_written (v ∷ waiting) version = refl
+
+pub rest_moves : (waiting rest : List Version) (version : Version) → rest ≡ drop 1 (set waiting 0 version) → rest ≡ drop 1 waiting
+rest_moves waiting rest version off = off ∙ rest_written waiting version
+
+-- a first version that is as it was
+pub first_kept : (waiting : List Version) (version kept : Version) → 0 < length waiting → version ≡ get_or waiting 0 version → kept ≡ version
+    → set waiting 0 kept ≡ waiting
+first_kept [] version kept some is same = absurd (omega (arith, some))
+first_kept (v ∷ waiting) version kept some is same = ap (λ (w : Version). w ∷ waiting) (same ∙ is)
+
+-- those that were moved, with one more, are not more than waited
+pub few_moved : (moved waiting one : List Version) (version : Version) (most : ℕ) → one ≡ take 1 (set waiting 0 version)
+    → length moved + length waiting ≤ most → length moved + length one ≤ most
+few_moved moved [] one version most off few = rw off few
+few_moved moved (v ∷ waiting) one version most off few = rw off (omega (arith, few))
+
+pub count_moved : (moved all waiting one rest : List Version) (version : Version) (most : ℕ) → 0 < length waiting
+    → one ≡ take 1 (set waiting 0 version) → rest ≡ drop 1 (set waiting 0 version) → all ≡ moved ++ one
+    → length moved + length waiting ≤ most → length all + length rest ≤ most
+count_moved moved all [] one rest version most some off on is few = absurd (omega (arith, some))
+count_moved moved all (v ∷ waiting) one rest version most some off on is few =
+    omega (
+      arith,
+      few,
+      ap (λ (l : List Version). length l) is,
+      length-append moved one,
+      ap (λ (l : List Version). length l) off,
+      ap (λ (l : List Version). length l) on,
+    )
