@@ -1,6 +1,5 @@
 //! The pipeline, and its commits.
 ghost use Rattle.std.specs.Prelude.{◌≡◌, ◌+◌, None, Err, true};
-ghost use Rattle.batch_repr.specs.Batches.{count_of};
 ghost use Rattle.commit_queue.specs.Tables.{table_id_of};
 ghost use Rattle.commit_queue.specs.Calls.{HoldsUnapplied};
 ghost use Rattle.commit_queue.specs.Seats.{session_table, session_view};

@@ -1,5 +1,5 @@
 //! The acked word is raised by the flush seat, and read by the sessions.
-ghost use Rattle.std.specs.Prelude.{◌≡◌, ◌≤◌, None, true};
+ghost use Rattle.std.specs.Prelude.{◌≡◌, None, true};
 ghost use Rattle.publish_core.specs.declared.seat.Kind.TheVariants.{Worker};
 ghost use Rattle.publish_core.specs.Machine.{Acts};
 

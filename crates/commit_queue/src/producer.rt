@@ -1,5 +1,5 @@
 //! The producer's calls: a batch is placed in the ring, admitted, and handed to a session.
-ghost use Rattle.std.specs.Prelude.{◌≡◌, ◌*◌, ◌<◌, ℕ, [], Some, IfOk, OnErr};
+ghost use Rattle.std.specs.Prelude.{◌≡◌, ◌*◌, ◌<◌, [], Some, IfOk, OnErr};
 
 use crate::pipe_table::{PipeTable, TableSeat};
 use crate::seats::{Handed, ProducerSeat};

@@ -1,5 +1,5 @@
 //! A batch is marked, and taken from the front and made visible: the steps, by any seat.
-ghost use Rattle.std.specs.Prelude.{◌≡◌, ℕ, suc, ◌<◌, ◌^◌, [], Some};
+ghost use Rattle.std.specs.Prelude.{◌≡◌, suc, ◌<◌, ◌^◌, [], Some};
 ghost use Rattle.publish_core.specs.Machine.{Acts, ends};
 ghost use Rattle.publish_core.specs.declared.seat.Kind.TheVariants.{Producer};
 ghost use Rattle.publish_core.specs.declared.seat.Claim.TheVariants.{Free};

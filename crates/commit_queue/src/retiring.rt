@@ -1,6 +1,6 @@
 //! Seats go back to the producer's, for good; and the producer's seat shows a session what it has
 //! seen.
-ghost use Rattle.std.specs.Prelude.{◌≡◌, ◌≤◌, [], None, length};
+ghost use Rattle.std.specs.Prelude.{◌≡◌, ◌≤◌, [], length};
 ghost use Rattle.atomic_table.specs.Seated.{TableId};
 ghost use Rattle.publish_core.specs.declared.seat.Claim.TheVariants.{Free};
 ghost use Rattle.publish_core.specs.declared.seat.Kind.TheVariants.{Producer, Worker};

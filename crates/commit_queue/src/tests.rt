@@ -1,5 +1,5 @@
 //! What the ring does, by examples.
-ghost use Rattle.std.specs.Prelude.{◌≡◌, ◌<◌, ℕ, [], All, None, Some, length, replicate};
+ghost use Rattle.std.specs.Prelude.{◌≡◌, ◌<◌, ℕ, [], All, None, Some, replicate};
 ghost use Rattle.memtable_shards.specs.declared.sharding.TheConstants.{SHARDS};
 ghost use Rattle.memtable_shards.specs.Pieces.{whole_pieces};
 ghost use Rattle.commit_queue.specs.Calls.{AwaitsBatch, HoldsUnapplied, IsUnapplied, IsAppliedAll};

@@ -3,7 +3,7 @@ ghost use Rattle.std.specs.Prelude.{◌≡◌, ◌≤◌, [], All, IfOk, replica
 ghost use Rattle.memtable_shards.specs.declared.sharding.TheConstants.{SHARDS};
 ghost use Rattle.batch_repr.specs.declared.limits.TheConstants.{NUMBER_FIRST, SESSIONS_MAX};
 ghost use Rattle.commit_queue.specs.Tables.{table_id_of};
-ghost use Rattle.commit_queue.specs.Seats.{producer_table, producer_view, AreNewSessions, IsNewProducer};
+ghost use Rattle.commit_queue.specs.Seats.{IsNewProducer};
 ghost use Rattle.ring_bench.specs.Placings.{IsIdleOf};
 
 use crate::batches::turns_for;

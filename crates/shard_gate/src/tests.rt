@@ -1,9 +1,9 @@
 //! What the gate does, by examples.
-ghost use Rattle.std.specs.Prelude.{◌≡◌, [], None, length, replicate};
+ghost use Rattle.std.specs.Prelude.{◌≡◌, [], None, replicate};
 ghost use Rattle.memtable_shards.specs.declared.sharding.TheConstants.{SHARDS};
 ghost use Rattle.memtable_shards.specs.Pieces.{whole_pieces};
 ghost use Rattle.commit_queue.specs.Calls.{AwaitsBatch, HoldsAdmitted, HoldsUnapplied};
-ghost use Rattle.commit_queue.specs.Tables.{IsOfTable, table_id_of};
+ghost use Rattle.commit_queue.specs.Tables.{IsOfTable};
 ghost use Rattle.commit_queue.specs.Seats.{producer_table, producer_view, HoldsNothing};
 ghost use Rattle.commit_queue.specs.Seats.{session_table, session_view};
 

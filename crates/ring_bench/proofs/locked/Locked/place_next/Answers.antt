@@ -1,4 +1,4 @@
-use Rattle.std.proofs.Common.{◌∙◌, ◌+◌, ap, sym, ℕ, Some}
+use Rattle.std.proofs.Common.{◌∙◌, ◌+◌, ap, sym, Some}
 use Rattle.batch_repr.specs.declared.batch.Batch.{Batch}
 use Rattle.commit_queue.specs.declared.view.View.{View}
 use Rattle.commit_queue.specs.Rule.{numbers}

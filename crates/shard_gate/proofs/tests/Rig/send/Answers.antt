@@ -1,10 +1,10 @@
-use Rattle.std.proofs.Common.{◌∙◌, ◌+◌, ap, sym, ℕ, Some}
+use Rattle.std.proofs.Common.{◌∙◌, ◌+◌, ap, sym, Some}
 use Rattle.batch_repr.specs.declared.batch.Batch.{Batch}
 use Rattle.commit_queue.specs.declared.view.View.{View}
 use Rattle.commit_queue.specs.Rule.{numbers}
 use Rattle.memtable_shards.specs.Pieces.{PiecesLeft}
 use Rattle.commit_queue.specs.Seats.{producer_view, session_view, note_view}
-use Rattle.commit_queue.proofs.Laws.{awaits_read, awaits_handed, holds_adopted, unapplied_adopted, unapplied_handed, unapplied_next}
+use Rattle.commit_queue.proofs.Laws.{awaits_read, awaits_handed, unapplied_adopted, unapplied_handed, unapplied_next}
 use Rattle.shard_gate.proofs.tests.Rig.send.Goals as goal
 
 pub invariant_of-self : goal.invariant_of-self
