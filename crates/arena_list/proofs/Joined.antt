@@ -1,5 +1,5 @@
 -- One place more, linked in at the levels of its tower.
-use Rattle.std.proofs.Common.{◌≡◌, ◌≢◌, ◌⊎◌, inl, inr, ℕ, ◌+◌, ◌^◌, ◌<◌, ◌≤◌, true, false, Option, Some, None, List, [], ◌∷◌, ◌++◌, length, Contains, refl, sym, ap, ◌∙◌, subst, arith, slice_index, length-append}
+use Rattle.std.proofs.Common.{◌≡◌, ◌≢◌, ◌⊎◌, inl, inr, ℕ, ◌+◌, ◌-◌, ◌^◌, ◌<◌, ◌≤◌, true, false, Option, Some, None, List, [], ◌∷◌, ◌++◌, length, Contains, refl, sym, ap, ◌∙◌, subst, arith, slice_index, length-append}
 use Rattle.std.proofs.lemmas.Bool.{cases_lt}
 use Rattle.std.proofs.lemmas.List.{length-map}
 use Rattle.std.proofs.lemmas.List.Elements.{Contains-append_left, Contains-append_right}
@@ -13,11 +13,13 @@ use Rattle.arena_list.specs.Arena.{UsesPlace}
 use Rattle.arena_list.specs.Chains.{LeadsAlong}
 use Rattle.arena_list.specs.Nodes.{is_vacant, held_of, version_in, node_at, version_at, next_on, places_on, versions_on, arena_of, AscendPlaces, HasNode, IsLevel, IsLinked, AreFree, IsArena}
 use Rattle.arena_list.specs.Steps.{IsCut, AreCuts, AreWithin, AreOtherPlaces, TakesPlace, PutsIn}
+use Rattle.arena_list.specs.Tops.{IsTop, IsTopCut, PutsInTop}
 use Rattle.arena_list.proofs.Chains.{amid_there, amid_more, amid_cases, follows_distinct_head, follows_same, not_the_end, spliced_in}
 use Rattle.arena_list.proofs.Orders.{after_others}
 use Rattle.arena_list.proofs.Levels.{mapped, unmapped, version_same, ascend_same, ascend_in, level_is, level_of, within_lowest}
 use Rattle.arena_list.proofs.Cuts.{cut_last}
 use Rattle.arena_list.proofs.Free.{IsTaken, is_taken}
+use Rattle.arena_list.proofs.Tops.{top_kept, top_more}
 
 -- A place that held nothing has this version now, and is linked in after these so many levels high.
 pub record IsJoined (old new : List Node) (lasts : List ℕ) (place height : ℕ) (version : Version) : Type 0 where
@@ -322,3 +324,30 @@ module _ (old mid : List Node) (free left : FreeList) (lasts : List ℕ) (place 
             ⊎ ((free.count ≡ 0) × (left.count ≡ 0) × (length mid ≡ length old + 1)) → UsesPlace (arena_of old free.count) (arena_of new left.count)
         go (inl reused) = inl (reused.0, reused.1, omega (arith, more, reused.1))
         go (inr made) = inr (made.0, made.1, omega (arith, more, made.0, made.1))
+
+    -- the places that a search looks at first
+    pub insertion_top : (top new_top : List ℕ) (index : ℕ) → IsTop old top → IsTopCut old top key seq index → PutsInTop top index place height new_top
+        → IsTop new new_top
+    insertion_top top new_top index is cut (inl same) = subst (IsTop new) (sym same) (top_kept old new top is kept)
+      where
+        kept : (x : ℕ) → Contains top x → (version_at new x ≡ version_at old x) × Contains (places_on new (LEVELS - 1)) x
+        kept x h = (
+          version_kept old new lasts place height (version_with key seq value) arena.linked cuts absent joins x
+              (apart old new lasts place height (version_with key seq value) arena.linked cuts absent joins (LEVELS - 1) x (omega arith) (is.linked x h)),
+          joined_more old new lasts place height (version_with key seq value) arena.linked cuts absent joins (LEVELS - 1) x (omega arith) (is.linked x h),
+        )
+    insertion_top top new_top index is cut (inr (high, more)) = subst (IsTop new) (sym more)
+        (top_more old new top is place (version_with key seq value) index cut kept joins.is
+        (joined_here old new lasts place height (version_with key seq value) arena.linked cuts absent joins (LEVELS - 1) (omega arith) (omega (arith, high)))
+        (λ x h at. absent (
+          version_at old x,
+          mapped (version_at old) (places_on old 0) x (within_lowest old arena.linked (LEVELS - 1) x (omega arith) (is.linked x h)),
+          at,
+        )))
+      where
+        kept : (x : ℕ) → Contains top x → (version_at new x ≡ version_at old x) × Contains (places_on new (LEVELS - 1)) x
+        kept x h = (
+          version_kept old new lasts place height (version_with key seq value) arena.linked cuts absent joins x
+              (apart old new lasts place height (version_with key seq value) arena.linked cuts absent joins (LEVELS - 1) x (omega arith) (is.linked x h)),
+          joined_more old new lasts place height (version_with key seq value) arena.linked cuts absent joins (LEVELS - 1) x (omega arith) (is.linked x h),
+        )

@@ -1,5 +1,5 @@
 -- One place less, linked out of each level and put on the free list.
-use Rattle.std.proofs.Common.{◌≡◌, ◌≢◌, inl, inr, ℕ, ◌+◌, ◌<◌, true, false, List, [], ◌∷◌, ◌++◌, length, Contains, refl, sym, ap, ◌∙◌, subst, arith, slice_index, length-append}
+use Rattle.std.proofs.Common.{◌≡◌, ◌≢◌, inl, inr, ℕ, ◌+◌, ◌-◌, ◌<◌, true, false, List, [], ◌∷◌, ◌++◌, length, Contains, refl, sym, ap, ◌∙◌, subst, arith, slice_index, length-append}
 use Rattle.std.proofs.lemmas.Bool.{cases_eq}
 use Rattle.std.proofs.lemmas.List.{length-map}
 use Rattle.std.proofs.lemmas.List.Elements.{Contains-append_cases}
@@ -11,10 +11,12 @@ use Rattle.arena_list.specs.Arena.{places_in}
 use Rattle.arena_list.specs.Chains.{LeadsAlong, last_of}
 use Rattle.arena_list.specs.Nodes.{is_vacant, node_at, version_at, next_on, places_on, versions_on, arena_of, AscendPlaces, HasNode, IsLevel, IsLinked, AreFree, IsArena}
 use Rattle.arena_list.specs.Steps.{IsCut, AreCuts, AreWithin, TakesOut}
+use Rattle.arena_list.specs.Tops.{IsTop, IsTopCut, TakesFromTop}
 use Rattle.arena_list.proofs.Chains.{amid_more, amid_cases, distinct_out, follows_distinct, follows_distinct_head, follows_same, last_cases, not_the_end, spliced_out}
 use Rattle.arena_list.proofs.Orders.{never_before_itself}
 use Rattle.arena_list.proofs.Levels.{mapped, unmapped, version_same, ascend_same, ascend_out, ascend_back, ascend_apart, level_is, level_of}
 use Rattle.arena_list.proofs.Cuts.{cut_last, follows_cut}
+use Rattle.arena_list.proofs.Tops.{top_less}
 
 -- The places of a level with one of them left out.
 pub record LeavesPlace (old new : List Node) (level place : ℕ) : Type 0 where
@@ -288,3 +290,14 @@ module _ (old new : List Node) (lasts : List ℕ) (place first count : ℕ) (key
         length-map (places_on new 0) (version_at new),
         length-map (places_on old 0) (version_at old),
       )
+
+  -- the places that a search looks at first
+  pub removal_top : (top left_top : List ℕ) (index : ℕ) → IsTop old top → IsTopCut old top key seq index → TakesFromTop top index place left_top
+      → TakesOut old lasts place first new → IsTop new left_top
+  removal_top top left_top index is cut drops left = top_less old new top is place index left_top
+      (subst (λ (k : List ℕ). IsTopCut old top k (version_at old place).number index) (sym at.0)
+      (subst (λ (n : ℕ). IsTopCut old top key n index) (sym at.1) cut)) drops
+      (λ x h other. (
+        version_kept old new lasts place first arena.linked own_cuts held left x other,
+        left_more old new lasts place first arena.linked own_cuts held left (LEVELS - 1) x (omega arith) (is.linked x h) other,
+      ))

@@ -3,6 +3,7 @@ mod Chains
 mod Orders
 mod Levels
 mod Cuts
+mod Tops
 mod Free
 mod Joined
 mod Left

@@ -4,3 +4,4 @@ pub mod Arena
 pub mod Chains
 pub mod Nodes
 pub mod Steps
+pub mod Tops

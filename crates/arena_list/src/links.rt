@@ -4,19 +4,19 @@ ghost use Rattle.std.specs.Prelude.{◌≡◌, ◌≢◌, ℕ, ◌+◌, ◌^◌,
 ghost use Rattle.arena_list.specs.Nodes.{next_on, AreFree};
 ghost use Rattle.arena_list.specs.Steps.{AreWithin, AreOtherPlaces, LinksIn, LinksOut, TakesPlace, PutsIn, TakesOut};
 
-use crate::node::{Held, LEVELS, Node};
+use crate::node::{Held, LEVELS, Node, Place};
 use wal_base::NoMemory;
 
 /// The free places, linked at level 0.
 #[derive(Drop)]
 pub(crate) struct FreeList {
     /// The first one's place, and 0 where there is none.
-    pub(crate) first: u32,
+    pub(crate) first: Place,
     pub(crate) count: usize,
 }
 
 /// The links of a new node that follows these nodes, so many levels high.
-fn links_after(nodes: &[Node], lasts: &[u32; LEVELS], height: usize) -> [u32; LEVELS]
+fn links_after(nodes: &[Node], lasts: &[Place; LEVELS], height: usize) -> [Place; LEVELS]
     requires height { height ≤ LEVELS }
     requires within { AreWithin nodes.now lasts.now }
     ensures { (level : ℕ) → level < height
@@ -30,7 +30,7 @@ fn links_after(nodes: &[Node], lasts: &[u32; LEVELS], height: usize) -> [u32; LE
 }
 
 /// Makes these nodes lead on to a place, so many levels high.
-fn link_in(nodes: &mut [Node], lasts: &[u32; LEVELS], place: u32, height: usize)
+fn link_in(nodes: &mut [Node], lasts: &[Place; LEVELS], place: Place, height: usize)
     requires height { height ≤ LEVELS }
     requires within { AreWithin nodes.old lasts.now }
     ensures { LinksIn nodes.old lasts.now place height nodes.new }
@@ -42,7 +42,7 @@ fn link_in(nodes: &mut [Node], lasts: &[u32; LEVELS], place: u32, height: usize)
 }
 
 /// Makes these nodes lead on to what follows a place, on each level where they lead on to it.
-fn link_out(nodes: &mut [Node], lasts: &[u32; LEVELS], place: u32)
+fn link_out(nodes: &mut [Node], lasts: &[Place; LEVELS], place: Place)
     requires within { AreWithin nodes.old lasts.now }
     requires place { place < length nodes.old }
     ensures { LinksOut nodes.old lasts.now place LEVELS nodes.new }
@@ -70,7 +70,7 @@ fn reserve_one(nodes: &mut Vec<Node>) -> Result<(), NoMemory>
 }
 
 /// Takes a place off the free list, or makes a new one where there is none. Its node holds nothing.
-pub(crate) fn take_place(nodes: &mut Vec<Node>, free: &mut FreeList) -> Result<u32, NoMemory>
+pub(crate) fn take_place(nodes: &mut Vec<Node>, free: &mut FreeList) -> Result<Place, NoMemory>
     requires free { (frees : List ℕ) × AreFree nodes.old.items free.old.first free.old.count frees }
     requires few { vec_len nodes.old < 2 ^ 32 }
     ensures taken { IfOk result
@@ -91,14 +91,14 @@ pub(crate) fn take_place(nodes: &mut Vec<Node>, free: &mut FreeList) -> Result<u
     }
     reserve_one(nodes)?;
     nodes.push_reserved(Node::vacant(0));
-    Ok(place as u32)
+    Ok(place as Place)
 }
 
 /// Puts a version into a place, and links it in after these nodes, so many levels high.
 pub(crate) fn put_in(
     nodes: &mut [Node],
-    lasts: &[u32; LEVELS],
-    place: u32,
+    lasts: &[Place; LEVELS],
+    place: Place,
     height: usize,
     held: Held,
     seq: u64,
@@ -115,7 +115,7 @@ pub(crate) fn put_in(
 }
 
 /// Links a place out, lets go what it holds, and makes it lead on to the first free place.
-pub(crate) fn take_out(nodes: &mut [Node], lasts: &[u32; LEVELS], place: u32, first: u32)
+pub(crate) fn take_out(nodes: &mut [Node], lasts: &[Place; LEVELS], place: Place, first: Place)
     requires within { AreWithin nodes.old lasts.now }
     requires place { place < length nodes.old }
     ensures { TakesOut nodes.old lasts.now place first nodes.new }

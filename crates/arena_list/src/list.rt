@@ -8,8 +8,9 @@ ghost use Rattle.arena_list.specs.Arena.{on_level, places_in, UsesPlace};
 
 use crate::found::Found;
 use crate::links::{FreeList, put_in, take_out, take_place};
-use crate::node::{Held, LEVELS, Node};
-use crate::search::{find, seek};
+use crate::node::{Held, LEVELS, Node, Place};
+use crate::search::find;
+use crate::top::{find_spot, put_in_top, take_from_top};
 use crate::walk::Walk;
 use std::alloc::Global;
 use std::marker::Model;
@@ -23,6 +24,8 @@ const FIRST_ROOM: usize = 4;
 #[derive(Drop)]
 pub struct ArenaList {
     nodes: Vec<Node>,
+    /// Places that are linked at the top level, in order, where a search begins.
+    top: Vec<Place>,
     free: FreeList,
     /// How many insertions there were.
     inserted: u64,
@@ -31,12 +34,14 @@ pub struct ArenaList {
 impl Model for ArenaList {
     ghost use Rattle.arena_list.specs.Arena.{Arena};
     ghost use Rattle.arena_list.specs.Nodes.{arena_of, IsArena};
+    ghost use Rattle.arena_list.specs.Tops.{IsTop};
 
     ghost Value = { Arena };
 
     ghost view = { λ a. arena_of a.nodes.items a.free.count };
 
-    ghost invariant = { λ a. IsArena a.nodes.items a.free.first a.free.count };
+    ghost invariant = { λ a. IsArena a.nodes.items a.free.first a.free.count
+        × IsTop a.nodes.items a.top.items };
 }
 
 /// The height of the tower of the n-th insertion: 1 plus the number of trailing zero bits of n, at most `LEVELS`.
@@ -57,6 +62,7 @@ impl ArenaList {
         nodes.push(Node::vacant(0))?;
         Ok(ArenaList {
             nodes,
+            top: Vec::new(alloc),
             free: FreeList { first: 0, count: 0 },
             inserted: 0,
         })
@@ -78,14 +84,27 @@ impl ArenaList {
         ensures back { IfErr result (λ back. back ≡ (key, value)) }
         ensures unchanged { OnErr result (self.new ≡ self.old) }
     {
-        let lasts = seek(self.nodes.as_slice(), key.as_slice(), seq);
+        let spot = find_spot(
+            self.nodes.as_slice(),
+            self.top.as_slice(),
+            key.as_slice(),
+            seq,
+        );
         let Ok(place) = take_place(&mut self.nodes, &mut self.free) else {
             return Err((key, value));
         };
         self.inserted = self.inserted.wrapping_add(1);
         let height = tower_height(self.inserted);
         let held = Held::new(key, value);
-        put_in(self.nodes.as_mut_slice(), &lasts, place, height, held, seq);
+        put_in(
+            self.nodes.as_mut_slice(),
+            &spot.lasts,
+            place,
+            height,
+            held,
+            seq,
+        );
+        put_in_top(&mut self.top, spot.index, place, height);
         Ok(())
     }
 
@@ -97,8 +116,8 @@ impl ArenaList {
             return Found::Nothing;
         };
         let nodes = self.nodes.as_slice();
-        let lasts = seek(nodes, key, number);
-        let place = nodes[lasts[0] as usize].links[0];
+        let spot = find_spot(nodes, self.top.as_slice(), key, number);
+        let place = nodes[spot.lasts[0] as usize].links[0];
         if place == 0 || !nodes[place as usize].has_key(key) {
             return Found::Nothing;
         }
@@ -133,11 +152,17 @@ impl ArenaList {
         ensures places { places_in self.new ≡ places_in self.old }
         ensures unchanged { OnFalse result (self.new ≡ self.old) }
     {
-        let lasts = seek(self.nodes.as_slice(), key, seq);
-        let Some(place) = find(self.nodes.as_slice(), &lasts, key, seq) else {
+        let spot = find_spot(self.nodes.as_slice(), self.top.as_slice(), key, seq);
+        let Some(place) = find(self.nodes.as_slice(), &spot.lasts, key, seq) else {
             return false;
         };
-        take_out(self.nodes.as_mut_slice(), &lasts, place, self.free.first);
+        take_out(
+            self.nodes.as_mut_slice(),
+            &spot.lasts,
+            place,
+            self.free.first,
+        );
+        take_from_top(&mut self.top, spot.index, place);
         self.free.first = place;
         self.free.count += 1;
         true

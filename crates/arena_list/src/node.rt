@@ -12,6 +12,9 @@ use wal_base::Blob;
 /// How many levels a list has. The lowest one is level 0.
 pub const LEVELS: usize = 12;
 
+/// Where a node stands in the vector of them. Place 0 is the head's: as a link it stands for the end.
+pub(crate) type Place = u32;
+
 /// What a node holds.
 #[derive(Drop)]
 pub(crate) enum Held {
@@ -24,8 +27,8 @@ pub(crate) enum Held {
 /// A node, which has a place in the vector of them.
 #[derive(Drop)]
 pub(crate) struct Node {
-    /// For each level the place of the next node there. Place 0 is the head's, and stands for the end.
-    pub(crate) links: [u32; LEVELS],
+    /// For each level the place of the next node there.
+    pub(crate) links: [Place; LEVELS],
     pub(crate) held: Held,
     pub(crate) seq: u64,
 }
@@ -58,7 +61,7 @@ impl Held {
 
 impl Node {
     /// A node that holds nothing, and leads on to this place at level 0.
-    pub(crate) fn vacant(next: u32) -> Node
+    pub(crate) fn vacant(next: Place) -> Node
         ensures vacant { is_vacant result.held ≡ true }
         ensures next { slice_index result.links 0 ≡ next }
         ensures others { (level : ℕ) → 0 < level → slice_index result.links level ≡ 0 }

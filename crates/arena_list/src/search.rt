@@ -1,17 +1,17 @@
 //! The search for where a version stands, from the top level down.
 
-ghost use Rattle.std.specs.Prelude.{◌≡◌, ◌<◌, length, IfSome, IfNone, Contains};
+ghost use Rattle.std.specs.Prelude.{◌≡◌, ◌-◌, ◌<◌, length, IfSome, IfNone, Contains};
 ghost use Rattle.arena_list.specs.Nodes.{next_on, places_on, version_at, versions_on, IsLinked};
 ghost use Rattle.arena_list.specs.Versions.{IsAt, HoldsVersion};
 ghost use Rattle.arena_list.specs.Steps.{IsCut, MayGoOn, MayStop, AreCuts};
 
-use crate::node::{LEVELS, Node};
+use crate::node::{LEVELS, Node, Place};
 
 /// Where a search of one level stopped: the last node that goes before what is sought, and the node after it.
 #[derive(Clone, Copy)]
 pub(crate) struct Stop {
-    pub(crate) last: u32,
-    pub(crate) next: u32,
+    pub(crate) last: Place,
+    pub(crate) next: Place,
 }
 
 /// Goes on along one level, from where the level above stopped. The node where that one stopped is not compared again.
@@ -33,14 +33,17 @@ fn seek_on_level(nodes: &[Node], level: usize, from: Stop, key: &[u8], number: u
     Stop { last, next }
 }
 
-/// For each level the last node there that goes before the version of a key and a number.
-pub(crate) fn seek(nodes: &[Node], key: &[u8], number: u64) -> [u32; LEVELS]
+/// For each level the last node there that goes before the version of a key and a number. It begins along the top level
+/// between two places.
+pub(crate) fn seek(nodes: &[Node], from: Stop, key: &[u8], number: u64) -> [Place; LEVELS]
     requires head { 0 < length nodes.now }
     requires linked { IsLinked nodes.now }
+    requires last { MayGoOn nodes.now (LEVELS - 1) key.now number from.last }
+    requires next { MayStop nodes.now key.now number from.next }
     ensures { AreCuts nodes.now key.now number result }
 {
     let mut lasts = [0; LEVELS];
-    let mut stop = Stop { last: 0, next: 0 };
+    let mut stop = from;
     let mut level = LEVELS;
     while level > 0 {
         level -= 1;
@@ -52,7 +55,12 @@ pub(crate) fn seek(nodes: &[Node], key: &[u8], number: u64) -> [u32; LEVELS]
 
 /// The place of the version with this key and number, which these are the last nodes before. `None` exactly where it is
 /// not held.
-pub(crate) fn find(nodes: &[Node], lasts: &[u32; LEVELS], key: &[u8], number: u64) -> Option<u32>
+pub(crate) fn find(
+    nodes: &[Node],
+    lasts: &[Place; LEVELS],
+    key: &[u8],
+    number: u64,
+) -> Option<Place>
     requires head { 0 < length nodes.now }
     requires linked { IsLinked nodes.now }
     requires cuts { AreCuts nodes.now key.now number lasts.now }

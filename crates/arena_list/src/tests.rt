@@ -189,6 +189,30 @@ fn one_key_has_many_versions_again_and_again(rt: HostRuntime) {
     }
 }
 
+/// As many versions as one key is asked to have.
+const MOST: u64 = 100_000;
+
+#[test]
+fn one_key_has_a_hundred_thousand_versions(rt: HostRuntime) {
+    let mut rig = Rig::new(&rt, rt.alloc());
+    for k in 0..MOST {
+        let key = blob(&rt, rt.alloc(), b"key");
+        let held = rig.list.remove(b"key", k);
+        assert!(&rt; !held);
+        assert!(&rt; rig.list.insert(key, k, None).is_ok());
+    }
+    rig.has_places(&rt, 100_000, 0);
+    for k in [1, 2, 617, 50_000, 99_999, 100_000] {
+        assert_eq!(&rt; rig.list.newest(b"key", k), Found::Gone { seq: k - 1 });
+    }
+    let mut below = MOST;
+    for version in rig.list.walk() {
+        assert_eq!(&rt; Some(version.seq), below.checked_sub(1));
+        below = version.seq;
+    }
+    assert_eq!(&rt; below, 0);
+}
+
 /// Numbers that look random: those of a linear congruential generator.
 #[derive(Drop)]
 struct Dice(u64);

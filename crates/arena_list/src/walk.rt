@@ -5,7 +5,7 @@ ghost use Rattle.std.specs.Iterator.{YieldsFirstBy, item_count};
 ghost use Rattle.arena_list.specs.Versions.{version_shown};
 ghost use Rattle.arena_list.specs.Nodes.{versions_on, IsLinked};
 
-use crate::node::{LEVELS, Node};
+use crate::node::{LEVELS, Node, Place};
 use crate::version::Version;
 use std::marker::Model;
 
@@ -14,7 +14,7 @@ use std::marker::Model;
 pub struct Walk<'a> {
     nodes: &'a [Node],
     level: usize,
-    at: u32,
+    at: Place,
 }
 
 impl<'a> Model for Walk<'a> {

@@ -3,6 +3,8 @@ use Rattle.std.proofs.Common.{◌≡◌, ℕ, ◌<◌, List, [], ◌∷◌, ◌+
 use Rattle.std.proofs.lemmas.Bool.{cases_eq}
 use Rattle.arena_list.specs.declared.node.Node.{Node}
 use Rattle.arena_list.specs.Nodes.{versions_on, IsArena}
+use Rattle.arena_list.specs.Tops.{IsTop}
+use Rattle.arena_list.proofs.Tops.{no_top}
 use Rattle.arena_list.proofs.Arenas.{alone_arena, alone_empty}
 use Rattle.arena_list.proofs.list.ArenaList.new.Goals as goal
 
@@ -16,9 +18,11 @@ no_links node first others level = elim (cases_eq level 0) [
 pub invariant_of-result : goal.invariant_of-result
 invariant_of-result c =
     let is : c.push.new.self.items ≡ c.vacant.result ∷ [] =
-    c.in_ok-push.ensures.items ∙ ap (λ (l : List Node). l ++ c.vacant.result ∷ []) c.in_ok-nodes.ensures.items in
-    subst (λ (nodes : List Node). IsArena nodes 0 0) (sym is)
-    (alone_arena c.vacant.result (no_links c.vacant.result c.vacant.ensures.next c.vacant.ensures.others))
+    c.in_ok-push.ensures.items ∙ ap (λ (l : List Node). l ++ c.vacant.result ∷ []) c.in_ok-nodes.ensures.items in (
+      subst (λ (nodes : List Node). IsArena nodes 0 0) (sym is)
+          (alone_arena c.vacant.result (no_links c.vacant.result c.vacant.ensures.next c.vacant.ensures.others)),
+      subst (IsTop c.push.new.self.items) (sym c.new.ensures.items) (no_top c.push.new.self.items),
+    )
 
 pub returns-clause-versions : goal.returns-clause-versions
 returns-clause-versions c =

@@ -11,37 +11,37 @@ use Rattle.arena_list.proofs.Arenas.{LandsAt, lands_at, lands_on_newest, lands_o
 use Rattle.arena_list.proofs.list.ArenaList.newest.Goals as goal
 use Rattle.arena_list.proofs.list.ArenaList.newest.Goals.{then-place-eq0-via-then-place-eq0, then-place-eq0-via-else-place-eq0+then-not-has_key}
 
-pub bounds-nodes-lasts : goal.bounds-nodes-lasts
-bounds-nodes-lasts c =
+pub bounds-nodes-spot : goal.bounds-nodes-spot
+bounds-nodes-spot c =
     let is : c.as_slice-nodes.result.now ≡ c.self.inside.nodes.items = c.as_slice-nodes.ensures.value in
-    let some : 0 < length c.as_slice-nodes.result.now = omega (arith, c.self.invariant.all, ap length is) in
-    (lands_at c.as_slice-nodes.result.now c.args.key.now c.in-Some.number (slice_index c.seek-lasts.result 0) no_node
-    (subst IsLinked (sym is) c.self.invariant.linked) some (c.seek-lasts.ensures 0 (omega arith))).within
+    let some : 0 < length c.as_slice-nodes.result.now = omega (arith, c.self.invariant.0.all, ap length is) in
+    (lands_at c.as_slice-nodes.result.now c.args.key.now c.in-Some.number (slice_index c.find_spot-spot.result.lasts 0) no_node
+    (subst IsLinked (sym is) c.self.invariant.0.linked) some (c.find_spot-spot.ensures.lasts 0 (omega arith))).within
 
 pub bounds-nodes-place : goal.bounds-nodes-place
 bounds-nodes-place c =
     let is : c.as_slice-nodes.result.now ≡ c.self.inside.nodes.items = c.as_slice-nodes.ensures.value in
-    let some : 0 < length c.as_slice-nodes.result.now = omega (arith, c.self.invariant.all, ap length is) in
-    (lands_at c.as_slice-nodes.result.now c.args.key.now c.in-Some.number (slice_index c.seek-lasts.result 0) c.index-nodes-lasts.result
-    (subst IsLinked (sym is) c.self.invariant.linked) some (c.seek-lasts.ensures 0 (omega arith))).below c.if-place-eq0.false
+    let some : 0 < length c.as_slice-nodes.result.now = omega (arith, c.self.invariant.0.all, ap length is) in
+    (lands_at c.as_slice-nodes.result.now c.args.key.now c.in-Some.number (slice_index c.find_spot-spot.result.lasts 0) c.index-nodes-spot.result
+    (subst IsLinked (sym is) c.self.invariant.0.linked) some (c.find_spot-spot.ensures.lasts 0 (omega arith))).below c.if-place-eq0.false
 
 pub bounds-nodes-place-2 : goal.bounds-nodes-place-2
 bounds-nodes-place-2 c =
     let is : c.as_slice-nodes.result.now ≡ c.self.inside.nodes.items = c.as_slice-nodes.ensures.value in
-    let some : 0 < length c.as_slice-nodes.result.now = omega (arith, c.self.invariant.all, ap length is) in
-    (lands_at c.as_slice-nodes.result.now c.args.key.now c.in-Some.number (slice_index c.seek-lasts.result 0) c.index-nodes-lasts.result
-    (subst IsLinked (sym is) c.self.invariant.linked) some (c.seek-lasts.ensures 0 (omega arith))).below c.if-place-eq0.false
+    let some : 0 < length c.as_slice-nodes.result.now = omega (arith, c.self.invariant.0.all, ap length is) in
+    (lands_at c.as_slice-nodes.result.now c.args.key.now c.in-Some.number (slice_index c.find_spot-spot.result.lasts 0) c.index-nodes-spot.result
+    (subst IsLinked (sym is) c.self.invariant.0.linked) some (c.find_spot-spot.ensures.lasts 0 (omega arith))).below c.if-place-eq0.false
 
 pub returns-then-place-eq0 : goal.returns-then-place-eq0
 returns-then-place-eq0 c =
     let nodes = c.as_slice-nodes.result.now in
     let is : nodes ≡ c.self.inside.nodes.items = c.as_slice-nodes.ensures.value in
-    let some : 0 < length nodes = omega (arith, c.self.invariant.all, ap length is) in
-    let linked : IsLinked nodes = subst IsLinked (sym is) c.self.invariant.linked in
-    let last = slice_index c.seek-lasts.result 0 in
-    let cut = c.seek-lasts.ensures 0 (omega arith) in
-    let lands : LandsAt nodes last c.index-nodes-lasts.result =
-    lands_at nodes c.args.key.now c.in-Some.number last c.index-nodes-lasts.result linked some cut in
+    let some : 0 < length nodes = omega (arith, c.self.invariant.0.all, ap length is) in
+    let linked : IsLinked nodes = subst IsLinked (sym is) c.self.invariant.0.linked in
+    let last = slice_index c.find_spot-spot.result.lasts 0 in
+    let cut = c.find_spot-spot.ensures.lasts 0 (omega arith) in
+    let lands : LandsAt nodes last c.index-nodes-spot.result =
+    lands_at nodes c.args.key.now c.in-Some.number last c.index-nodes-spot.result linked some cut in
     let below : c.in-Some.number + 1 ≡ c.args.below = omega arith in
     subst (λ (a : Arena). HasNoneBelow a.versions c.args.key.now c.args.below)
     (ap (λ (ns : List Node). arena_of ns c.self.inside.free.count) is ∙ c.self.view_is)
@@ -51,7 +51,7 @@ returns-then-place-eq0 c =
       | then-place-eq0-via-then-place-eq0 w ↦ inl w.if-place-eq0.true
       | then-place-eq0-via-else-place-eq0+then-not-has_key w ↦ inr (λ same. iff_false w.has_key.ensures w.if-not-has_key.true
           (ap (λ (v : Version). v.key)
-          (version_read nodes (slice_index (slice_index_or nodes last c.index-nodes-lasts.result).links 0) w.index-nodes-place.result w.index-nodes-place.is
+          (version_read nodes (slice_index (slice_index_or nodes last c.index-nodes-spot.result).links 0) w.index-nodes-place.result w.index-nodes-place.is
           (lands.below w.if-place-eq0.false)) ∙ same))
     ])))
 
@@ -59,13 +59,13 @@ pub returns : goal.returns
 returns c =
     let nodes = c.as_slice-nodes.result.now in
     let is : nodes ≡ c.self.inside.nodes.items = c.as_slice-nodes.ensures.value in
-    let some : 0 < length nodes = omega (arith, c.self.invariant.all, ap length is) in
-    let linked : IsLinked nodes = subst IsLinked (sym is) c.self.invariant.linked in
-    let last = slice_index c.seek-lasts.result 0 in
-    let cut = c.seek-lasts.ensures 0 (omega arith) in
-    let lands : LandsAt nodes last c.index-nodes-lasts.result =
-    lands_at nodes c.args.key.now c.in-Some.number last c.index-nodes-lasts.result linked some cut in
-    let place = slice_index (slice_index_or nodes last c.index-nodes-lasts.result).links 0 in
+    let some : 0 < length nodes = omega (arith, c.self.invariant.0.all, ap length is) in
+    let linked : IsLinked nodes = subst IsLinked (sym is) c.self.invariant.0.linked in
+    let last = slice_index c.find_spot-spot.result.lasts 0 in
+    let cut = c.find_spot-spot.ensures.lasts 0 (omega arith) in
+    let lands : LandsAt nodes last c.index-nodes-spot.result =
+    lands_at nodes c.args.key.now c.in-Some.number last c.index-nodes-spot.result linked some cut in
+    let place = slice_index (slice_index_or nodes last c.index-nodes-spot.result).links 0 in
     let within : place < length nodes = lands.below c.if-place-eq0.false in
     let one : Version = version_in c.index-nodes-place-2.result in
     let at : one ≡ version_at nodes place = version_read nodes place c.index-nodes-place-2.result c.index-nodes-place-2.is within in

@@ -8,9 +8,9 @@ use Rattle.arena_list.proofs.list.ArenaList.walk_level.Goals as goal
 pub returns-clause-ascend : goal.returns-clause-ascend
 returns-clause-ascend c =
     subst (λ (a : Arena). AscendVersions (on_level a c.args.level)) c.self.view_is
-    (level_ascends c.self.inside.nodes.items c.self.inside.free.count c.args.level c.self.invariant.linked c.requires)
+    (level_ascends c.self.inside.nodes.items c.self.inside.free.count c.args.level c.self.invariant.0.linked c.requires)
 
 pub returns-clause-some : goal.returns-clause-some
 returns-clause-some c =
     subst (λ (a : Arena). AreSomeOf (on_level a c.args.level) (on_level a (c.args.level - 1))) c.self.view_is
-    (level_some c.self.inside.nodes.items c.self.inside.free.count c.args.level c.self.invariant.linked c.requires)
+    (level_some c.self.inside.nodes.items c.self.inside.free.count c.args.level c.self.invariant.0.linked c.requires)

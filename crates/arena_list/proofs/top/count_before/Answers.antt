@@ -1,0 +1,14 @@
+-- The places are cut where the first one does not go before.
+use Rattle.std.proofs.Common.{rules}
+use Rattle.std.proofs.lemmas.List.Sorted.{IsPartitionPoint-from_clause}
+use Rattle.arena_list.specs.Tops.{is_early}
+use Rattle.arena_list.proofs.Tops.{top_parted, top_cut}
+use Rattle.arena_list.proofs.top.count_before.Goals as goal
+
+pub returns : goal.returns
+returns c =
+    let nodes = c.args.nodes.now in
+    let top = c.args.top.now in
+    top_cut nodes top c.requires.linked c.requires.top c.args.key.now c.args.number c.partition_point.result c.partition_point.ensures.bound
+    (IsPartitionPoint-from_clause (is_early nodes c.args.key.now c.args.number) _ _ c.partition_point.ensures.partitioned
+    (top_parted nodes top c.requires.linked c.requires.top c.args.key.now c.args.number) (λ a r q k. search rules))
