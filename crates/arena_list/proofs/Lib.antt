@@ -1,5 +1,6 @@
 pub mod Laws
 mod Chains
+mod Leads
 mod Orders
 mod Levels
 mod Cuts

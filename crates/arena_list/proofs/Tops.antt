@@ -1,7 +1,7 @@
 -- The places that a search looks at first.
-use Rattle.std.proofs.Common.{◌≡◌, ◌≢◌, ◌⊎◌, inl, inr, ℕ, zero, suc, ◌+◌, ◌-◌, ◌<◌, ◌≤◌, ◌&&◌, Bool, true, false, ltb, lt-ltb, List, [], ◌∷◌, ◌++◌, length, Contains, refl, sym, ap, ◌∙◌, subst, arith, get_or, take, drop, Ordering, Less, Equal, Greater}
+use Rattle.std.proofs.Common.{◌≡◌, ◌≢◌, ◌⊎◌, inl, inr, ℕ, zero, suc, ◌-◌, ◌<◌, ◌≤◌, ◌&&◌, Bool, true, false, ltb, lt-ltb, List, [], ◌∷◌, ◌++◌, length, Contains, refl, sym, ap, ◌∙◌, subst, arith, get_or, take, drop, Ordering, Less, Equal, Greater}
 use Rattle.std.specs.Ordering.{is_lt}
-use Rattle.std.specs.List.{insert, remove}
+use Rattle.std.specs.List.{insert}
 use Rattle.std.specs.List.Sorted.{IsPartitionedBy, IsPartitionPoint}
 use Rattle.std.proofs.lemmas.Bool.{cases_lt}
 use Rattle.std.proofs.lemmas.List.{take-append-drop}
@@ -12,7 +12,7 @@ use Rattle.arena_list.specs.declared.node.Node.{Node}
 use Rattle.arena_list.specs.Versions.{Version, GoesBefore, Precedes, IsAt, spot_order}
 use Rattle.arena_list.specs.Nodes.{version_at, places_on, AscendPlaces, IsLinked}
 use Rattle.arena_list.specs.Steps.{MayGoOn, MayStop}
-use Rattle.arena_list.specs.Tops.{IsTop, IsTopCut, TakesFromTop, goes_before, is_early}
+use Rattle.arena_list.specs.Tops.{IsTop, IsTopCut, TakesFromTop, is_ahead, is_early}
 use Rattle.arena_list.proofs.Chains.{amid_more, amid_cases}
 use Rattle.arena_list.proofs.Orders.{before_along, never_before_itself, after_others}
 use Rattle.arena_list.proofs.Levels.{ascend_same, ascend_across, ascend_back, ascend_in, ascend_out}
@@ -67,12 +67,12 @@ all_of false b e f = absurd cc
 early_is : (nodes : List Node) (key : List ℕ) (number p : ℕ) → is_early nodes key number p ≡ true → GoesBefore (version_at nodes p) key number
 early_is nodes key number p e =
     is_less (spot_order (version_at nodes p).key (version_at nodes p).number key number)
-    (both (ltb p (length nodes)) (goes_before (version_at nodes p) key number) e)
+    (both (ltb p (length nodes)) (is_ahead (version_at nodes p) key number) e)
 
 is_early_where : (nodes : List Node) (key : List ℕ) (number p : ℕ) → p < length nodes → GoesBefore (version_at nodes p) key number
     → is_early nodes key number p ≡ true
 is_early_where nodes key number p less g =
-    all_of (ltb p (length nodes)) (goes_before (version_at nodes p) key number) (lt-ltb p (length nodes) less) (ap is_lt g)
+    all_of (ltb p (length nodes)) (is_ahead (version_at nodes p) key number) (lt-ltb p (length nodes) less) (ap is_lt g)
 
 not_both : (a : Bool) → a ≡ true → a ≡ false → ⊥
 not_both true e f = absurd cc

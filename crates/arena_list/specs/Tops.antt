@@ -13,12 +13,12 @@ pub record IsTop (nodes : List Node) (top : List ℕ) : Type 0 where
   pub ascends : AscendPlaces nodes top
 
 -- whether a version goes before a key and a number
-abbrev pub goes_before : Version → List ℕ → ℕ → Bool
-goes_before version key number = is_lt (spot_order version.key version.number key number)
+abbrev pub is_ahead : Version → List ℕ → ℕ → Bool
+is_ahead version key number = is_lt (spot_order version.key version.number key number)
 
 -- whether a node is there, and goes before a key and a number
 abbrev pub is_early : List Node → List ℕ → ℕ → ℕ → Bool
-is_early nodes key number place = ltb place (length nodes) && goes_before (version_at nodes place) key number
+is_early nodes key number place = ltb place (length nodes) && is_ahead (version_at nodes place) key number
 
 -- So many of the places go before a key and a number, and the others do not.
 pub record IsTopCut (nodes : List Node) (top : List ℕ) (key : List ℕ) (number index : ℕ) : Type 0 where

@@ -4,7 +4,7 @@ ghost use Rattle.std.specs.Prelude.{◌≡◌, Some};
 ghost use Rattle.arena_list.specs.Nodes.{version_in};
 ghost use Rattle.arena_list.specs.Newest.{version_found};
 
-use crate::node::{Held, Node};
+use crate::node::Node;
 
 /// The newest version of a key below a number.
 #[derive(Clone, Copy, Debug, PartialEq, Eq)]
@@ -22,11 +22,11 @@ impl<'a> Found<'a> {
     pub(crate) fn one(node: &'a Node) -> Found<'a>
         ensures { version_found (version_in node.now).key result ≡ Some (version_in node.now) }
     {
-        match &node.held {
-            Held::Vacant | Held::Deletion { .. } => Found::Gone { seq: node.seq },
-            Held::Set { bytes, .. } => Found::Value {
+        match node.held.value() {
+            None => Found::Gone { seq: node.seq },
+            Some(bytes) => Found::Value {
                 seq: node.seq,
-                bytes: bytes.as_slice(),
+                bytes,
             },
         }
     }

@@ -9,6 +9,7 @@
 #![tactic(auto)]
 
 mod found;
+mod lead;
 mod links;
 mod list;
 mod node;

@@ -4,7 +4,7 @@ ghost use Rattle.std.specs.Prelude.{◌≡◌, ◌≢◌, ℕ, ◌+◌, ◌^◌,
 ghost use Rattle.arena_list.specs.Nodes.{next_on, AreFree};
 ghost use Rattle.arena_list.specs.Steps.{AreWithin, AreOtherPlaces, LinksIn, LinksOut, TakesPlace, PutsIn, TakesOut};
 
-use crate::node::{Held, LEVELS, Node, Place};
+use crate::node::{Keyed, LEVELS, Node, Place};
 use wal_base::NoMemory;
 
 /// The free places, linked at level 0.
@@ -56,14 +56,15 @@ fn link_out(nodes: &mut [Node], lasts: &[Place; LEVELS], place: Place)
     }
 }
 
-/// Makes room for one more node. It grows by a quarter, so that little of it stays empty.
+/// Makes room for one more node. It grows by an eighth, so that little of it stays empty: a long list takes at
+/// most 100 bytes a version beside the `Blob`s of its key and value.
 fn reserve_one(nodes: &mut Vec<Node>) -> Result<(), NoMemory>
     requires { vec_len nodes.old < 2 ^ 32 }
     ensures items { nodes.new.items ≡ nodes.old.items }
     ensures room { OnOk result (vec_len nodes.new < vec_capacity nodes.new) }
 {
     if nodes.len() == nodes.capacity() {
-        let more = nodes.len() / 4 + 4;
+        let more = nodes.len() / 8 + 4;
         nodes.reserve_exact(more)?;
     }
     Ok(())
@@ -100,7 +101,7 @@ pub(crate) fn put_in(
     lasts: &[Place; LEVELS],
     place: Place,
     height: usize,
-    held: Held,
+    held: Keyed,
     seq: u64,
 )
     requires height { height ≤ LEVELS }

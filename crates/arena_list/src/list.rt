@@ -8,7 +8,7 @@ ghost use Rattle.arena_list.specs.Arena.{on_level, places_in, UsesPlace};
 
 use crate::found::Found;
 use crate::links::{FreeList, put_in, take_out, take_place};
-use crate::node::{Held, LEVELS, Node, Place};
+use crate::node::{Keyed, LEVELS, Node, Place};
 use crate::search::find;
 use crate::top::{find_spot, put_in_top, take_from_top};
 use crate::walk::Walk;
@@ -95,7 +95,7 @@ impl ArenaList {
         };
         self.inserted = self.inserted.wrapping_add(1);
         let height = tower_height(self.inserted);
-        let held = Held::new(key, value);
+        let held = Keyed::new(key, value);
         put_in(
             self.nodes.as_mut_slice(),
             &spot.lasts,

@@ -1,11 +1,15 @@
 //! One node of a list.
 
-ghost use Rattle.std.specs.Prelude.{◌≡◌, ◌↔◌, ℕ, ◌<◌, true, IsTrue, slice_index};
+ghost use Rattle.std.specs.Prelude.{◌≡◌, ◌↔◌, ℕ, ◌<◌, true, IsTrue, slice_index, option_map};
+ghost use Rattle.std.specs.Ordering.{nat_cmp};
+ghost use Rattle.std.specs.Cmp.Lexicographic.{slice_cmp};
 ghost use Rattle.arena_list.specs.Versions.{IsAt, GoesBefore, version_shown};
-ghost use Rattle.arena_list.specs.Nodes.{key_of, held_of, is_vacant, version_in};
+ghost use Rattle.arena_list.specs.Nodes.{key_of, value_of, held_of, is_vacant, version_in};
 
+use crate::lead::lead;
 use crate::version::Version;
 use std::cmp::Ordering;
+use std::marker::Model;
 use std::mem::size_of;
 use wal_base::Blob;
 
@@ -24,31 +28,43 @@ pub(crate) enum Held {
     Set { key: Blob, bytes: Blob },
 }
 
+/// What a node holds, with the lead of its key beside it: most comparisons of keys end at that, and read no bytes from
+/// elsewhere. Contracts see what is held.
+#[derive(Drop)]
+pub(crate) struct Keyed {
+    lead: u64,
+    held: Held,
+}
+
+impl Model for Keyed {
+    ghost use Rattle.arena_list.specs.declared.node.Held.{Held};
+
+    ghost Value = { Held };
+
+    ghost use Rattle.std.specs.Prelude.{◌≡◌};
+    ghost use Rattle.arena_list.specs.Leads.{lead_of, AreBytes};
+    ghost use Rattle.arena_list.specs.Nodes.{key_of};
+
+    ghost view = { λ a. a.held };
+
+    ghost invariant = { λ a. (a.lead ≡ lead_of (key_of a.held)) × AreBytes (key_of a.held) };
+}
+
 /// A node, which has a place in the vector of them.
 #[derive(Drop)]
 pub(crate) struct Node {
     /// For each level the place of the next node there.
     pub(crate) links: [Place; LEVELS],
-    pub(crate) held: Held,
+    pub(crate) held: Keyed,
     pub(crate) seq: u64,
 }
 
 /// How many bytes a node takes beside those of its two `Blob`s.
-const OWN_SIZE: usize = 64;
+const OWN_SIZE: usize = 72;
 
 const _: () = prove!(size_of::<Node>() == OWN_SIZE + 2 * size_of::<Blob>());
 
 impl Held {
-    /// The version with this key and value, but for its number.
-    pub(crate) fn new(key: Blob, value: Option<Blob>) -> Held
-        ensures { result ≡ held_of key value }
-    {
-        match value {
-            None => Held::Deletion { key },
-            Some(bytes) => Held::Set { key, bytes },
-        }
-    }
-
     fn key(&self) -> &[u8]
         ensures { result.now ≡ key_of self.now }
     {
@@ -56,6 +72,75 @@ impl Held {
             Held::Vacant => &[],
             Held::Deletion { key } | Held::Set { key, .. } => key.as_slice(),
         }
+    }
+
+    fn value(&self) -> Option<&[u8]>
+        ensures { option_map (λ bytes. bytes.now) result ≡ value_of self.now }
+    {
+        match self {
+            Held::Vacant | Held::Deletion { .. } => None,
+            Held::Set { bytes, .. } => Some(bytes.as_slice()),
+        }
+    }
+}
+
+impl Keyed {
+    /// The version with this key and value, but for its number.
+    pub(crate) fn new(key: Blob, value: Option<Blob>) -> Keyed
+        ensures { result ≡ held_of key value }
+    {
+        let lead = lead(key.as_slice());
+        match value {
+            None => Keyed {
+                lead,
+                held: Held::Deletion { key },
+            },
+            Some(bytes) => Keyed {
+                lead,
+                held: Held::Set { key, bytes },
+            },
+        }
+    }
+
+    /// Holds no version.
+    fn vacant() -> Keyed
+        ensures { is_vacant result ≡ true }
+    {
+        Keyed {
+            lead: 0,
+            held: Held::Vacant,
+        }
+    }
+
+    fn key(&self) -> &[u8]
+        ensures { result.now ≡ key_of self.now }
+    {
+        self.held.key()
+    }
+
+    /// The value that its version left the key with, and `None` for a deletion.
+    pub(crate) fn value(&self) -> Option<&[u8]>
+        ensures { option_map (λ bytes. bytes.now) result ≡ value_of self.now }
+    {
+        self.held.value()
+    }
+
+    /// How its key stands to another one. The bytes of its key are read only where the leads are equal.
+    fn order(&self, key: &[u8]) -> Ordering
+        ensures { result ≡ slice_cmp nat_cmp (key_of self.now) key.now }
+    {
+        match self.lead.cmp(&lead(key)) {
+            Ordering::Less => Ordering::Less,
+            Ordering::Equal => self.held.key().cmp(key),
+            Ordering::Greater => Ordering::Greater,
+        }
+    }
+
+    /// Whether its version has this key. The bytes of its key are read only where the leads are equal.
+    fn has_key(&self, key: &[u8]) -> bool
+        ensures { IsTrue result ↔ (key_of self.now ≡ key.now) }
+    {
+        self.lead == lead(key) && self.held.key() == key
     }
 }
 
@@ -70,7 +155,7 @@ impl Node {
         links[0] = next;
         Node {
             links,
-            held: Held::Vacant,
+            held: Keyed::vacant(),
             seq: 0,
         }
     }
@@ -79,7 +164,7 @@ impl Node {
     pub(crate) fn is_before(&self, key: &[u8], number: u64) -> bool
         ensures { IsTrue result ↔ GoesBefore (version_in self.now) key.now number }
     {
-        match self.held.key().cmp(key) {
+        match self.held.order(key) {
             Ordering::Less => true,
             Ordering::Equal => number < self.seq,
             Ordering::Greater => false,
@@ -90,28 +175,24 @@ impl Node {
     pub(crate) fn has_key(&self, key: &[u8]) -> bool
         ensures { IsTrue result ↔ ((version_in self.now).key ≡ key.now) }
     {
-        self.held.key() == key
+        self.held.has_key(key)
     }
 
     /// Whether its version has this key and this number.
     pub(crate) fn is_at(&self, key: &[u8], number: u64) -> bool
         ensures { IsTrue result ↔ IsAt (version_in self.now) key.now number }
     {
-        self.seq == number && self.held.key() == key
+        self.seq == number && self.held.has_key(key)
     }
 
     /// Shows its version.
     pub(crate) fn version(&self) -> Version<'_>
         ensures { version_shown result ≡ version_in self.now }
     {
-        let value = match &self.held {
-            Held::Vacant | Held::Deletion { .. } => None,
-            Held::Set { bytes, .. } => Some(bytes.as_slice()),
-        };
         Version {
             key: self.held.key(),
             seq: self.seq,
-            value,
+            value: self.held.value(),
         }
     }
 }

@@ -365,3 +365,72 @@ fn an_insertion_that_lacks_memory_changes_nothing(rt: HostRuntime) {
         rig.has_places(&rt, held, 0);
     }
 }
+
+/// How many keys the test of near keys has.
+const NEAR: usize = 26;
+
+/// Keys of 0 to 11 bytes, many of which have the same first eight bytes, or the same but for zeros at the end.
+fn near_keys() -> [&'static [u8]; NEAR] {
+    [
+        b"abcdefgh",
+        b"",
+        b"a\0\0",
+        b"\xFF",
+        b"abcdefgh\0",
+        b"a",
+        b"abcdefghij",
+        b"\0\0\0\0\0\0\0\0",
+        b"abcdefg",
+        b"\0",
+        b"\xFF\xFF\xFF\xFF\xFF\xFF\xFF\xFF\xFF",
+        b"abcdefgi",
+        b"a\0",
+        b"abcdefgh\xFF",
+        b"abc",
+        b"hgfedcba",
+        b"abcdefghi",
+        b"\0\0\0\0\0\0\0\0\0",
+        b"\xFF\xFF\xFF\xFF\xFF\xFF\xFF\xFF",
+        b"abcd",
+        b"ab",
+        b"a\0\0\0\0\0\0\0",
+        b"abcdef",
+        b"abcde",
+        b"\xFF\0",
+        b"abcdefghijk",
+    ]
+}
+
+/// A walk shows the keys in the order of their bytes, and each of them is found.
+fn has_near_keys(rt: &impl Abort, list: &ArenaList, keys: &[&[u8]]) {
+    let mut last: Option<&[u8]> = None;
+    let mut count = 0usize;
+    for version in list.walk() {
+        assert!(rt; last < Some(version.key));
+        last = Some(version.key);
+        count = count.saturating_add(1);
+    }
+    assert_eq!(rt; count, keys.len());
+    for key in keys {
+        let Found::Value { bytes, .. } = list.newest(*key, u64::MAX) else {
+            panic!(rt; "a value");
+        };
+        assert_eq!(rt; bytes, *key);
+    }
+}
+
+#[test]
+fn keys_are_in_the_order_of_their_bytes_whatever_their_leads(rt: HostRuntime) {
+    let mut rig = Rig::new(&rt, rt.alloc());
+    let keys = near_keys();
+    for held in 0..NEAR {
+        assert_eq!(&rt; rig.list.newest(keys[held], u64::MAX), Found::Nothing);
+        rig.put(&rt, keys[held], held as u64, Some(keys[held]));
+        has_near_keys(&rt, &rig.list, &keys[..held + 1]);
+    }
+    for held in 0..NEAR {
+        assert!(&rt; rig.list.remove(keys[held], held as u64));
+        assert_eq!(&rt; rig.list.newest(keys[held], u64::MAX), Found::Nothing);
+        has_near_keys(&rt, &rig.list, &keys[held + 1..]);
+    }
+}
