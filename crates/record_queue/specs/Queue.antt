@@ -1,5 +1,5 @@
 -- What the queue of a run's records holds (docs/FORMATS.md, "The queue of records").
-use Rattle.std.specs.Prelude.{◌≡◌, ℕ, ◌+◌, ◌-◌, ◌^◌, ◌≤◌, ◌<◌, List, length, Some, slice_get, min}
+use Rattle.std.specs.Prelude.{◌≡◌, ℕ, ◌+◌, ◌-◌, ◌^◌, ◌≤◌, ◌<◌, List, length, Some, slice_get}
 use Rattle.batch_repr.specs.declared.batch.Batch.{Batch}
 
 -- what a queue holds: the records of a run from a number on (counted from 0), and how many more fit without memory
@@ -23,7 +23,3 @@ IsRecordOf queue number rec = (queue.start ≤ number) × (slice_get queue.recor
 -- where the numbers of records end
 abbrev pub NUMBERS_END : ℕ
 NUMBERS_END = 2 ^ 64 - 1
-
--- how many more fit after an end: no more than there is room for, and no more than there are numbers
-abbrev pub spare_after : ℕ → ℕ → ℕ
-spare_after end room = min room (NUMBERS_END - end)
