@@ -1,8 +1,11 @@
 //! The journal and its step.
 
 ghost use Rattle.disk_face.specs.declared.names.TheConstants.{WAL_MAX};
-ghost use Rattle.std.specs.Prelude.{◌≡◌, ◌≢◌, ◌↔◌, ◌⊎◌, ◌≤◌, ◌<◌, ◌-◌, suc, List, [], ◌∷◌, ◌++◌, length, take, drop, Option, None, Ok, MatchBool, IfOk, IfErr, IfSome, OnOk, OnErr, IsTrue};
+ghost use Rattle.std.specs.Prelude.{◌≡◌, ◌≢◌, ◌↔◌, ◌⊎◌, ◌≤◌, ◌<◌, ◌-◌, suc, List, [], ◌∷◌, ◌++◌, length, take, drop, Option, None, Some, Ok, MatchBool, IfOk, IfErr, IfSome, OnOk, OnErr, IsTrue};
 ghost use Rattle.batch_repr.specs.declared.batch.Batch.{Batch};
+ghost use Rattle.batch_repr.specs.declared.limits.TheConstants.{BATCHES_MAX};
+ghost use Rattle.record_queue.specs.Nodes.{IsFilledNode};
+ghost use Rattle.record_queue.specs.declared.node.Filled.{Filled};
 ghost use Rattle.disk_face.specs.declared.Progress.{Progress};
 ghost use Rattle.disk_face.specs.View.{files, NothingInFlight};
 ghost use Rattle.disk_face.specs.Calls.{GoesOn, Stalls};
@@ -26,7 +29,7 @@ use crate::fault::{DeadMark, JournalFault, Step};
 use batch_repr::Numbered;
 use disk_face::{Disk, Progress, SegName, Side, StallDisk};
 use log_writer::{Goal, LogWriter};
-use record_queue::RecordQueue;
+use record_queue::{RecordNode, RecordQueue};
 use stall_monitor::{MonitorView, SEGMENTS_MAX, Verdict, decide};
 use std::alloc::Global;
 use std::marker::Model;
@@ -173,6 +176,36 @@ impl<D: Disk> Journal<D> {
             self.want = len;
         }
         len
+    }
+
+    /// Does with the record and the flag of a filled node what `push` does with its own. It takes no memory, and needs
+    /// no room. A journal that is dead takes the record too, and stays dead.
+    pub fn push_node(&mut self, node: RecordNode) -> u64
+        requires filled { IsFilledNode node }
+        requires few { len self.old.state < BATCHES_MAX }
+        requires next { (f : Filled) → node ≡ Some f → f.rec.first ≡ self.old.state.next }
+        ensures len { result ≡ len self.new.state }
+        ensures pushed { (f : Filled) → node ≡ Some f → Pushes f.rec f.sync self.old.state self.new.state }
+        ensures setting { KeepsSegments self.old.state self.new.state }
+        ensures acked { acked self.new.state ≡ acked self.old.state }
+        ensures disk { self.new.disk ≡ self.old.disk }
+        ensures keeps { (f : Filled) → node ≡ Some f → AddsRecord D.tells D.view f.rec self.old self.new }
+        ensures keeps_base { KeepsBases D.tells D.view self.old self.new }
+    {
+        let Some(filled) = node.filled() else {
+            unreachable!();
+        };
+        // Each batch takes a number, and is spelled by its bytes.
+        prove!(0 < filled.rec.count());
+        prove!(12 <= filled.rec.bytes().len());
+        let (end, sync) = (filled.rec.end(), filled.sync);
+        self.next = end;
+        self.records.push_node(node);
+        let all = self.records.end();
+        if sync {
+            self.want = all;
+        }
+        all
     }
 
     /// The greatest end of what a segment has synced; 0 at first.
@@ -478,8 +511,30 @@ impl<D: Disk> Journal<D> {
         }
     }
 
+    /// Moves the records that came in nodes to where the others stand.
+    fn gather(&mut self) -> Result<(), NoMemory>
+        ensures { self.new ≡ self.old }
+    {
+        self.records.settle()
+    }
+
     /// Begins the next segment, starts the next operation, or gives up.
     fn go_on(&mut self) -> Result<(), JournalFault>
+        requires lives { self.old.state.dead ≡ None }
+        ensures went { OnOk result (stepping.ActsAfterPolls self.old.state self.new.state) }
+        ensures ended { IfErr result (EndsGoing self.old.state self.new.state) }
+        ensures keeps { KeepsRecords D.tells D.view self.old self.new }
+        ensures passes { Passes D.tells self.old.state self.new.state (D.view self.old.disk) (D.view self.new.disk) }
+        ensures goes_on { GoesOn (D.view self.old.disk) (D.view self.new.disk) }
+        ensures stalls { polls_left (D.view self.new.disk) ≡ polls_left (D.view self.old.disk) }
+        ensures asks { StartsAtMostOne (D.view self.old.disk) (D.view self.new.disk) }
+    {
+        self.gather()?;
+        self.go_on_ready()
+    }
+
+    /// The same, where no record stands in a node.
+    fn go_on_ready(&mut self) -> Result<(), JournalFault>
         requires lives { self.old.state.dead ≡ None }
         ensures went { OnOk result (stepping.ActsAfterPolls self.old.state self.new.state) }
         ensures ended { IfErr result (EndsGoing self.old.state self.new.state) }

@@ -3,12 +3,13 @@ ghost use Rattle.disk_face.specs.View.{Place, files, NothingInFlight};
 ghost use Rattle.failover_writer.specs.Ranges.{AreUnsent};
 
 use crate::{DeadMark, Journal, JournalFault, Step, a_journal_at_hand};
-use batch_repr::{BatchBuilder, NUMBER_MAX, Numbered};
+use batch_repr::{BATCHES_MAX, BatchBuilder, NUMBER_MAX, Numbered};
 use disk_face::{Disk, ScriptDisk, SegName, Side};
 use mem_disk::{CrashPick, FilePick, FilePicks, MemDisk};
+use record_queue::RecordNode;
 use std::alloc::Global;
 use std::process::Abort;
-use wal_base::{Blob, Entry};
+use wal_base::{Blob, Entry, NoMemory};
 use wal_recovery::{Mode, recover};
 
 const WAL: u64 = 1;
@@ -84,6 +85,12 @@ impl Fresh {
         }
     }
 
+    /// The same from the least number, if there is memory for it.
+    fn journal_short(self, alloc: Global) -> Option<Journal<MemDisk>> {
+        let Fresh { disk } = self;
+        Journal::start(alloc, disk, WAL, BASE, 3).ok()
+    }
+
     /// A journal of no record over a script disk over it, which leaves a segment at the first pending poll.
     fn scripted(self, rt: &impl Abort, alloc: Global) -> Journal<ScriptDisk<MemDisk>> {
         let Fresh { disk } = self;
@@ -121,6 +128,39 @@ fn push(rt: &impl Abort, alloc: Global, journal: &mut Journal<MemDisk>, digit: u
         panic!(rt; "a journal that lives");
     }
     journal.push(batch, sync);
+}
+
+/// Hands a batch over in a node, which counts it.
+fn link(
+    rt: &impl Abort,
+    journal: &mut Journal<MemDisk>,
+    mut node: RecordNode,
+    batch: Numbered,
+    sync: bool,
+) {
+    if node.filled().is_some() || batch.first() != journal.next() {
+        panic!(rt; "an empty node, and the next batch");
+    }
+    let (len, next) = (journal.len(), batch.end());
+    if len >= BATCHES_MAX {
+        panic!(rt; "few records");
+    }
+    node.fill(batch, sync);
+    assert_eq!(rt; journal.push_node(node), len + 1);
+    assert_eq!(rt; (journal.len(), journal.next()), (len + 1, next));
+}
+
+/// Hands the next batch, of one Set, over in a node.
+fn push_node(
+    rt: &impl Abort,
+    alloc: Global,
+    journal: &mut Journal<MemDisk>,
+    digit: u8,
+    sync: bool,
+) {
+    let node = RecordNode::empty(alloc).expect(rt, "memory");
+    let batch = batch_of(rt, alloc, journal.next(), digit);
+    link(rt, journal, node, batch, sync);
 }
 
 fn step(rt: &impl Abort, journal: &mut Journal<MemDisk>) -> Step {
@@ -208,6 +248,111 @@ fn a_journal_whose_syncs_fail_is_dead_for_good(rt: HostRuntime) {
     };
     assert_eq!(rt; journal.dead(), Some(mark));
     assert_eq!(rt; (journal.segments(), journal.acked()), (10, 0));
+}
+
+/// A journal of two records of which the first segment wrote one and hangs on the other. They come in nodes where that
+/// is asked for.
+fn stalled(rt: &impl Abort, alloc: Global, in_nodes: bool) -> MemDisk {
+    let mut journal = journal_of(rt, alloc, 3);
+    for (digit, sync) in [(b'1', false), (b'2', true)] {
+        if in_nodes {
+            push_node(rt, alloc, &mut journal, digit, sync);
+        } else {
+            push(rt, alloc, &mut journal, digit, sync);
+        }
+        settle(rt, &mut journal);
+        if !sync {
+            journal.stall(Side::Primary, 10);
+        }
+    }
+    assert_eq!(rt; (journal.segments(), journal.acked()), (2, 2));
+    journal.into_disk()
+}
+
+#[test]
+fn records_in_nodes_are_written_as_others_are(rt: HostRuntime) {
+    let alloc = rt.alloc();
+    for in_nodes in [false, true] {
+        let disk = stalled(&rt, alloc, in_nodes);
+        assert_sent(&rt, &disk, 0, &TWO_FRAMES);
+        assert_sent(&rt, &disk, 1, &TWO_FRAMES);
+    }
+}
+
+#[test]
+fn a_dead_journal_takes_nodes_and_stays_dead(rt: HostRuntime) {
+    let alloc = rt.alloc();
+    let mut fresh = Fresh::new(&rt, alloc);
+    for index in 0..10 {
+        fresh.fail_op(&rt, 2 + 3 * index);
+    }
+    let mut journal = fresh.journal(&rt, alloc, 3);
+    push_node(&rt, alloc, &mut journal, b'1', true);
+    let dead = Err(JournalFault::Dead {
+        side: Side::Secondary,
+        faults: 10,
+    });
+    assert_eq!(rt; journal.close(), dead);
+    let mark = journal.dead();
+    assert!(rt; mark.is_some());
+    push_node(&rt, alloc, &mut journal, b'2', true);
+    push_node(&rt, alloc, &mut journal, b'3', false);
+    assert_eq!(rt; (journal.len(), journal.next()), (3, 13));
+    assert_eq!(rt; journal.close(), dead);
+    assert_eq!(rt; (journal.dead(), journal.acked()), (mark, 0));
+    assert_sent(&rt, &journal.into_disk(), 9, &TWO_FRAMES[..28]);
+}
+
+/// The batch with this first number that sets `a` to a digit, if there is memory for it.
+fn batch_short(alloc: Global, first: u64, digit: u8) -> Result<Numbered, NoMemory> {
+    let mut builder = BatchBuilder::new(alloc)?;
+    if builder.set(b"a", &[digit]).is_err() {
+        return Err(NoMemory);
+    }
+    let Ok(batch) = builder.finish() else {
+        return Err(NoMemory);
+    };
+    if batch.count() != 1 || first >= NUMBER_MAX {
+        return Err(NoMemory);
+    }
+    Ok(batch.number(first))
+}
+
+/// Hands the next batch, of one Set, over in a node, if there is memory for the two.
+fn push_short(
+    rt: &impl Abort,
+    alloc: Global,
+    journal: &mut Journal<MemDisk>,
+    digit: u8,
+) -> Result<(), NoMemory> {
+    let batch = batch_short(alloc, journal.next(), digit)?;
+    let node = RecordNode::empty(alloc)?;
+    link(rt, journal, node, batch, false);
+    Ok(())
+}
+
+/// An allocation is refused only where that is asked for, and then once: `rt try --test --fail-alloc N`. What was
+/// refused is done at the second try, and the file has the same bytes.
+#[test]
+fn a_journal_of_nodes_that_lacks_memory_is_closed_later(rt: HostRuntime) {
+    let alloc = rt.alloc();
+    let Ok(disk) = MemDisk::new(alloc) else {
+        return;
+    };
+    let Some(mut journal) = (Fresh { disk }).journal_short(alloc) else {
+        return;
+    };
+    for digit in [b'1', b'2'] {
+        if push_short(&rt, alloc, &mut journal, digit).is_err() {
+            push_short(&rt, alloc, &mut journal, digit).expect(&rt, "memory");
+        }
+    }
+    if journal.close() == Err(JournalFault::NoMemory) {
+        assert_eq!(rt; journal.len(), 2);
+        assert_eq!(rt; journal.close(), Ok(()));
+    }
+    assert_eq!(rt; journal.acked(), 2);
+    assert_sent(&rt, &journal.into_disk(), 0, &TWO_FRAMES);
 }
 
 #[test]

@@ -7,7 +7,7 @@ use Rattle.log_writer.specs.Writer.{Writer}
 use Rattle.failover_writer.specs.State.{JournalView}
 use Rattle.failover_writer.specs.Stepping.{shown_to_monitor, Dies, IsToStay, first, none_to_begin, switches}
 use Rattle.failover_writer.proofs.Verdicts.{empty_from, verdict_from, stays_where, went_on, dies_now}
-use Rattle.failover_writer.proofs.journal.Journal.go_on.Goals as goal
+use Rattle.failover_writer.proofs.journal.Journal.go_on_ready.Goals as goal
 
 pub returns-in_ok-begin_next-clause-went : goal.returns-in_ok-begin_next-clause-went
 returns-in_ok-begin_next-clause-went g c =
