@@ -1,0 +1,4 @@
+pub mod Views
+pub mod Flows
+pub mod Passes
+pub mod Theorems
