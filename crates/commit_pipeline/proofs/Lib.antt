@@ -1,8 +1,9 @@
 pub mod Laws
 mod EndsBefore
 mod KeepsJournal
-mod Entering
-mod Tying
+mod Enters
+mod Enrols
+mod Flushing
 mod Showing
 mod Loading
 mod Opening

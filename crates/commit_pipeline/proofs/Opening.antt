@@ -3,10 +3,18 @@ use Rattle.std.proofs.Common.{◌≡◌, ◌∙◌, ℕ, ◌≤◌, Bool, List, 
 use Rattle.atomic_table.specs.Seated.{TableId}
 use Rattle.batch_repr.specs.declared.batch.Batch.{Batch}
 use Rattle.batch_repr.specs.declared.limits.TheConstants.{NUMBER_MAX}
+use Rattle.batch_repr.specs.Batches.{end_after}
 use Rattle.disk_face.specs.View.{DiskView}
 use Rattle.failover_writer.specs.State.{State, JournalView, len}
 use Rattle.failover_writer.specs.Ranges.{Stands}
 use Rattle.failover_writer.specs.Sound.{IsSoundJournal}
+use Rattle.record_flow.specs.declared.rule.FlowView.{FlowView}
+use Rattle.record_flow.specs.declared.flow.RecordFlow.{RecordFlow}
+use Rattle.record_flow.specs.declared.passes.SendPass.{SendPass}
+use Rattle.record_flow.specs.declared.passes.FlushPass.{FlushPass}
+use Rattle.record_flow.specs.Views.{send_opened, flush_opened, records_of}
+use Rattle.record_flow.specs.Passes as passes
+use Rattle.record_flow.proofs.Laws.{first_is_next}
 use Rattle.arena_list.specs.Versions.{Version}
 use Rattle.memtable_shards.specs.Versions.{AreShardsOf}
 use Rattle.commit_queue.specs.declared.pipe_table.PipeTable.{PipeTable}
@@ -14,7 +22,6 @@ use Rattle.commit_queue.specs.declared.seats.FlushSeat.{FlushSeat}
 use Rattle.commit_queue.specs.declared.seats.ProducerSeat.{ProducerSeat}
 use Rattle.commit_queue.specs.declared.seats.SessionSeat.{SessionSeat}
 use Rattle.commit_queue.specs.declared.view.View.{View}
-use Rattle.commit_queue.specs.Calls.{AwaitsBatch}
 use Rattle.commit_queue.specs.Tables.{table_id_of}
 use Rattle.commit_queue.specs.Seats.{producer_table, producer_view, flush_table, flush_seat_view}
 use Rattle.commit_queue.specs.Views.{first_view, opened_view, flush_view}
@@ -22,79 +29,134 @@ use Rattle.commit_queue.proofs.Laws.{awaits_first}
 use Rattle.commit_pipeline.specs.Openings.{Opening, IsOpened, KeepsJournal, opening_on}
 use Rattle.commit_pipeline.proofs.KeepsJournal.{opened_on, kept_opened}
 use Rattle.commit_pipeline.specs.Parts.{PartsView, FitTogether}
-use Rattle.commit_pipeline.specs.Ties.{Enrols, Flushes, IsTied}
+use Rattle.commit_pipeline.specs.Ties.{Enrols, IsNextTo, Flushes}
 
--- The producer's seat of a new table has placed nothing.
-enrols_none : (table : TableId) (opening : Opening) (shards : List (List Version)) (v : View) (placed counted : ℕ) → AreShardsOf shards opening.base
-    → opening.journal.next ≤ NUMBER_MAX → v ≡ opened_view opening.journal.next shards → placed ≡ 0 → counted ≡ 0
-    → Enrols table opening table v opening.journal.next placed counted
-enrols_none table opening shards v placed counted are within is none count =
-    subst (λ (x : View). Enrols table opening table x opening.journal.next placed counted) (sym is) record {
+-- The producer's seat of a new table has placed nothing, and nothing was sent.
+enrols_none : (table queue : TableId) (opening : Opening) (shards : List (List Version)) (v : View) (flow : FlowView) (next counted : ℕ)
+    → AreShardsOf shards opening.base → opening.journal.next ≤ NUMBER_MAX → next ≡ opening.journal.next → v ≡ opened_view opening.journal.next shards
+    → flow ≡ send_opened next → counted ≡ 0 → Enrols table queue opening table v queue flow next 0 counted
+enrols_none table queue opening shards v flow next counted are within next_is is sends count =
+    subst (λ (n : ℕ). Enrols table queue opening table v queue flow n 0 counted) (sym next_is)
+    (subst (λ (x : View). Enrols table queue opening table x queue flow opening.journal.next 0 counted) (sym is)
+    (subst (λ (x : FlowView). Enrols table queue opening table (opened_view opening.journal.next shards) queue x opening.journal.next 0 counted)
+    (sym opens) record {
       of_table = refl;
       base = refl;
       shards = are;
-      awaits = subst (AwaitsBatch (opened_view opening.journal.next shards) opening.journal.next) (sym none)
-          (awaits_first (opened_view opening.journal.next shards) opening.journal.next shards refl);
+      awaits = awaits_first (opened_view opening.journal.next shards) opening.journal.next shards refl;
       none = refl;
       none_own = refl;
       within = within;
-      few = omega (arith, none);
-      counts = count ∙ sym none;
-    }
+      few = omega arith;
+      counts = count;
+      of_queue = refl;
+      first = refl;
+      sent = refl;
+      follows = first_is_next opening.journal.next (send_opened opening.journal.next) refl;
+    }))
+  where
+    opens : flow ≡ send_opened opening.journal.next
+    opens = sends ∙ ap send_opened next_is
 
--- The flush seat of a new table has raised nothing.
-flushes_none : (tells : Bool) (table : TableId) (opening : Opening) (shards : List (List Version)) (history : List Batch) (state : State) (v : DiskView)
-    (f : View) (next answers : ℕ) → IsOpened tells opening → KeepsJournal tells opening [] state v → history ≡ []
-    → f ≡ flush_view (first_view next shards) → answers ≡ 0 → Flushes tells table opening history state v table f answers
-flushes_none tells table opening shards history state v f next answers opened keeps empty is told =
-    subst (λ (x : View). Flushes tells table opening history state v table x answers) (sym is) record {
+-- The journal has no record, and none was taken.
+next_to_none : (tells : Bool) (opening : Opening) (state : State) (flow : FlowView) → IsOpened tells opening → state ≡ opening.journal → len state ≡ 0
+    → flow ≡ flush_opened opening.journal.next → IsNextTo flow state
+unfolding end_after
+next_to_none tells opening state flow opened same none is = subst (λ (x : FlowView). IsNextTo x state) (sym is) record {
+  first = based ∙ sym (ap (λ (s : State). s.base) same);
+  next = ap (λ (s : State). s.next) same ∙ ends;
+  all = none;
+}
+  where
+    based : opening.journal.next ≡ opening.journal.base
+    based = opened.empty.next
+
+    ends : opening.journal.next ≡ end_after opening.journal.next []
+    ends = refl
+
+-- The flush seat of a new table has raised nothing, and nothing was taken.
+flushes_none : (tells : Bool) (table queue : TableId) (opening : Opening) (shards : List (List Version)) (state : State) (v : DiskView)
+    (f : View) (flow : FlowView) (next answers : ℕ) → IsOpened tells opening → KeepsJournal tells opening [] state v → state ≡ opening.journal
+    → len state ≡ 0 → f ≡ flush_view (first_view next shards) → flow ≡ flush_opened opening.journal.next → answers ≡ 0
+    → Flushes tells table queue opening state v table f queue flow answers
+flushes_none tells table queue opening shards state v f flow next answers opened keeps same none is pops told =
+    subst (λ (x : View). Flushes tells table queue opening state v table x queue flow answers) (sym is) record {
       opened = opened;
-      keeps = subst (λ (bs : List Batch). KeepsJournal tells opening bs state v) (sym empty) keeps;
+      keeps = subst (λ (x : FlowView). KeepsJournal tells opening (records_of x.taken) state v) (sym pops) keeps;
       of_table = refl;
       is_flush = refl;
       none_own = refl;
       raised = omega arith;
       alive = λ lives. told;
+      of_queue = refl;
+      first = ap (λ (x : FlowView). x.first) pops;
+      next_to = next_to_none tells opening state flow opened same none pops;
     }
 
 -- The parts fit together, and this is what they open over the journal.
-pub record FitJournal {Disk : Type 0} (view : Disk → DiskView) (journal : JournalView Disk) (opening : Opening) (id : TableId) (base : List Batch)
-    (sessions : ℕ) (table : PipeTable) (producer : ProducerSeat) (flush : FlushSeat) (seats : List SessionSeat) : Type 0 where
+pub record FitJournal {Disk : Type 0} (view : Disk → DiskView) (journal : JournalView Disk) (opening : Opening) (id queue : TableId) (base : List Batch)
+    (next sessions : ℕ) (table : PipeTable) (producer : ProducerSeat) (flush : FlushSeat) (seats : List SessionSeat) (flow : RecordFlow) (sends : SendPass)
+    (pops : FlushPass) : Type 0 where
   pub fit : FitTogether base journal.state.next sessions table producer flush seats
+  pub opens : passes.OpensFlow next flow sends pops
   pub named : table_id_of table ≡ id
+  pub queued : passes.flow_id flow ≡ queue
+  pub next_is : next ≡ journal.state.next
   pub is : opening ≡ opening_on view base journal opening.may_stall
 
 -- What a call of `Pipeline::new` asks of its parts makes them so.
-pub fits_journal : {Disk : Type 0} (view : Disk → DiskView) (journal : JournalView Disk) (opening : Opening) (id : TableId) (base : List Batch)
-    (next sessions batches answers : ℕ) (table : PipeTable) (producer : ProducerSeat) (flush : FlushSeat) (seats : List SessionSeat) (parts : PartsView)
-    → FitTogether base next sessions table producer flush seats
-    → record { base = base; next = next; sessions = sessions; table = table_id_of table; batches = batches; answers = answers } ≡ parts
-    → opening ≡ opening_on view parts.base journal opening.may_stall → parts.table ≡ id → journal.state.next ≡ parts.next
-    → FitJournal view journal opening id base sessions table producer flush seats
-fits_journal view journal opening id base next sessions batches answers table producer flush seats parts fit are opens named next_is = record {
-  fit = subst (λ (n : ℕ). FitTogether base n sessions table producer flush seats) (ap (λ (p : PartsView). p.next) are ∙ sym next_is) fit;
-  named = ap (λ (p : PartsView). p.table) are ∙ named;
-  is = opens ∙ ap (λ (p : PartsView). opening_on view p.base journal opening.may_stall) (sym are);
-}
-
--- Over a journal of no record their sides are tied.
-pub tied_at_first : {Disk : Type 0} (tells : Bool) (view : Disk → DiskView) (journal : JournalView Disk) (opening : Opening) (id : TableId)
-    (base : List Batch) (sessions : ℕ) (table : PipeTable) (producer : ProducerSeat) (flush : FlushSeat) (seats : List SessionSeat) (batches answers : ℕ)
-    → FitJournal view journal opening id base sessions table producer flush seats → len journal.state ≡ 0
-    → Stands tells journal.state (view journal.disk) → IsSoundJournal journal.state → batches ≡ 0 → answers ≡ 0
-    → IsTied tells id opening journal.state (view journal.disk) (producer_table producer) (producer_view producer) (flush_table flush)
-    (flush_seat_view flush) batches answers
-tied_at_first tells view journal opening id base sessions table producer flush seats batches answers fits empty stands sound none untold =
-    let fit = fits.fit in
-    let at = opening_on view base journal opening.may_stall in
-    let p = producer_view producer in
-    let f = flush_seat_view flush in
-    let opened = opened_on tells view base journal opening.may_stall empty fit.base_is stands sound in
-    subst (λ (o : Opening). IsTied tells id o journal.state (view journal.disk) (producer_table producer) p (flush_table flush) f batches answers)
-    (sym fits.is) record {
-      enrols = subst (λ (t : TableId). Enrols id at t p journal.state.next (len journal.state) batches) (sym (fit.producer_is.0 ∙ fits.named))
-          (enrols_none id at fit.shards p (len journal.state) batches fit.of_base fit.within fit.producer_is.1 empty none);
-      flushes = subst (λ (t : TableId). Flushes tells id at p.history journal.state (view journal.disk) t f answers) (sym (fit.flush_is.0 ∙ fits.named))
-          (flushes_none tells id at fit.shards p.history journal.state (view journal.disk) f journal.state.next answers opened (kept_opened tells at opened sound.least)
-          (ap (λ (v : View). v.history) fit.producer_is.1) fit.flush_is.1 untold);
+pub fits_journal : {Disk : Type 0} (view : Disk → DiskView) (journal : JournalView Disk) (opening : Opening) (id queue : TableId) (base : List Batch)
+    (next sessions batches answers : ℕ) (table : PipeTable) (producer : ProducerSeat) (flush : FlushSeat) (seats : List SessionSeat) (flow : RecordFlow)
+    (sends : SendPass) (pops : FlushPass) (parts : PartsView) → FitTogether base next sessions table producer flush seats
+    → passes.OpensFlow next flow sends pops
+    → record { base = base; next = next; sessions = sessions; table = table_id_of table; queue = passes.flow_id flow; batches = batches; answers = answers } ≡ parts
+    → opening ≡ opening_on view parts.base journal opening.may_stall → parts.table ≡ id → parts.queue ≡ queue → journal.state.next ≡ parts.next
+    → FitJournal view journal opening id queue base next sessions table producer flush seats flow sends pops
+fits_journal view journal opening id queue base next sessions batches answers table producer flush seats flow sends pops parts fit opens are
+    opened named queued next_is = record {
+      fit = subst (λ (n : ℕ). FitTogether base n sessions table producer flush seats) same fit;
+      opens = opens;
+      named = ap (λ (p : PartsView). p.table) are ∙ named;
+      queued = ap (λ (p : PartsView). p.queue) are ∙ queued;
+      next_is = same;
+      is = opened ∙ ap (λ (p : PartsView). opening_on view p.base journal opening.may_stall) (sym are);
     }
+  where
+    same : next ≡ journal.state.next
+    same = ap (λ (p : PartsView). p.next) are ∙ sym next_is
+
+module _ {Disk : Type 0} (tells : Bool) (view : Disk → DiskView) (journal : JournalView Disk) (opening : Opening) (id queue : TableId)
+    (base : List Batch) (next sessions : ℕ) (table : PipeTable) (producer : ProducerSeat) (flush : FlushSeat) (seats : List SessionSeat) (flow : RecordFlow)
+    (sends : SendPass) (pops : FlushPass)
+    (fits : FitJournal view journal opening id queue base next sessions table producer flush seats flow sends pops) where
+  abbrev at : Opening
+  at = opening_on view base journal opening.may_stall
+
+  -- over a journal of no record the commit side enrols nothing
+  pub enrols_at_first : (batches : ℕ) → batches ≡ 0
+      → Enrols id queue opening (producer_table producer) (producer_view producer) (passes.send_queue sends) (passes.send_view sends) next 0 batches
+  enrols_at_first batches none =
+      subst (λ (o : Opening). Enrols id queue o (producer_table producer) (producer_view producer) (passes.send_queue sends) (passes.send_view sends) next 0 batches)
+      (sym fits.is)
+      (subst (λ (t : TableId). Enrols id queue at t (producer_view producer) (passes.send_queue sends) (passes.send_view sends) next 0 batches)
+      (sym (fits.fit.producer_is.0 ∙ fits.named))
+      (subst (λ (q : TableId). Enrols id queue at id (producer_view producer) q (passes.send_view sends) next 0 batches)
+      (sym (fits.opens.sends_into ∙ fits.queued))
+      (enrols_none id queue at fits.fit.shards (producer_view producer) (passes.send_view sends) next batches fits.fit.of_base fits.fit.within fits.next_is
+      fits.fit.producer_is.1 fits.opens.sender none)))
+
+  -- and the flush side holds nothing
+  pub flushes_at_first : (answers : ℕ) → len journal.state ≡ 0 → Stands tells journal.state (view journal.disk) → IsSoundJournal journal.state
+      → answers ≡ 0
+      → Flushes tells id queue opening journal.state (view journal.disk) (flush_table flush) (flush_seat_view flush) (passes.flush_queue pops)
+      (passes.take_view pops) answers
+  flushes_at_first answers empty stands sound untold =
+      let opened = opened_on tells view base journal opening.may_stall empty fits.fit.base_is stands sound in
+      subst (λ (o : Opening). Flushes tells id queue o journal.state (view journal.disk) (flush_table flush) (flush_seat_view flush)
+      (passes.flush_queue pops) (passes.take_view pops) answers) (sym fits.is)
+      (subst (λ (t : TableId). Flushes tells id queue at journal.state (view journal.disk) t (flush_seat_view flush)
+      (passes.flush_queue pops) (passes.take_view pops) answers) (sym (fits.fit.flush_is.0 ∙ fits.named))
+      (subst (λ (q : TableId). Flushes tells id queue at journal.state (view journal.disk) id (flush_seat_view flush)
+      q (passes.take_view pops) answers) (sym (fits.opens.takes_from ∙ fits.queued))
+      (flushes_none tells id queue at fits.fit.shards journal.state (view journal.disk) (flush_seat_view flush) (passes.take_view pops) journal.state.next
+      answers opened (kept_opened tells at opened sound.least) refl empty fits.fit.flush_is.1 (fits.opens.taker ∙ ap flush_opened fits.next_is) untold)))

@@ -13,7 +13,7 @@ use Rattle.commit_queue.specs.Tells.{SeesVisible}
 use Rattle.commit_queue.specs.Calls.{AwaitsBatch, TakesIn}
 use Rattle.commit_queue.proofs.Laws.{longer_prefix, at_end_of, seen_within, sees_goes_on}
 use Rattle.commit_pipeline.specs.Numbering.{SeatGoesOn, ShowsMany, ShowsExhausted}
-use Rattle.commit_pipeline.proofs.Entering.{seat_taken_in}
+use Rattle.commit_pipeline.proofs.Enters.{seat_taken_in}
 use Rattle.commit_pipeline.proofs.IsIdleDesk.{on_both, on_call}
 
 -- the visible number was read

@@ -1,11 +1,7 @@
 -- What a session commits with, and what the calls behind the lock leave of it. Nothing of it is seen from outside.
-use Rattle.std.specs.Prelude.{◌≡◌, ◌⊎◌, ℕ, ◌+◌, ◌<◌, ◌≤◌, [], length, Result, Err, IfOk}
+use Rattle.std.specs.Prelude.{◌≡◌, ℕ, ◌+◌, ◌≤◌, [], length, Result, Err}
 use Rattle.std.specs.declared.sync.ledger.Share.{Share}
 use Rattle.atomic_table.specs.Seated.{TableId}
-use Rattle.disk_face.specs.View.{DiskView}
-use Rattle.failover_writer.specs.State.{JournalView, acked}
-use Rattle.failover_writer.specs.Stepping.{HasWork}
-use Rattle.failover_writer.specs.Remaining.{measure}
 use Rattle.failover_writer.specs.declared.fault.Step.{Step}
 use Rattle.failover_writer.specs.declared.fault.JournalFault.{JournalFault}
 use Rattle.failover_writer.specs.declared.fault.JournalFault.TheVariants as faults
@@ -38,11 +34,6 @@ known desk = desk.dead.amount + desk.told.amount
 -- A share stands for so many more.
 abbrev pub Raises : {L : Type 0} → Share L → ℕ → Share L → Type 0
 Raises old more new = (new.parts ≡ old.parts) × (new.amount ≡ old.amount + more)
-
--- A step that ends with no fault leaves fewer steps to come, where there was work; or the batch of this place is synced.
-abbrev pub FallsUnlessAcked : {Disk : Type 0} → (Disk → DiskView) → ℕ → JournalView Disk → JournalView Disk → Result Step JournalFault → Type 0
-FallsUnlessAcked view index old new answer = IfOk answer (λ step. HasWork old.state
-    → (measure new.state (view new.disk) < measure old.state (view old.disk)) ⊎ (index < acked new.state))
 
 -- A fault of the journal tells of a death, or of want of memory.
 abbrev pub TellsFault : JournalFault → Type 0

@@ -1,5 +1,5 @@
 -- What the end of a pipeline tells (docs/FORMATS.md, "Sessions beside one another").
-use Rattle.std.specs.Prelude.{◌≡◌, ◌≢◌, ℕ, ◌+◌, ◌<◌, ◌≤◌, Bool, List, [], ◌∷◌, ◌++◌, length, None, Contains}
+use Rattle.std.specs.Prelude.{◌≡◌, ◌≢◌, ℕ, ◌+◌, ◌<◌, ◌≤◌, Bool, List, [], ◌∷◌, ◌++◌, length, map, None, Contains}
 use Rattle.batch_repr.specs.declared.batch.Batch.{Batch}
 use Rattle.batch_repr.specs.declared.limits.TheConstants.{NUMBER_MAX, BATCHES_MAX}
 use Rattle.disk_face.specs.View.{DiskView}
@@ -43,10 +43,14 @@ pub record Finishes (tells : Bool) (opening : Opening) (batches : List Batch) (s
   pub small : visible ≤ NUMBER_MAX
   pub few : count ≤ BATCHES_MAX
 
--- What a pipeline ends with, for some batches.
-abbrev pub EndsPipeline : {Disk : Type 0} → Bool → (Disk → DiskView) → Opening → List Standing → JournalView Disk → ℕ → ℕ → Type 0
-EndsPipeline tells view opening ss journal visible count =
-    (batches : List Batch) × Finishes tells opening batches ss journal.state (view journal.disk) visible count
+-- the first numbers of the batches, in their order
+abbrev pub numbers_in_order : List Batch → List ℕ
+numbers_in_order batches = map (λ (b : Batch). b.first) batches
+
+-- What a pipeline ends with, for some batches: their first numbers, in order, are those of the records taken out of the queue.
+abbrev pub EndsPipeline : {Disk : Type 0} → Bool → (Disk → DiskView) → Opening → List Standing → JournalView Disk → ℕ → ℕ → List ℕ → Type 0
+EndsPipeline tells view opening ss journal visible count taken =
+    (batches : List Batch) × Finishes tells opening batches ss journal.state (view journal.disk) visible count × (taken ≡ numbers_in_order batches)
 
 -- A journal that is given up holds some batches since the opening.
 abbrev pub StillKeeps : {Disk : Type 0} → Bool → (Disk → DiskView) → Opening → JournalView Disk → Type 0

@@ -7,6 +7,7 @@ pub mod Ties
 pub mod Numbering
 pub mod Commits
 pub mod Desks
+pub mod Sides
 pub mod Waits
 pub mod Meeting
 pub mod Ending

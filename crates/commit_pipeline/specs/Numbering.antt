@@ -6,16 +6,13 @@ use Rattle.wal_base.specs.declared.entry.Entry.{Entry}
 use Rattle.batch_repr.specs.declared.batch.Batch.{Batch}
 use Rattle.batch_repr.specs.declared.limits.TheConstants.{NUMBER_MAX, BATCHES_MAX}
 use Rattle.batch_repr.specs.Batches.{count_of, end_of}
-use Rattle.disk_face.specs.View.{DiskView}
-use Rattle.failover_writer.specs.State.{State, JournalView, len, acked}
-use Rattle.failover_writer.specs.Moves.{Pushes}
+use Rattle.record_queue.specs.declared.node.Filled.{Filled}
 use Rattle.publish_core.specs.Machine.{ends}
 use Rattle.commit_queue.specs.declared.view.View.{View}
-use Rattle.commit_pipeline.specs.Openings.{Opening, KeepsJournal, IsDeadBy}
-use Rattle.commit_pipeline.specs.Logging.{LogsBatch}
 use Rattle.commit_queue.specs.Rule.{IsPrefix, numbers}
-use Rattle.commit_pipeline.specs.declared.lock.Numbering.{Numbering}
-use Rattle.commit_pipeline.specs.declared.lock.Numbering.TheVariants as case
+use Rattle.commit_pipeline.specs.Sides.{CommitView}
+use Rattle.commit_pipeline.specs.declared.commit_side.Numbering.{Numbering}
+use Rattle.commit_pipeline.specs.declared.commit_side.Numbering.TheVariants as case
 
 -- the batch of these entries, from this number on
 abbrev pub numbered : List Entry → ℕ → Batch
@@ -70,60 +67,37 @@ pub record Appends (batch : Batch) (v v' : View) : Type 0 where
   pub own : v'.seat.own ≡ v.seat.own
   pub turn : v'.seat.turn ≡ v.seat.turn
 
--- The batch was pushed, with a sync or without one, and nothing was written: the journal holds what it held since any opening, and
--- the batch after it.
-pub record LogsRecord (tells : Bool) (batch : Batch) (sync : Bool) (old new : State) (before after : DiskView) : Type 0 where
-  pub pushes : Pushes batch sync old new
-  pub same_disk : after ≡ before
-  pub holds : (opening : Opening) (batches : List Batch) → KeepsJournal tells opening batches old before
-      → KeepsJournal tells opening (batches ++ batch ∷ []) new after
-  pub lives : new.dead ≡ None
-  pub acked_is : acked new ≡ acked old
-  pub next : new.next ≡ end_of batch
-  pub one_more : len new ≡ len old + 1
-
--- So it is of the batch of these entries with the next number, and of a journal with its disk.
-abbrev pub LogsNext : {Disk : Type 0} → Bool → (Disk → DiskView) → List Entry → Bool → JournalView Disk → JournalView Disk → Type 0
-LogsNext tells view entries sync old new =
-    LogsRecord tells (numbered entries old.state.next) sync old.state new.state (view old.disk) (view new.disk)
-
 -- what a try to number a batch does to the seat
 abbrev pub Numbers : List Entry → View → Numbering → View → Type 0
 Numbers entries v (case.Done first index) v' = HoldsNumbered (numbered entries first) index v v'
-Numbers entries v (case.Busy back) v' = SeatGoesOn v v' × (v'.seat.held ≡ v.seat.held) × (back ≡ entries)
-Numbers entries v (case.Dead mark) v' = v' ≡ v
+Numbers entries v (case.Busy back node) v' = SeatGoesOn v v' × (v'.seat.held ≡ v.seat.held) × (back ≡ entries) × (node ≡ None)
 Numbers entries v (case.TooMany next) v' = ShowsMany BATCHES_MAX next v v'
 Numbers entries v (case.Exhausted next) v' = ShowsExhausted entries next v v'
-Numbers entries v case.NoMemory v' = v' ≡ v
 
--- why it came to that, by the journal as the lock was taken
-abbrev pub CausesNumbering : List Entry → State → Numbering → Type 0
-CausesNumbering entries state (case.Done first index) = (state.dead ≡ None) × (len state < BATCHES_MAX) × (first ≡ state.next) × (index ≡ len state)
-CausesNumbering entries state (case.Busy back) = state.dead ≡ None
-CausesNumbering entries state (case.Dead mark) = IsDeadBy state mark
-CausesNumbering entries state (case.TooMany next) = (state.dead ≡ None) × (len state ≡ BATCHES_MAX) × (next ≡ state.next)
-CausesNumbering entries state (case.Exhausted next) = (state.dead ≡ None) × (len state < BATCHES_MAX) × (next ≡ state.next)
-    × (NUMBER_MAX < next + count_of entries)
-CausesNumbering entries state case.NoMemory = state.dead ≡ None
+-- why it came to that, by what stood behind the commit lock as it was taken
+abbrev pub CausesNumbering : List Entry → CommitView → Numbering → Type 0
+CausesNumbering entries side (case.Done first index) = (side.placed < BATCHES_MAX) × (first ≡ side.next) × (index ≡ side.placed)
+CausesNumbering entries side (case.Busy back _) = Unit {0}
+CausesNumbering entries side (case.TooMany next) = (side.placed ≡ BATCHES_MAX) × (next ≡ side.next)
+CausesNumbering entries side (case.Exhausted next) =
+    (side.placed < BATCHES_MAX) × (next ≡ side.next) × (NUMBER_MAX < next + count_of entries)
 
--- A batch that is numbered was pushed, with a sync or without one, and then the journal was stepped as long as a step moved.
-abbrev pub LogsWhereNumbered : {Disk : Type 0} → (Disk → DiskView) → List Entry → Bool → JournalView Disk → JournalView Disk → Numbering → Type 0
-LogsWhereNumbered view entries sync old new (case.Done first index) =
-    LogsBatch entries sync old.state new.state (view old.disk) (view new.disk)
-LogsWhereNumbered view entries sync old new _ = Unit {0}
+-- the record of these entries, from this number on, to be synced or not
+abbrev pub record_of : List Entry → ℕ → Bool → Filled
+record_of entries first sync = record { rec = numbered entries first; sync = sync }
+
+-- A batch that is numbered was sent on its way to the journal after all others, with its wish for a sync; else nothing was.
+abbrev pub SendsWhereNumbered : List Entry → Bool → CommitView → CommitView → Numbering → Type 0
+SendsWhereNumbered entries sync old new (case.Done first index) = new.sent ≡ old.sent ++ record_of entries first sync ∷ []
+SendsWhereNumbered entries sync old new _ = new ≡ old
 
 -- The numbers are used up behind this one, or the batch comes back.
 abbrev pub IsExhausted : ℕ → Numbering → Type 0
 IsExhausted next (case.Exhausted told) = told ≡ next
-IsExhausted next (case.Busy back) = Unit {0}
+IsExhausted next (case.Busy back _) = Unit {0}
 IsExhausted next _ = ⊥
 
 -- so many batches more are the session's own
 abbrev pub added : Numbering → ℕ
 added (case.Done first index) = 1
 added _ = 0
-
--- so many answers more told of a death
-abbrev pub deaths : Numbering → ℕ
-deaths (case.Dead mark) = 1
-deaths _ = 0

@@ -17,13 +17,14 @@ use Rattle.commit_pipeline.specs.Openings.{EndsBefore, Opening}
 use Rattle.commit_pipeline.specs.declared.standing.Standing.{Standing}
 use Rattle.commit_pipeline.specs.Standings.{new_standing}
 
--- the parts of a pipeline: the batches before its journal's, the number after them, how many sessions, the table, and the names and
--- the parts of both ledgers
+-- the parts of a pipeline: the batches before its journal's, the number after them, how many sessions, the table, the queue, and the
+-- names of both ledgers
 pub record PartsView : Type 0 where
   pub base : List Batch
   pub next : ℕ
   pub sessions : ℕ
   pub table : TableId
+  pub queue : TableId
   pub batches : ℕ
   pub answers : ℕ
 

@@ -1,22 +1,23 @@
--- What holds behind the lock whenever it is free. Nothing of it is seen from outside.
-use Rattle.std.specs.Prelude.{◌≡◌, ℕ, ◌≤◌, Bool, true, List, [], None}
-use Rattle.std.specs.declared.sync.ledger.Book.{Book}
+-- What holds behind each of the two locks whenever it is free. Nothing of it is seen from outside.
+use Rattle.std.specs.Prelude.{◌≡◌, ℕ, ◌≤◌, Bool, true, [], None, length}
 use Rattle.std.specs.declared.sync.ledger.Share.{Share}
 use Rattle.atomic_table.specs.Seated.{TableId}
-use Rattle.batch_repr.specs.declared.batch.Batch.{Batch}
 use Rattle.batch_repr.specs.declared.limits.TheConstants.{NUMBER_MAX, BATCHES_MAX}
+use Rattle.batch_repr.specs.Batches.{end_after}
 use Rattle.disk_face.specs.View.{DiskView}
-use Rattle.failover_writer.specs.State.{State, JournalView, len, acked}
+use Rattle.failover_writer.specs.State.{State, len, acked}
 use Rattle.memtable_shards.specs.Versions.{AreShardsOf}
+use Rattle.record_flow.specs.declared.rule.FlowView.{FlowView}
+use Rattle.record_flow.specs.Views.{records_of}
+use Rattle.record_flow.specs.Flows.{next_to_send}
 use Rattle.commit_queue.specs.declared.view.View.{View}
-use Rattle.commit_queue.specs.declared.seats.FlushSeat.{FlushSeat}
-use Rattle.commit_queue.specs.declared.seats.ProducerSeat.{ProducerSeat}
-use Rattle.commit_queue.specs.Seats.{producer_table, producer_view, flush_table, flush_seat_view}
 use Rattle.commit_queue.specs.Calls.{AwaitsBatch}
 use Rattle.commit_pipeline.specs.Openings.{Opening, IsOpened, KeepsJournal}
 
--- The side that numbers batches: the producer's seat has placed so many, this number comes next, and the book counts them.
-pub record Enrols (table : TableId) (opening : Opening) (seat : TableId) (v : View) (next placed counted : ℕ) : Type 0 where
+-- Behind the commit lock: the producer's seat has placed so many batches, this number comes next, the book counts them, and each
+-- was sent on its way to the journal.
+pub record Enrols (table queue : TableId) (opening : Opening) (seat : TableId) (v : View) (sends : TableId) (flow : FlowView)
+    (next placed counted : ℕ) : Type 0 where
   pub of_table : seat ≡ table
   pub base : v.base ≡ opening.journal.next
   pub shards : AreShardsOf v.opening opening.base
@@ -26,31 +27,31 @@ pub record Enrols (table : TableId) (opening : Opening) (seat : TableId) (v : Vi
   pub within : next ≤ NUMBER_MAX
   pub few : placed ≤ BATCHES_MAX
   pub counts : counted ≡ placed
+  pub of_queue : sends ≡ queue
+  pub first : flow.first ≡ opening.journal.next
+  pub sent : records_of flow.sent ≡ v.history
+  pub follows : next ≡ next_to_send flow
 
--- The side that writes the log: the journal holds these batches since the opening, the acked word was raised no further than it
--- has synced, and no answer has told of a death unless it is dead.
-pub record Flushes (tells : Bool) (table : TableId) (opening : Opening) (batches : List Batch) (state : State) (v : DiskView)
-    (seat : TableId) (f : View) (answers : ℕ) : Type 0 where
+-- The journal's records are those that were taken: its next number comes after them.
+pub record IsNextTo (flow : FlowView) (state : State) : Type 0 where
+  pub first : flow.first ≡ state.base
+  pub next : state.next ≡ end_after flow.first (records_of flow.taken)
+  pub all : len state ≡ length flow.taken
+
+-- Behind the flush lock: the journal holds since the opening the batches that were taken, the acked word was raised no further than
+-- it has synced, and no answer has told of a death unless it is dead.
+pub record Flushes (tells : Bool) (table queue : TableId) (opening : Opening) (state : State) (v : DiskView) (seat : TableId) (f : View)
+    (pops : TableId) (flow : FlowView) (answers : ℕ) : Type 0 where
   pub opened : IsOpened tells opening
-  pub keeps : KeepsJournal tells opening batches state v
+  pub keeps : KeepsJournal tells opening (records_of flow.taken) state v
   pub of_table : seat ≡ table
   pub is_flush : f.acked_known.is_flush ≡ true
   pub none_own : f.seat.own ≡ []
   pub raised : f.acked_known.raised ≤ acked state
   pub alive : state.dead ≡ None → answers ≡ 0
-
--- both sides, and shares of no part
-pub record IsTied (tells : Bool) (table : TableId) (opening : Opening) (state : State) (v : DiskView) (producer : TableId) (p : View)
-    (flush : TableId) (f : View) (batches answers : ℕ) : Type 0 where
-  pub enrols : Enrols table opening producer p state.next (len state) batches
-  pub flushes : Flushes tells table opening p.history state v flush f answers
-
--- So it is of a journal with its disk, of the seats, and of the books of both ledgers.
-abbrev pub AreTied : {Disk N M : Type 0} → Bool → (Disk → DiskView) → TableId → Opening → JournalView Disk → ProducerSeat → FlushSeat
-    → Book N → Book M → Type 0
-AreTied tells view table opening journal producer flush batches answers =
-    IsTied tells table opening journal.state (view journal.disk) (producer_table producer) (producer_view producer) (flush_table flush)
-    (flush_seat_view flush) batches.total answers.total
+  pub of_queue : pops ≡ queue
+  pub first : flow.first ≡ opening.journal.next
+  pub next_to : IsNextTo flow state
 
 -- A share has no part, and stands for nothing.
 abbrev pub IsSpare : ℕ → ℕ → Type 0

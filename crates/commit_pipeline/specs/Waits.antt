@@ -23,27 +23,13 @@ StaysIdle v v' = SeatGoesOn v v' × (v'.seat.held ≡ None)
 -- what taking a number does to the seat
 abbrev pub GetsNumber : List Entry → View → Result (ℕ × ℕ) Refusal → View → Type 0
 GetsNumber entries v (Ok done) v' = HoldsNumbered (numbered entries done.0) done.1 v v'
-GetsNumber entries v (Err (refused.Dead mark)) v' = StaysIdle v v' × TellsDeath mark.side mark.faults
 GetsNumber entries v (Err (refused.TooMany next)) v' = ShowsMany BATCHES_MAX next v v'
 GetsNumber entries v (Err (refused.Exhausted next)) v' = ShowsExhausted entries next v v'
-GetsNumber entries v (Err refused.NoMemory) v' = StaysIdle v v'
 
 -- so many batches more are the session's own
 abbrev pub numbers_got : Result (ℕ × ℕ) Refusal → ℕ
 numbers_got (Ok done) = 1
 numbers_got (Err refusal) = 0
-
-abbrev pub deaths_refused : Result (ℕ × ℕ) Refusal → ℕ
-deaths_refused (Err (refused.Dead mark)) = 1
-deaths_refused _ = 0
-
--- A number, or a limit, is told only where so many deaths are known of: none.
-abbrev pub NumbersLiving : ℕ → Result (ℕ × ℕ) Refusal → Type 0
-NumbersLiving known (Ok done) = known ≡ 0
-NumbersLiving known (Err (refused.Dead mark)) = Unit {0}
-NumbersLiving known (Err (refused.TooMany next)) = known ≡ 0
-NumbersLiving known (Err (refused.Exhausted next)) = known ≡ 0
-NumbersLiving known (Err refused.NoMemory) = Unit {0}
 
 -- The numbers are used up behind n published batches, fewer than there may be and no fewer than the seat had seen published.
 pub record PublishesExhausted (entries : List Entry) (next : ℕ) (v v' : View) : Type 0 where

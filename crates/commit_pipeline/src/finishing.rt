@@ -1,19 +1,24 @@
 //! The end of a pipeline.
 ghost use Rattle.std.specs.Prelude.{◌≡◌, ◌+◌, length, vec_len};
+ghost use Rattle.record_flow.specs.Passes.{taken_numbers};
 ghost use Rattle.commit_queue.specs.Tables.{table_id_of};
 ghost use Rattle.commit_queue.specs.Seats.{producer_table, producer_view};
 ghost use Rattle.commit_pipeline.specs.Ending.{EndsPipeline, TakesAllBack, owned, all_deaths};
 ghost use Rattle.commit_pipeline.specs.Ties.{IsSpare};
 
+use crate::commit_side::CommitSide;
 use crate::desk::Desk;
+use crate::flush_side::FlushSide;
 use crate::gate::Gate;
-use crate::lock::Locked;
+use crate::log_side::LogSide;
 use crate::name::PipeName;
 use crate::pipeline::Pipeline;
 use crate::session::{Session, Sessions};
 use commit_queue::{PipeTable, ProducerSeat};
 use disk_face::Disk;
 use failover_writer::Journal;
+use record_flow::FlushPass;
+use std::sync::Wait;
 use std::sync::ledger::{Ledger, Share};
 
 /// What is left of a pipeline.
@@ -25,31 +30,46 @@ pub struct Finished<D: Disk> {
     pub visible: u64,
     /// How many batches were committed.
     pub batches: u64,
+    /// The pass with which their records were taken out of the queue. Contracts see which.
+    pub popped: FlushPass,
 }
 
 impl<'a, D: Disk, G: Gate, N: PipeName, M: Ledger> Pipeline<'a, D, G, N, M> {
-    /// Ends the pipeline with all its sessions, and tells what it came to. It takes no memory.
-    pub fn finish(self, sessions: Sessions<N, M>) -> Finished<D>
+    /// Ends the pipeline with all its sessions, and tells what it came to: what is still on its way is moved
+    /// into the journal. It takes no memory.
+    pub fn finish<R: Wait>(self, rt: &R, sessions: Sessions<N, M>) -> Finished<D>
         requires all { (vec_len sessions ≡ N.parts) × (vec_len sessions + vec_len sessions ≡ M.parts) }
-        ensures { EndsPipeline D.tells D.view N.opening sessions.items result.journal result.visible result.batches }
+        ensures { EndsPipeline D.tells D.view N.opening sessions.items result.journal result.visible
+            result.batches (taken_numbers result.popped) }
     {
-        let Locked {
-            journal,
+        let CommitSide {
+            next,
+            placed,
             mut producer,
-            flush,
+            sends,
             mut batches,
-            mut answers,
             mut own,
+        } = self.commits.into_inner();
+        let LogSide { flow, lock } = self.log;
+        let mut log = lock.into_inner();
+        log.take_last(rt, &flow, sends);
+        let FlushSide {
+            journal,
+            flush,
+            pops,
+            mut answers,
             mut dead,
-        } = self.lock.into_inner();
+            name: _,
+        } = log;
         gather(&self.table, &mut producer, &mut own, &mut dead, sessions);
         batches.audit(&mut own);
         answers.audit(&mut dead);
         self.table.retire(&mut producer, flush);
         Finished {
-            visible: journal.next(),
-            batches: journal.len(),
             journal,
+            visible: next,
+            batches: placed,
+            popped: pops,
         }
     }
 }

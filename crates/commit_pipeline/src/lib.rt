@@ -1,28 +1,36 @@
 //! The commit pipeline on threads: sessions commit and read beside one another. Only to number a
-//! batch and to write the log they take turns, at one lock; batches are applied, marked and
-//! published, and keys are read, without it.
+//! batch and to write the log they take turns, each at a lock of its own, so that numbering waits for
+//! no disk; batches are applied, marked and published, and keys are read, without either.
 //!
-//! Stands on `commit_queue` and `shard_gate` for the ring and the shards, and on `failover_writer`
-//! for the journal. The layer above uses one contract: what a session has seen and what is its own
-//! is told after each of its calls; and `finish` tells that the journal holds the batches of all
-//! sessions, each once, and that what each has seen is a prefix of them.
+//! Stands on `commit_queue` and `shard_gate` for the ring and the shards, on `record_flow` for the
+//! queue of records from the one lock to the other, and on `failover_writer` for the journal. The
+//! layer above uses one contract: what a session has seen and what is its own is told after each of
+//! its calls; and `finish` tells that the journal holds the batches of all sessions, each once, and
+//! that what each has seen is a prefix of them.
 //!
-//! What holds behind the lock: the journal's records are the batches that the producer's seat has
-//! placed, in their order, and the books count them and the answers that told of a death.
+//! The flush lock may be taken under the commit lock, where the queue is full, and never the other way
+//! round: what is behind the flush lock (`log_side`, `flush_side`) is never handed the commit lock.
+//!
+//! What holds behind the commit lock: what was sent is what the producer's seat has placed, in their
+//! order, and a book counts them. Behind the flush lock: the journal's records are what was taken, and a
+//! book counts the answers that told of a death.
 #![tactic(auto)]
 
+mod commit_side;
 mod desk;
+mod entering;
 mod fault;
 mod finishing;
+mod flush_side;
 mod gate;
-mod lock;
+mod locking;
+mod log_side;
 mod meeting;
 mod name;
 mod parts;
 mod pipeline;
 mod reading;
 mod session;
-mod sides;
 mod standing;
 mod theorems;
 

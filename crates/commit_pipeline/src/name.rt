@@ -12,6 +12,9 @@ pub trait PipeName: Ledger {
     /// The table of the commit ring.
     ghost table: { TableId };
 
+    /// The queue of the records on their way to the journal.
+    ghost queue: { TableId };
+
     /// The batches of the store, the journal and its disk as they were.
     ghost opening: { Opening };
 }
@@ -20,6 +23,8 @@ impl PipeName for Brand {
     ghost use Rattle.commit_pipeline.specs.Names.{unnamed_table, unnamed_opening};
 
     ghost table = { unnamed_table };
+
+    ghost queue = { unnamed_table };
 
     ghost opening = { unnamed_opening };
 }

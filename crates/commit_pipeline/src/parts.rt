@@ -9,9 +9,11 @@ ghost use Rattle.commit_pipeline.specs.Openings.{EndsBefore, opening_on};
 ghost use Rattle.commit_pipeline.specs.Parts.{ArePartsOf, AreNew, AreSeatsOf, HaveReached, GainBatch};
 ghost use Rattle.commit_pipeline.specs.Ties.{IsSpare};
 
+use crate::commit_side::CommitSide;
 use crate::desk::Desk;
+use crate::flush_side::FlushSide;
 use crate::gate::Gate;
-use crate::lock::Locked;
+use crate::log_side::LogSide;
 use crate::name::PipeName;
 use crate::pipeline::Pipeline;
 use crate::session::{Session, Sessions};
@@ -20,8 +22,9 @@ use commit_queue::{FlushSeat, PipeTable, ProducerSeat, SessionSeats, Shards};
 use disk_face::Disk;
 use failover_writer::Journal;
 use memtable_shards::{SHARDS, Shard, split_entries};
+use record_flow::{FlushPass, RecordFlow, SendPass};
 use std::alloc::Global;
-use std::marker::Model;
+use std::marker::{Model, PhantomData};
 use std::snapshot::Snapshot;
 use std::sync::Mutex;
 use std::sync::ledger::{Blank, Ledger, Share};
@@ -37,6 +40,9 @@ pub struct Parts {
     producer: ProducerSeat,
     flush: FlushSeat,
     seats: SessionSeats,
+    flow: RecordFlow,
+    sends: SendPass,
+    pops: FlushPass,
     batches: Blank,
     answers: Blank,
 }
@@ -44,13 +50,24 @@ pub struct Parts {
 impl Model for Parts {
     ghost use Rattle.std.specs.Prelude.{◌≡◌, ◌+◌};
     ghost use Rattle.commit_queue.specs.Tables.{table_id_of};
+    ghost use Rattle.record_flow.specs.Passes.{flow_id, OpensFlow};
     ghost use Rattle.commit_pipeline.specs.Parts.{PartsView, FitTogether};
 
     ghost Value = { PartsView };
 
-    ghost view = { λ p. record { base = p.base.value; next = p.next; sessions = p.batches.parts; table = table_id_of p.table; batches = p.batches.name; answers = p.answers.name } };
+    ghost view = { λ p. record {
+      base = p.base.value;
+      next = p.next;
+      sessions = p.batches.parts;
+      table = table_id_of p.table;
+      queue = flow_id p.flow;
+      batches = p.batches.name;
+      answers = p.answers.name;
+    } };
 
-    ghost invariant = { λ p. FitTogether p.base.value p.next p.batches.parts p.table p.producer p.flush p.seats × (p.answers.parts ≡ p.batches.parts + p.batches.parts) };
+    ghost invariant = { λ p.
+        FitTogether p.base.value p.next p.batches.parts p.table p.producer p.flush p.seats
+        × OpensFlow p.next p.flow p.sends p.pops × (p.answers.parts ≡ p.batches.parts + p.batches.parts) };
 }
 
 impl Parts {
@@ -65,6 +82,7 @@ impl Parts {
         let shards = load(alloc, base, next)?;
         let made = PipeTable::new(alloc, sessions as u32, next, shards)?;
         let (table, producer, flush, seats) = made;
+        let (flow, sends, pops) = RecordFlow::new(alloc, next)?;
         Ok(Parts {
             alloc,
             base: Snapshot::of(base),
@@ -73,6 +91,9 @@ impl Parts {
             producer,
             flush,
             seats,
+            flow,
+            sends,
+            pops,
             batches: Blank::new(sessions as u64),
             answers: Blank::new(2 * sessions as u64),
         })
@@ -125,6 +146,7 @@ impl<'a, D: Disk, G: Gate, N: PipeName, M: Ledger> Pipeline<'a, D, G, N, M> {
     ) -> Result<(Pipeline<'a, D, G, N, M>, Sessions<N, M>), Journal<D>>
         requires opening { N.opening ≡ opening_on D.view parts.base journal N.opening.may_stall }
         requires table { parts.table ≡ N.table }
+        requires queue { parts.queue ≡ N.queue }
         requires batches { (parts.batches ≡ N.name) × (parts.sessions ≡ N.parts) }
         requires answers { (parts.answers ≡ M.name) × (parts.sessions + parts.sessions ≡ M.parts) }
         requires empty { len journal.state ≡ 0 }
@@ -135,11 +157,14 @@ impl<'a, D: Disk, G: Gate, N: PipeName, M: Ledger> Pipeline<'a, D, G, N, M> {
         let Parts {
             alloc,
             base: _,
-            next: _,
+            next,
             table,
             producer,
             flush,
             seats,
+            flow,
+            sends,
+            pops,
             batches,
             answers,
         } = parts;
@@ -150,19 +175,27 @@ impl<'a, D: Disk, G: Gate, N: PipeName, M: Ledger> Pipeline<'a, D, G, N, M> {
         let Ok(sessions) = seated(alloc, seats, &mut own, &mut dead) else {
             return Err(journal);
         };
-        let lock = Mutex::new(Locked::<D, N, M> {
-            journal,
+        let commits = Mutex::new(CommitSide::<N> {
+            next,
+            placed: 0,
             producer,
-            flush,
+            sends,
             batches,
-            answers,
             own,
+        });
+        let lock = Mutex::new(FlushSide::<D, N, M> {
+            journal,
+            flush,
+            pops,
+            answers,
             dead,
+            name: PhantomData,
         });
         let pipeline = Pipeline {
             alloc,
             table,
-            lock,
+            commits,
+            log: LogSide { flow, lock },
             gate,
         };
         Ok((pipeline, sessions))

@@ -9,42 +9,36 @@ ghost use Rattle.commit_pipeline.specs.Desks.{deaths_stepped};
 ghost use Rattle.commit_pipeline.specs.Ending.{StillKeeps};
 ghost use Rattle.commit_pipeline.specs.Waits.{GetsNumber, StartsCommit, IsHeldEnd, PublishesHeld};
 ghost use Rattle.commit_pipeline.specs.Waits.{WaitsFor, IsUnsynced};
-ghost use Rattle.commit_pipeline.specs.Waits.{numbers_got, numbers_started, deaths_refused};
+ghost use Rattle.commit_pipeline.specs.Waits.{numbers_got, numbers_started, StartsLiving};
 ghost use Rattle.commit_pipeline.specs.Waits.{deaths_started, deaths_waited};
-ghost use Rattle.commit_pipeline.specs.Waits.{NumbersLiving, StartsLiving};
 
+use crate::commit_side::{CommitSide, Numbering};
 use crate::desk::Desk;
 use crate::fault::{CommitFault, Committed};
 use crate::gate::{Gate, GatePoint};
-use crate::lock::{Locked, Numbering};
+use crate::locking::lock_soon;
+use crate::log_side::LogSide;
 use crate::name::PipeName;
 use crate::session::Session;
 use batch_repr::{BATCHES_MAX, Unnumbered};
 use commit_queue::PipeTable;
-use crossbeam_utils::Backoff;
 use disk_face::{Disk, Side, StallDisk};
-use failover_writer::{DeadMark, Journal, JournalFault, Step};
+use failover_writer::{Journal, JournalFault, Step};
 use memtable_shards::{Pieces, split};
+use record_queue::RecordNode;
 use shard_gate::ShardGate;
 use std::alloc::Global;
 use std::sync::ledger::Ledger;
-use std::sync::{Mutex, MutexGuard, Wait};
+use std::sync::{Mutex, Wait};
 use std::thread;
-
-/// So often a thread looks whether the lock is free before it sleeps.
-const LOOKS: u32 = 100;
 
 /// Why a batch got no number.
 #[derive(Drop)]
 pub(crate) enum Refusal {
-    /// The journal is dead.
-    Dead { mark: DeadMark },
-    /// The journal has as many records as it may have, of which this is the end.
+    /// As many batches are numbered as there may be, of which this is the end.
     TooMany { next: u64 },
     /// The batch would end past the numbers, of which this one comes next.
     Exhausted { next: u64 },
-    /// Out of memory.
-    NoMemory,
 }
 
 /// A commit pipeline that its sessions share.
@@ -52,7 +46,8 @@ pub(crate) enum Refusal {
 pub struct Pipeline<'a, D: Disk, G: Gate, N: PipeName, M: Ledger> {
     pub(crate) alloc: Global,
     pub(crate) table: PipeTable,
-    pub(crate) lock: Mutex<Locked<D, N, M>>,
+    pub(crate) commits: Mutex<CommitSide<N>>,
+    pub(crate) log: LogSide<D, N, M>,
     pub(crate) gate: &'a G,
     ghost named: { table_id_of table ≡ N.table },
 }
@@ -72,8 +67,9 @@ impl<'a, D: Disk, G: Gate, N: PipeName, M: Ledger> Pipeline<'a, D, G, N, M> {
     {
         let count = batch.count();
         let mut pieces = split(self.alloc, &batch)?;
+        let node = RecordNode::empty(self.alloc)?;
         let desk = &mut session.desk;
-        let (first, index) = self.start(rt, desk, batch, sync)?;
+        let (first, index) = self.start(rt, desk, batch, node, sync)?;
         self.gate.pass(session.number, GatePoint::Numbered);
         pieces.number(first);
         self.publish(rt, session.number, desk, pieces, first + u64::from(count));
@@ -92,28 +88,18 @@ impl<'a, D: Disk, G: Gate, N: PipeName, M: Ledger> Pipeline<'a, D, G, N, M> {
         })
     }
 
-    /// Takes the lock. Whoever has it mostly gives it back soon, and waking a thread takes longer: so
-    /// a thread looks some times before it sleeps.
-    fn locked<R: Wait>(&self, rt: &R) -> MutexGuard<'_, Locked<D, N, M>> {
-        let backoff = Backoff::new();
-        for _ in 0..LOOKS {
-            if let Some(locked) = self.lock.try_lock() {
-                return locked;
-            }
-            backoff.snooze();
-        }
-        self.lock.lock(rt)
-    }
-
-    /// Numbers the batch, or tells why not. A limit is told once all that made it is published.
+    /// Numbers the batch, and writes of the log what can be written without waiting; or tells why not. A
+    /// limit is told once all that made it is published.
     fn start<R: Wait>(
         &self,
         rt: &R,
         desk: &mut Desk<N, M>,
         batch: Unnumbered,
+        node: RecordNode,
         sync: bool,
     ) -> Result<(u64, u64), CommitFault>
         requires desk { IsDeskIdle N.table N.opening desk.old }
+        requires node { node ≡ None }
         ensures same { session_table desk.new.seat ≡ session_table desk.old.seat }
         ensures started { StartsCommit N.opening batch (session_view desk.old.seat) result (session_view desk.new.seat) }
         ensures own { Raises desk.old.own (numbers_started result) desk.new.own }
@@ -121,12 +107,17 @@ impl<'a, D: Disk, G: Gate, N: PipeName, M: Ledger> Pipeline<'a, D, G, N, M> {
         ensures met { Raises desk.old.told 0 desk.new.told }
         ensures lives { StartsLiving (known desk.old) result }
     {
-        match self.take_number(rt, desk, batch, sync) {
-            Ok(numbers) => Ok(numbers),
-            Err(Refusal::Dead { mark }) => Err(CommitFault::Dead {
+        if let Some(mark) = self.log.refuses(rt, desk) {
+            return Err(CommitFault::Dead {
                 side: mark.side,
                 faults: mark.faults,
-            }),
+            });
+        }
+        match self.take_number(rt, desk, batch, node, sync) {
+            Ok(numbers) => {
+                self.log.drive(rt, &self.table);
+                Ok(numbers)
+            }
             Err(Refusal::TooMany { next }) => {
                 self.table.publish_until(rt, &mut desk.seat, next);
                 Err(CommitFault::TooManyBatches { count: BATCHES_MAX })
@@ -135,36 +126,49 @@ impl<'a, D: Disk, G: Gate, N: PipeName, M: Ledger> Pipeline<'a, D, G, N, M> {
                 self.table.publish_until(rt, &mut desk.seat, next);
                 Err(CommitFault::SeqExhausted { next })
             }
-            Err(Refusal::NoMemory) => Err(CommitFault::NoMemory),
         }
     }
 
-    /// Takes the lock until the batch is numbered or refused: again where the ring is full.
-    fn take_number<R: Wait>(
+    /// Takes the commit lock until the batch is numbered or refused: again where the ring is full.
+    pub(crate) fn take_number<R: Wait>(
         &self,
         rt: &R,
         desk: &mut Desk<N, M>,
         batch: Unnumbered,
+        node: RecordNode,
         sync: bool,
     ) -> Result<(u64, u64), Refusal>
         requires desk { IsDeskIdle N.table N.opening desk.old }
+        requires node { node ≡ None }
         ensures same { session_table desk.new.seat ≡ session_table desk.old.seat }
         ensures taken { GetsNumber batch (session_view desk.old.seat) result (session_view desk.new.seat) }
         ensures own { Raises desk.old.own (numbers_got result) desk.new.own }
-        ensures dead { Raises desk.old.dead (deaths_refused result) desk.new.dead }
-        ensures met { Raises desk.old.told 0 desk.new.told }
-        ensures lives { NumbersLiving (known desk.old) result }
+        ensures dead { desk.new.dead ≡ desk.old.dead }
+        ensures met { desk.new.told ≡ desk.old.told }
     {
         let mut batch = batch;
+        let mut node = node;
         for _ in rt.forever() {
-            let numbering = self.locked(rt).number(rt, &self.table, desk, batch, sync);
+            let numbering = lock_soon(rt, &self.commits).number(
+                rt,
+                &self.table,
+                &self.log,
+                desk,
+                batch,
+                node,
+                sync,
+            );
             match numbering {
                 Numbering::Done { first, index } => return Ok((first, index)),
-                Numbering::Busy { batch: again } => batch = again,
-                Numbering::Dead { mark } => return Err(Refusal::Dead { mark }),
+                Numbering::Busy {
+                    batch: again,
+                    node: unused,
+                } => {
+                    batch = again;
+                    node = unused;
+                }
                 Numbering::TooMany { next } => return Err(Refusal::TooMany { next }),
                 Numbering::Exhausted { next } => return Err(Refusal::Exhausted { next }),
-                Numbering::NoMemory => return Err(Refusal::NoMemory),
             }
             thread::yield_now();
         }
@@ -172,7 +176,7 @@ impl<'a, D: Disk, G: Gate, N: PipeName, M: Ledger> Pipeline<'a, D, G, N, M> {
     }
 
     /// Applies the batch that the seat holds, marks it, and publishes until it is published.
-    fn publish<R: Wait>(
+    pub(crate) fn publish<R: Wait>(
         &self,
         rt: &R,
         session: u32,
@@ -217,7 +221,7 @@ impl<'a, D: Disk, G: Gate, N: PipeName, M: Ledger> Pipeline<'a, D, G, N, M> {
             if self.table.acked(&mut desk.seat) > numbers.index {
                 return Ok(());
             }
-            let stepped = self.locked(rt).step_for(&self.table, desk, numbers.index);
+            let stepped = self.log.step_for(rt, &self.table, desk, numbers.index);
             match stepped {
                 Ok(Step::Moved) => {}
                 Ok(_) => thread::yield_now(),
@@ -231,7 +235,8 @@ impl<'a, D: Disk, G: Gate, N: PipeName, M: Ledger> Pipeline<'a, D, G, N, M> {
     pub fn into_journal(self) -> Journal<D>
         ensures { StillKeeps D.tells D.view N.opening result }
     {
-        self.lock.into_inner().journal
+        let LogSide { flow: _flow, lock } = self.log;
+        lock.into_inner().journal
     }
 }
 
@@ -270,6 +275,6 @@ impl<'a, D: StallDisk, G: Gate, N: PipeName, M: Ledger> Pipeline<'a, D, G, N, M>
     pub fn stall<R: Wait>(&self, rt: &R, side: Side, polls: u32)
         requires { N.opening.may_stall ≡ true }
     {
-        self.lock.lock(rt).stall(side, polls);
+        self.log.stall(rt, side, polls);
     }
 }

@@ -84,6 +84,7 @@ fn with_table<
 >(rt: &R, alloc: Global, gate: &G, parts: Parts, journal: Journal<D>, act: &A) -> u64
     requires opening { N.opening ≡ opening_on D.view parts.base journal N.opening.may_stall }
     requires table { parts.table ≡ N.table }
+    requires queue { parts.queue ≡ N.queue }
     requires batches { (parts.batches ≡ N.name) × (parts.sessions ≡ N.parts) }
     requires empty { len journal.state ≡ 0 }
     requires next { journal.state.next ≡ parts.next }
@@ -102,6 +103,7 @@ fn with_names<
 >(rt: &R, alloc: Global, gate: &G, parts: Parts, journal: Journal<D>, act: &A) -> u64
     requires opening { N.opening ≡ opening_on D.view parts.base journal N.opening.may_stall }
     requires table { parts.table ≡ N.table }
+    requires queue { parts.queue ≡ N.queue }
     requires batches { (parts.batches ≡ N.name) × (parts.sessions ≡ N.parts) }
     requires answers { (parts.answers ≡ M.name) × (parts.sessions + parts.sessions ≡ M.parts) }
     requires empty { len journal.state ≡ 0 }
@@ -112,7 +114,7 @@ fn with_names<
     };
     each_acts(rt, alloc, &pipe, sessions.as_mut_slice(), act);
     pipe.meet(rt, &mut sessions).expect(rt, "memory");
-    let finished = pipe.finish(sessions);
+    let finished = pipe.finish(rt, sessions);
     assert_eq!(rt;
         finished.visible,
         NUMBER_FIRST.wrapping_add(finished.batches)
@@ -290,6 +292,7 @@ fn stalled_table<D: StallDisk + Drop, N: PipeName, R: Wait + Abort>(
     requires opening { N.opening ≡ opening_on D.view parts.base journal N.opening.may_stall }
     requires may_stall { N.opening.may_stall ≡ true }
     requires table { parts.table ≡ N.table }
+    requires queue { parts.queue ≡ N.queue }
     requires batches { (parts.batches ≡ N.name) × (parts.sessions ≡ N.parts) }
     requires empty { len journal.state ≡ 0 }
     requires next { journal.state.next ≡ parts.next }
@@ -308,6 +311,7 @@ fn stalled_names<D: StallDisk + Drop, N: PipeName, M: Ledger, R: Wait + Abort>(
     requires opening { N.opening ≡ opening_on D.view parts.base journal N.opening.may_stall }
     requires may_stall { N.opening.may_stall ≡ true }
     requires table { parts.table ≡ N.table }
+    requires queue { parts.queue ≡ N.queue }
     requires batches { (parts.batches ≡ N.name) × (parts.sessions ≡ N.parts) }
     requires answers { (parts.answers ≡ M.name) × (parts.sessions + parts.sessions ≡ M.parts) }
     requires empty { len journal.state ≡ 0 }

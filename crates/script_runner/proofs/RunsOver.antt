@@ -24,11 +24,11 @@ use Rattle.script_runner.proofs.TellsOf.{run_told}
 
 -- Some work was done over a pipeline of the opening, and the journal that it gave up was ended.
 pub runs_over : {Disk : Type 0} (tells : Bool) (view : Disk → DiskView) (base : List Batch) (work : Work) (opening : Opening) (old left new : JournalView Disk)
-    (ss ss' : List Standing) (visible count : ℕ) (told : Told) (end : RunEnd) → opening ≡ run_opening view base (work_rounds work) old
+    (ss ss' : List Standing) (visible count : ℕ) (taken : List ℕ) (told : Told) (end : RunEnd) → opening ≡ run_opening view base (work_rounds work) old
     → AreNew (length ss) ss → NameSessions (length ss) (work_rounds work) → PerformsWork opening work ss ss' told
-    → EndsPipeline tells view opening ss' left visible count → GoesOnKept tells view left new
+    → EndsPipeline tells view opening ss' left visible count taken → GoesOnKept tells view left new
     → EndsJournal view (halts work) visible count left new end → RunsOver tells view base work old new (record { told = told; end = end })
-runs_over tells view base work opening old left new ss ss' visible count told end is made named done finished goes ended =
+runs_over tells view base work opening old left new ss ss' visible count taken told end is made named done finished goes ended =
     record {
       batches = finished.0;
       keeps = subst (λ (o : Opening). KeepsJournal tells o finished.0 new.state (view new.disk)) is

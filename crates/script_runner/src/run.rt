@@ -132,6 +132,7 @@ fn over_table<
 >(rt: &R, alloc: Global, journal: Journal<D>, parts: Parts, work: Work, gate: &G) -> Course<D>
     requires opening { N.opening ≡ run_opening D.view parts.base (work_rounds work) journal }
     requires table { parts.table ≡ N.table }
+    requires queue { parts.queue ≡ N.queue }
     requires batches { (parts.batches ≡ N.name) × (parts.sessions ≡ N.parts) }
     requires empty { len journal.state ≡ 0 }
     requires next { journal.state.next ≡ parts.next }
@@ -152,6 +153,7 @@ fn over_names<
 >(rt: &R, alloc: Global, journal: Journal<D>, parts: Parts, work: Work, gate: &G) -> Course<D>
     requires opening { N.opening ≡ run_opening D.view parts.base (work_rounds work) journal }
     requires table { parts.table ≡ N.table }
+    requires queue { parts.queue ≡ N.queue }
     requires batches { (parts.batches ≡ N.name) × (parts.sessions ≡ N.parts) }
     requires answers { (parts.answers ≡ M.name) × (parts.sessions + parts.sessions ≡ M.parts) }
     requires empty { len journal.state ≡ 0 }
@@ -180,7 +182,8 @@ fn over_names<
         mut journal,
         visible,
         batches,
-    } = pipe.finish(sessions);
+        popped: _,
+    } = pipe.finish(rt, sessions);
     match end_journal(&mut journal, halted, visible, batches) {
         Ok(end) => Course {
             outcome: Ok(Outcome { told, end }),

@@ -108,6 +108,7 @@ fn with_table<D: Disk + Drop + Send, N: PipeName + Send + Sync, R: Threads + Wai
 ) -> Answers
     requires opening { N.opening ≡ opening_on D.view parts.base journal N.opening.may_stall }
     requires table { parts.table ≡ N.table }
+    requires queue { parts.queue ≡ N.queue }
     requires batches { (parts.batches ≡ N.name) × (parts.sessions ≡ N.parts) }
     requires empty { len journal.state ≡ 0 }
     requires next { journal.state.next ≡ parts.next }
@@ -125,6 +126,7 @@ fn with_names<
 >(rt: &R, alloc: Global, parts: Parts, journal: Journal<D>, lines: Lines) -> Answers
     requires opening { N.opening ≡ opening_on D.view parts.base journal N.opening.may_stall }
     requires table { parts.table ≡ N.table }
+    requires queue { parts.queue ≡ N.queue }
     requires batches { (parts.batches ≡ N.name) × (parts.sessions ≡ N.parts) }
     requires answers { (parts.answers ≡ M.name) × (parts.sessions + parts.sessions ≡ M.parts) }
     requires empty { len journal.state ≡ 0 }

@@ -61,6 +61,7 @@ fn with_table<D: StallDisk + Drop + Send, N: PipeName + Send + Sync, R: Threads 
 ) -> Result<Told, NoMemory>
     requires opening { N.opening ≡ opening_on D.view parts.base journal true }
     requires table { parts.table ≡ N.table }
+    requires queue { parts.queue ≡ N.queue }
     requires batches { (parts.batches ≡ N.name) × (parts.sessions ≡ N.parts) }
     requires empty { len journal.state ≡ 0 }
     requires next { journal.state.next ≡ parts.next }
@@ -78,6 +79,7 @@ fn with_names<
 >(rt: &R, alloc: Global, journal: Journal<D>, parts: Parts, work: Work) -> Result<Told, NoMemory>
     requires opening { N.opening ≡ opening_on D.view parts.base journal true }
     requires table { parts.table ≡ N.table }
+    requires queue { parts.queue ≡ N.queue }
     requires batches { (parts.batches ≡ N.name) × (parts.sessions ≡ N.parts) }
     requires answers { (parts.answers ≡ M.name) × (parts.sessions + parts.sessions ≡ M.parts) }
     requires empty { len journal.state ≡ 0 }

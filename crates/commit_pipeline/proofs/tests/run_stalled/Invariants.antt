@@ -4,7 +4,7 @@ use Rattle.commit_pipeline.specs.Openings.{opening_on}
 
 -- the table, and what the pipeline is made of
 abbrev pub ghosts-stalled_table-N-PipeName : goal.ghosts-stalled_table-N-PipeName
-ghosts-stalled_table-N-PipeName g a = record { table = a.parts.table; opening = opening_on g.D.Disk.view a.parts.base a.journal true }
+ghosts-stalled_table-N-PipeName g a = record { table = a.parts.table; queue = a.parts.queue; opening = opening_on g.D.Disk.view a.parts.base a.journal true }
 
 -- the ledger of batches is that of the parts
 abbrev pub ghosts-stalled_table-N-Ledger : goal.ghosts-stalled_table-N-Ledger

@@ -1,6 +1,7 @@
 -- The work is done over the pipeline, and what it held is told of its journal.
 use Rattle.std.proofs.Common.{◌≡◌, ◌∙◌, Bool, IsTrue, refl, ap, sym, subst, arith, rules, length}
 use Rattle.std.specs.Vec.{vec_len}
+use Rattle.record_flow.specs.Passes.{taken_numbers}
 use Rattle.commit_pipeline.specs.Openings.{Opening, KeepsJournal}
 use Rattle.commit_pipeline.specs.Parts.{AreNew}
 use Rattle.script_runner.specs.Works.{work_rounds, halts}
@@ -56,6 +57,6 @@ returns-in-Ok-end_journal-clause-ran g c =
     subst (λ (h : Bool). EndsJournal g.D.Disk.view h finished.visible finished.batches finished.journal new c.in-Ok-end_journal.end)
     c.halts-halted.ensures c.in-Ok-end_journal.ensures.ends in
     runs_over g.D.Disk.tells g.D.Disk.view c.args.parts.base c.args.work g.N.PipeName.opening c.args.journal finished.journal new made
-    c.in-Ok-perform.sessions.items finished.visible finished.batches c.in-Ok-perform.told c.in-Ok-end_journal.end c.requires.opening fresh
+    c.in-Ok-perform.sessions.items finished.visible finished.batches (taken_numbers finished.popped) c.in-Ok-perform.told c.in-Ok-end_journal.end c.requires.opening fresh
     (named_own c.args.work (length made) c.requires.sessions.0 (c.in-Ok.ensures.sessions.all ∙ c.requires.sessions.1))
     c.in-Ok-perform.ensures c.finish-journal.ensures c.end_journal.ensures.keeps ended

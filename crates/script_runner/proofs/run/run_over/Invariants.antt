@@ -6,6 +6,7 @@ use Rattle.script_runner.proofs.run.run_over.Given as goal
 abbrev pub ghosts-over_table-N-PipeName : goal.ghosts-over_table-N-PipeName
 ghosts-over_table-N-PipeName g a = record {
   table = a.parts.table;
+  queue = a.parts.queue;
   opening = run_opening g.D.Disk.view a.parts.base (work_rounds a.work) a.journal;
 }
 

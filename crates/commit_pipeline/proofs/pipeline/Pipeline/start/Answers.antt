@@ -3,10 +3,11 @@ use Rattle.std.proofs.Common.{Err, refl, subst}
 use Rattle.batch_repr.specs.declared.limits.TheConstants.{BATCHES_MAX}
 use Rattle.commit_queue.specs.declared.view.View.{View}
 use Rattle.commit_queue.specs.Seats.{session_view}
+use Rattle.commit_queue.specs.declared.seats.SessionSeat.{SessionSeat}
 use Rattle.commit_pipeline.specs.declared.pipeline.Refusal.{Refusal}
-use Rattle.commit_pipeline.specs.Desks.{known}
+use Rattle.commit_pipeline.specs.declared.pipeline.Refusal.TheVariants.{TooMany, Exhausted}
 use Rattle.commit_pipeline.specs.Numbering.{ShowsMany, ShowsExhausted}
-use Rattle.commit_pipeline.specs.Waits.{GetsNumber, NumbersLiving}
+use Rattle.commit_pipeline.specs.Waits.{GetsNumber}
 use Rattle.commit_pipeline.proofs.GetsNumber.{shown_idle, shown_all, shown_exhausted}
 use Rattle.commit_pipeline.proofs.pipeline.Pipeline.start.Goals as goal
 
@@ -18,7 +19,9 @@ returns-in-Err-TooMany-clause-started g c =
     let next = c.in-Err-TooMany.next in
     let e = c.publish_until.ensures in
     let shows : ShowsMany BATCHES_MAX next v v1 =
-    subst (λ (r : Refusal). GetsNumber c.args.batch v (Err r) v1) c.in-Err-TooMany.field-0-is c.in-Err-TooMany.ensures.taken in
+    subst (λ (s : SessionSeat). GetsNumber c.args.batch (session_view s) (Err (TooMany next)) v1) c.refuses.ensures.seat
+    (subst (λ (r : Refusal). GetsNumber c.args.batch (session_view c.refuses.new.desk.seat) (Err r) v1) c.in-Err-TooMany.field-0-is
+    c.in-Err-TooMany.ensures.taken) in
     (shown_idle v v1 v2 BATCHES_MAX next shows e.on e.published, refl, shown_all v v1 v2 next shows e.on e.published)
 
 pub returns-in-Err-Exhausted-clause-started : goal.returns-in-Err-Exhausted-clause-started
@@ -28,13 +31,7 @@ returns-in-Err-Exhausted-clause-started g c =
     let next = c.in-Err-Exhausted.next in
     let e = c.publish_until-in-Err-Exhausted.ensures in
     let exhausted : ShowsExhausted c.args.batch next v v1 =
-    subst (λ (r : Refusal). GetsNumber c.args.batch v (Err r) v1) c.in-Err-Exhausted.field-0-is c.in-Err-Exhausted.ensures.taken in
+    subst (λ (s : SessionSeat). GetsNumber c.args.batch (session_view s) (Err (Exhausted next)) v1) c.refuses.ensures.seat
+    (subst (λ (r : Refusal). GetsNumber c.args.batch (session_view c.refuses.new.desk.seat) (Err r) v1) c.in-Err-Exhausted.field-0-is
+    c.in-Err-Exhausted.ensures.taken) in
     shown_exhausted c.args.batch v v1 (session_view c.publish_until-in-Err-Exhausted.new.s) next exhausted e.on e.published
-
-pub returns-in-Err-TooMany-clause-lives : goal.returns-in-Err-TooMany-clause-lives
-returns-in-Err-TooMany-clause-lives g c =
-    subst (λ (r : Refusal). NumbersLiving (known c.args.desk.now) (Err r)) c.in-Err-TooMany.field-0-is c.in-Err-TooMany.ensures.lives
-
-pub returns-in-Err-Exhausted-clause-lives : goal.returns-in-Err-Exhausted-clause-lives
-returns-in-Err-Exhausted-clause-lives g c =
-    subst (λ (r : Refusal). NumbersLiving (known c.args.desk.now) (Err r)) c.in-Err-Exhausted.field-0-is c.in-Err-Exhausted.ensures.lives

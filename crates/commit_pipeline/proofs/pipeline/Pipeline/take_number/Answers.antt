@@ -1,10 +1,11 @@
 -- What the last try told holds of the seat as it was before the first one.
-use Rattle.std.proofs.Common.{rules, ◌≡◌, List, sym, ap, ◌∙◌, subst, arith}
+use Rattle.std.proofs.Common.{rules, List, ap, ◌∙◌, subst, arith}
+use Rattle.std.specs.declared.sync.ledger.Share.{Share}
 use Rattle.wal_base.specs.declared.entry.Entry.{Entry}
 use Rattle.batch_repr.specs.declared.limits.TheConstants.{BATCHES_MAX}
 use Rattle.commit_queue.specs.declared.view.View.{View}
 use Rattle.commit_queue.specs.Seats.{session_view}
-use Rattle.commit_pipeline.specs.Numbering.{numbered, SeatGoesOn, HoldsNumbered, ShowsExhausted}
+use Rattle.commit_pipeline.specs.Numbering.{numbered, HoldsNumbered, ShowsExhausted}
 use Rattle.commit_pipeline.proofs.IsIdleDesk.{on_same, on_both, stays_idle}
 use Rattle.commit_pipeline.proofs.GetsNumber.{numbered_later, shows_later, exhausted_later}
 use Rattle.commit_pipeline.proofs.pipeline.Pipeline.take_number.Goals as goal
@@ -17,17 +18,16 @@ loop-init g c = record {
   held = search rules;
   own_parts = search rules;
   own = search rules;
-  dead_parts = search rules;
   dead = search rules;
-  told_parts = search rules;
   told = search rules;
+  node = search rules;
 }
 
 pub number-numbering-requires-clause-desk : goal.number-numbering-requires-clause-desk
 number-numbering-requires-clause-desk g c =
     let i = c.loop.invariant in
     stays_idle g.N.PipeName.table g.N.PipeName.opening _ _ (session_view c.args.desk.now.seat) (session_view c.loop.desk.seat) _ _ _ _ _ _
-    c.requires.desk i.table i.on i.held i.own_parts i.dead_parts i.told_parts
+    c.requires.desk i.table i.on i.held i.own_parts (ap (λ (x : Share _). x.parts) i.dead) (ap (λ (x : Share _). x.parts) i.told)
 
 pub returns-in-Done-clause-taken : goal.returns-in-Done-clause-taken
 returns-in-Done-clause-taken g c =
@@ -36,18 +36,6 @@ returns-in-Done-clause-taken g c =
     let w : View = session_view c.number-numbering.new.desk.seat in
     numbered_later (numbered c.args.batch c.in-Done.first) c.in-Done.index (session_view c.args.desk.now.seat) v w i.on
     (subst (λ (b : List Entry). HoldsNumbered (numbered b c.in-Done.first) c.in-Done.index v w) i.batch c.in-Done.ensures.told)
-
-pub returns-in-Dead-clause-taken : goal.returns-in-Dead-clause-taken
-returns-in-Dead-clause-taken g c =
-    let i = c.loop.invariant in
-    let same : session_view c.number-numbering.new.desk.seat ≡ session_view c.loop.desk.seat = c.in-Dead.ensures.told in
-    let up = c.in-Dead.ensures.cause.given_up in (
-      (
-        subst (λ (w : View). SeatGoesOn (session_view c.args.desk.now.seat) w) (sym same) i.on,
-        ap (λ (w : View). w.seat.held) same ∙ i.held ∙ c.requires.desk.idle.0,
-      ),
-      (up.side, up.some),
-    )
 
 pub returns-in-TooMany-clause-taken : goal.returns-in-TooMany-clause-taken
 returns-in-TooMany-clause-taken g c =
@@ -62,42 +50,18 @@ returns-in-Exhausted-clause-taken g c =
     exhausted_later c.args.batch c.in-Exhausted.next (session_view c.args.desk.now.seat) v w i.on
     (subst (λ (b : List Entry). ShowsExhausted b c.in-Exhausted.next v w) i.batch c.in-Exhausted.ensures.told)
 
-pub returns-in-NoMemory-clause-taken : goal.returns-in-NoMemory-clause-taken
-returns-in-NoMemory-clause-taken g c =
-    let i = c.loop.invariant in
-    let same : session_view c.number-numbering.new.desk.seat ≡ session_view c.loop.desk.seat = c.in-NoMemory.ensures.told in (
-      subst (λ (w : View). SeatGoesOn (session_view c.args.desk.now.seat) w) (sym same) i.on,
-      ap (λ (w : View). w.seat.held) same ∙ i.held ∙ c.requires.desk.idle.0,
-    )
-
-pub returns-in-Done-clause-lives : goal.returns-in-Done-clause-lives
-returns-in-Done-clause-lives g c =
-    let i = c.loop.invariant in
-    omega (arith, c.in-Done.ensures.lives c.in-Done.ensures.cause.0, i.dead, i.told)
-
-pub returns-in-TooMany-clause-lives : goal.returns-in-TooMany-clause-lives
-returns-in-TooMany-clause-lives g c =
-    let i = c.loop.invariant in
-    omega (arith, c.in-TooMany.ensures.lives c.in-TooMany.ensures.cause.0, i.dead, i.told)
-
-pub returns-in-Exhausted-clause-lives : goal.returns-in-Exhausted-clause-lives
-returns-in-Exhausted-clause-lives g c =
-    let i = c.loop.invariant in
-    omega (arith, c.in-Exhausted.ensures.lives c.in-Exhausted.ensures.cause.0, i.dead, i.told)
-
 pub loop-preserved : goal.loop-preserved
 loop-preserved g c =
     let i = c.loop.invariant in
     let e = c.in-Busy.ensures in record {
       batch = e.told.2 ∙ i.batch;
+      node = e.told.3;
       table = e.same ∙ i.table;
       on = on_both (session_view c.args.desk.now.seat) (session_view c.loop.desk.seat) (session_view c.number-numbering.new.desk.seat) i.on
           e.told.0;
       held = e.told.1 ∙ i.held;
       own_parts = e.own.0 ∙ i.own_parts;
       own = omega (arith, e.own.1, i.own);
-      dead_parts = e.dead.0 ∙ i.dead_parts;
-      dead = omega (arith, e.dead.1, i.dead);
-      told_parts = e.met.0 ∙ i.told_parts;
-      told = omega (arith, e.met.1, i.told);
+      dead = e.dead ∙ i.dead;
+      told = e.met ∙ i.told;
     }

@@ -1,5 +1,5 @@
 -- No number is taken yet: the seat has seen no less, and the shares are what they were.
-use Rattle.std.proofs.Common.{◌≡◌}
+use Rattle.std.proofs.Common.{◌≡◌, None}
 use Rattle.commit_queue.specs.Seats.{session_table, session_view}
 use Rattle.commit_pipeline.specs.Numbering.{SeatGoesOn}
 use Rattle.commit_pipeline.proofs.pipeline.Pipeline.take_number.Given as goal
@@ -12,8 +12,7 @@ invariant-loop g l = record {
   held : (session_view l.desk.seat).seat.held ≡ (session_view l.initial.desk.seat).seat.held;
   own_parts : l.desk.own.parts ≡ l.initial.desk.own.parts;
   own : l.desk.own.amount ≡ l.initial.desk.own.amount;
-  dead_parts : l.desk.dead.parts ≡ l.initial.desk.dead.parts;
-  dead : l.desk.dead.amount ≡ l.initial.desk.dead.amount;
-  told_parts : l.desk.told.parts ≡ l.initial.desk.told.parts;
-  told : l.desk.told.amount ≡ l.initial.desk.told.amount;
+  dead : l.desk.dead ≡ l.initial.desk.dead;
+  told : l.desk.told ≡ l.initial.desk.told;
+  node : l.node ≡ None;
 }

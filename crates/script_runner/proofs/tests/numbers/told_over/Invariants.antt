@@ -4,7 +4,7 @@ use Rattle.script_runner.proofs.tests.numbers.told_over.Given as goal
 
 -- the table, and what the pipeline is made of
 abbrev pub ghosts-with_table-N-PipeName : goal.ghosts-with_table-N-PipeName
-ghosts-with_table-N-PipeName g a = record { table = a.parts.table; opening = opening_on g.D.Disk.view a.parts.base a.journal true }
+ghosts-with_table-N-PipeName g a = record { table = a.parts.table; queue = a.parts.queue; opening = opening_on g.D.Disk.view a.parts.base a.journal true }
 
 -- the ledger of batches is that of the parts
 abbrev pub ghosts-with_table-N-Ledger : goal.ghosts-with_table-N-Ledger

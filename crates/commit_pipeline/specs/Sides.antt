@@ -1,0 +1,61 @@
+-- What contracts see behind the two locks, and what is done there (docs/FORMATS.md, "The commit").
+use Rattle.std.specs.Prelude.{◌≡◌, ℕ, List, [], ◌∷◌, ◌++◌, Bool, Result}
+use Rattle.batch_repr.specs.declared.batch.Batch.{Batch}
+use Rattle.disk_face.specs.View.{DiskView}
+use Rattle.failover_writer.specs.declared.fault.Step.{Step}
+use Rattle.failover_writer.specs.declared.fault.JournalFault.{JournalFault}
+use Rattle.failover_writer.specs.State.{State, JournalView, acked}
+use Rattle.failover_writer.specs.Moves.{Pushes}
+use Rattle.record_queue.specs.declared.node.Filled.{Filled}
+use Rattle.record_flow.specs.declared.rule.FlowView.{FlowView}
+use Rattle.record_flow.specs.Views.{records_of}
+use Rattle.commit_pipeline.specs.Openings.{Opening, KeepsJournal}
+use Rattle.commit_pipeline.specs.Logging.{SettlesJournal, FallsUnlessAcked}
+
+-- behind the commit lock: the number that comes next, how many batches are numbered, and the records that were sent
+pub record CommitView : Type 0 where
+  pub next : ℕ
+  pub placed : ℕ
+  pub sent : List Filled
+
+-- behind the flush lock: the journal with its disk, and what the pass that pops knows
+pub record FlushView (Disk : Type 0) : Type 0 where
+  pub journal : JournalView Disk
+  pub flow : FlowView
+
+abbrev pub flushing : {Disk : Type 0} → JournalView Disk → FlowView → FlushView Disk
+flushing journal flow = record { journal = journal; flow = flow }
+
+-- These records were pushed, one after another.
+abbrev pub PushesAll : List Filled → State → State → Type 0
+PushesAll [] old new = new ≡ old
+PushesAll (f ∷ fs) old new = (mid : State) × Pushes f.rec f.sync old mid × PushesAll fs mid new
+
+-- These records were taken and pushed, and nothing was written: the journal holds what it held since any opening, and these after it.
+pub record MovesThese {Disk : Type 0} (tells : Bool) (view : Disk → DiskView) (moved : List Filled) (old new : FlushView Disk) : Type 0 where
+  pub taken : new.flow ≡ record old.flow { taken = old.flow.taken ++ moved }
+  pub pushes : PushesAll moved old.journal.state new.journal.state
+  pub disk : new.journal.disk ≡ old.journal.disk
+  pub dead : new.journal.state.dead ≡ old.journal.state.dead
+  pub acked_is : acked new.journal.state ≡ acked old.journal.state
+  pub holds : (opening : Opening) (batches : List Batch) → KeepsJournal tells opening batches old.journal.state (view old.journal.disk)
+      → KeepsJournal tells opening (batches ++ records_of moved) new.journal.state (view new.journal.disk)
+
+-- The records that were found on their way were moved.
+abbrev pub MovesNodes : {Disk : Type 0} → Bool → (Disk → DiskView) → FlushView Disk → FlushView Disk → Type 0
+MovesNodes tells view old new = (moved : List Filled) × MovesThese tells view moved old new
+
+-- They were moved, and then the journal was stepped as long as a step moved.
+pub record DrivesJournal {Disk : Type 0} (tells : Bool) (view : Disk → DiskView) (old new : FlushView Disk) : Type 0 where
+  pub mid : FlushView Disk
+  pub moves : MovesNodes tells view old mid
+  pub settles : SettlesJournal view mid.journal new.journal
+  pub flow : new.flow ≡ mid.flow
+
+-- They were moved, and then the journal was stepped once, with this answer, for the batch of this place.
+pub record StepsFor {Disk : Type 0} (tells : Bool) (view : Disk → DiskView) (index : ℕ) (old new : FlushView Disk)
+    (answer : Result Step JournalFault) : Type 0 where
+  pub mid : FlushView Disk
+  pub moves : MovesNodes tells view old mid
+  pub falls : FallsUnlessAcked view index mid.journal new.journal answer
+  pub flow : new.flow ≡ mid.flow
