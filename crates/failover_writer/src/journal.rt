@@ -1,20 +1,18 @@
 //! The journal and its step.
 
 ghost use Rattle.disk_face.specs.declared.names.TheConstants.{WAL_MAX};
-ghost use Rattle.std.specs.Prelude.{◌≡◌, ◌≢◌, ◌↔◌, ◌⊎◌, ◌≤◌, ◌<◌, ◌-◌, suc, List, [], ◌∷◌, ◌++◌, length, take, drop, Option, None, Some, Ok, MatchBool, IfOk, IfErr, IfSome, OnOk, OnErr, IsTrue};
+ghost use Rattle.std.specs.Prelude.{◌≡◌, ◌≢◌, ◌↔◌, ◌⊎◌, ◌≤◌, ◌<◌, List, [], length, None, Some, Ok, MatchBool, IfOk, IfErr, IfSome, OnOk, IsTrue};
 ghost use Rattle.batch_repr.specs.declared.batch.Batch.{Batch};
 ghost use Rattle.batch_repr.specs.declared.limits.TheConstants.{BATCHES_MAX};
 ghost use Rattle.record_queue.specs.Nodes.{IsFilledNode};
 ghost use Rattle.record_queue.specs.declared.node.Filled.{Filled};
-ghost use Rattle.disk_face.specs.declared.Progress.{Progress};
 ghost use Rattle.disk_face.specs.View.{files, NothingInFlight};
 ghost use Rattle.disk_face.specs.Calls.{GoesOn, Stalls};
-ghost use Rattle.stall_monitor.specs.declared.verdict.TheConstants.{SEGMENTS_MAX, THRESHOLD_MAX};
+ghost use Rattle.stall_monitor.specs.declared.verdict.TheConstants.{THRESHOLD_MAX};
 ghost use Rattle.failover_writer.specs.State.{len, acked, unbegun, with_room};
-ghost use Rattle.failover_writer.specs.Ranges as ranges;
 ghost use Rattle.failover_writer.specs.Ranges.{AreUnsent, StandsFor, Stands, KeepsRecords, AddsRecord};
 ghost use Rattle.failover_writer.specs.Stepping as stepping;
-ghost use Rattle.failover_writer.specs.Stepping.{IsBehind, HasWork, NoneBusy, IsActive, IsAtRest, shown_to_monitor, BeginsNext, Releases, IsUp};
+ghost use Rattle.failover_writer.specs.Stepping.{IsBehind, HasWork, IsActive, IsAtRest, shown_to_monitor, Releases, IsUp};
 ghost use Rattle.failover_writer.specs.declared.fault.Step.TheVariants as steps;
 ghost use Rattle.failover_writer.specs.Setting.{KeepsGoal, KeepsSegments};
 ghost use Rattle.failover_writer.specs.Remaining.{polls_left, Falls};
@@ -23,12 +21,13 @@ ghost use Rattle.failover_writer.specs.Answered.{StartsAtMostOne, StepsBy, Settl
 ghost use Rattle.failover_writer.specs.Keeping.{OthersStay, IsOpening, KeepsBase, KeepsBases, Passes};
 ghost use Rattle.failover_writer.specs.Lasting.{Lasts, Survives};
 ghost use Rattle.failover_writer.specs.Closing.{Drains, Moves};
-ghost use Rattle.failover_writer.specs.Moves.{IsBusyAt, IsFirstBusy, PollsAt, PollsAll, MayStartNext, IsRestingAt, NoneRests, EndsGoing, Pushes};
+ghost use Rattle.failover_writer.specs.Moves.{EndsGoing, Pushes};
 
+use crate::driving::side_at;
 use crate::fault::{DeadMark, JournalFault, Step};
 use batch_repr::Numbered;
-use disk_face::{Disk, Progress, SegName, Side, StallDisk};
-use log_writer::{Goal, LogWriter};
+use disk_face::{Disk, Side, StallDisk};
+use log_writer::LogWriter;
 use record_queue::{RecordNode, RecordQueue};
 use stall_monitor::{MonitorView, SEGMENTS_MAX, Verdict, decide};
 use std::alloc::Global;
@@ -38,19 +37,19 @@ use wal_base::NoMemory;
 /// The records of a run, and the segments to which they go. Records are counted from 0.
 #[derive(Drop)]
 pub struct Journal<D: Disk> {
-    alloc: Global,
-    disk: D,
-    wal: u64,
+    pub(crate) alloc: Global,
+    pub(crate) disk: D,
+    pub(crate) wal: u64,
     base: u64,
     next: u64,
     threshold: u32,
-    records: RecordQueue,
-    want: u64,
-    acked: u64,
-    writers: Vec<LogWriter>,
+    pub(crate) records: RecordQueue,
+    pub(crate) want: u64,
+    pub(crate) acked: u64,
+    pub(crate) writers: Vec<LogWriter>,
     /// No segment before this one is busy, but for the current one.
-    first_busy: usize,
-    failed: u64,
+    pub(crate) first_busy: usize,
+    pub(crate) failed: u64,
     dead: Option<DeadMark>,
 }
 
@@ -84,17 +83,6 @@ impl<D: Disk> Model for Journal<D> {
       segments = j.writers.items;
       dead = j.dead;
     }) (D.view j.disk) j.acked j.first_busy j.failed };
-}
-
-/// The side of the segment of this index.
-fn side_at(index: usize) -> Side
-    ensures { result ≡ ranges.side_at index }
-{
-    if index % 2 == 0 {
-        Side::Primary
-    } else {
-        Side::Secondary
-    }
 }
 
 impl<D: Disk> Journal<D> {
@@ -261,78 +249,7 @@ impl<D: Disk> Journal<D> {
         self.disk
     }
 
-    /// Polls a busy segment, and notes what it has synced. Answers whether it is pending.
-    fn poll(&mut self, index: usize) -> bool
-        requires lives { self.old.state.dead ≡ None }
-        requires busy { IsBusyAt index self.old.state }
-        ensures polled { PollsAt D.tells index self.old.state self.new.state (D.view self.old.disk) (D.view self.new.disk) result }
-        ensures keeps { KeepsRecords D.tells D.view self.old self.new }
-        ensures passes { Passes D.tells self.old.state self.new.state (D.view self.old.disk) (D.view self.new.disk) }
-        ensures goes_on { GoesOn (D.view self.old.disk) (D.view self.new.disk) }
-    {
-        let writer = &mut self.writers[index];
-        let answer = writer.poll(&mut self.disk);
-        self.acked = self.acked.max(writer.synced());
-        match answer {
-            Progress::Pending => true,
-            Progress::Done => false,
-            Progress::Failed => {
-                self.failed = self.failed.saturating_add(1);
-                false
-            }
-        }
-    }
-
-    /// The first busy segment before the current one.
-    fn seek_busy(&mut self) -> Option<usize>
-        ensures found { IfSome result (λ index. IsFirstBusy index self.old.state) }
-        ensures none { result ≡ None → NoneBusy (take (length self.old.state.segments - 1) self.old.state.segments) }
-        ensures same { self.new ≡ self.old }
-    {
-        let last = self.writers.len().checked_sub(1)?;
-        while self.first_busy < last && !self.writers[self.first_busy].busy() {
-            self.first_busy += 1;
-        }
-        if self.first_busy < last {
-            Some(self.first_busy)
-        } else {
-            None
-        }
-    }
-
-    /// The current segment, where it is busy.
-    fn current_busy(&self) -> Option<usize>
-        ensures found { IfSome result (λ index. (suc index ≡ length self.now.state.segments) × IsBusyAt index self.now.state) }
-        ensures none { result ≡ None → NoneBusy (drop (length self.now.state.segments - 1) self.now.state.segments) }
-    {
-        let last = self.writers.len().checked_sub(1)?;
-        if self.writers[last].busy() {
-            Some(last)
-        } else {
-            None
-        }
-    }
-
-    /// Polls the first busy segment before the current one, and then the current one. Answers whether one is pending.
-    fn poll_all(&mut self) -> bool
-        requires lives { self.old.state.dead ≡ None }
-        ensures polled { PollsAll self.old.state self.new.state (D.view self.old.disk) (D.view self.new.disk) result }
-        ensures keeps { KeepsRecords D.tells D.view self.old self.new }
-        ensures passes { Passes D.tells self.old.state self.new.state (D.view self.old.disk) (D.view self.new.disk) }
-        ensures goes_on { GoesOn (D.view self.old.disk) (D.view self.new.disk) }
-    {
-        let early = match self.seek_busy() {
-            Some(index) => self.poll(index),
-            None => false,
-        };
-        let late = match self.current_busy() {
-            Some(index) => self.poll(index),
-            None => false,
-        };
-        early || late
-    }
-
-    fn is_behind(&self) -> bool
+    pub(crate) fn is_behind(&self) -> bool
         ensures { IsTrue result ↔ IsBehind self.now.state }
     {
         self.acked < self.records.end()
@@ -353,95 +270,12 @@ impl<D: Disk> Journal<D> {
         }
     }
 
-    /// Whether an operation of a segment is in flight.
-    fn is_busy(&mut self) -> bool
-        ensures busy { MatchBool result (NoneBusy self.old.state.segments → ⊥) (NoneBusy self.old.state.segments) }
-        ensures same { self.new ≡ self.old }
-    {
-        self.seek_busy().is_some() || self.current_busy().is_some()
-    }
-
     /// Whether something is in flight, or there is work.
     fn is_up(&mut self) -> bool
         ensures up { MatchBool result (IsActive self.old.state) (IsAtRest self.old.state) }
         ensures same { self.new ≡ self.old }
     {
         self.has_work() || self.is_busy()
-    }
-
-    fn goal(&self) -> Goal
-        ensures { result ≡ record { len = len self.now.state; want = self.now.state.want; acked = acked self.now.state } }
-    {
-        Goal {
-            len: self.records.end(),
-            want: self.want,
-            acked: self.acked,
-        }
-    }
-
-    /// Begins the next segment at the end of what is synced.
-    fn begin_next(&mut self) -> Result<(), NoMemory>
-        requires lives { self.old.state.dead ≡ None }
-        requires behind { IsBehind self.old.state }
-        requires few { length self.old.state.segments < SEGMENTS_MAX }
-        ensures begun { OnOk result (BeginsNext self.old.state self.new.state) }
-        ensures err { OnErr result (self.new.state ≡ self.old.state) }
-        ensures keeps { KeepsRecords D.tells D.view self.old self.new }
-        ensures passes { Passes D.tells self.old.state self.new.state (D.view self.old.disk) (D.view self.new.disk) }
-        ensures goes_on { GoesOn (D.view self.old.disk) (D.view self.new.disk) }
-        ensures stalls { polls_left (D.view self.new.disk) ≡ polls_left (D.view self.old.disk) }
-        ensures asks { StartsAtMostOne (D.view self.old.disk) (D.view self.new.disk) }
-    {
-        let index = self.writers.len();
-        let name = SegName {
-            wal: self.wal,
-            index: index as u32,
-        };
-        let log = name.log();
-        let goal = self.goal();
-        let mut writer = LogWriter::new(self.alloc, side_at(index), name, log, self.acked)?;
-        // The room is there before anything is started.
-        self.writers.reserve(1)?;
-        writer.begin(&mut self.disk, &self.records, &goal)?;
-        match self.writers.push(writer) {
-            Ok(()) => Ok(()),
-            Err(_) => unreachable!(),
-        }
-    }
-
-    /// The index of the current segment, where it is at rest.
-    fn resting(&self) -> Option<usize>
-        ensures found { IfSome result (λ last. IsRestingAt last self.now.state.segments) }
-        ensures none { result ≡ None → NoneRests self.now.state.segments }
-    {
-        let last = self.writers.len().checked_sub(1)?;
-        let current = &self.writers[last];
-        if current.busy() || current.broken() {
-            return None;
-        }
-        Some(last)
-    }
-
-    /// Starts what comes next on the current segment.
-    fn start_next(&mut self) -> Result<(), NoMemory>
-        requires lives { self.old.state.dead ≡ None }
-        ensures started { OnOk result (MayStartNext self.old.state self.new.state) }
-        ensures err { OnErr result (self.new.state ≡ self.old.state) }
-        ensures keeps { KeepsRecords D.tells D.view self.old self.new }
-        ensures passes { Passes D.tells self.old.state self.new.state (D.view self.old.disk) (D.view self.new.disk) }
-        ensures goes_on { GoesOn (D.view self.old.disk) (D.view self.new.disk) }
-        ensures stalls { polls_left (D.view self.new.disk) ≡ polls_left (D.view self.old.disk) }
-        ensures asks { StartsAtMostOne (D.view self.old.disk) (D.view self.new.disk) }
-    {
-        let goal = self.goal();
-        let Some(last) = self.resting() else {
-            return Ok(());
-        };
-        if !self.is_behind() {
-            return Ok(());
-        }
-        self.writers[last].begin(&mut self.disk, &self.records, &goal)?;
-        Ok(())
     }
 
     /// Lets the records go that no segment needs any more.

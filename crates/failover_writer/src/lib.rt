@@ -11,6 +11,7 @@
 //! that a segment may still have to write is queued; and nothing is in flight on the disk but on these segments.
 #![tactic(auto)]
 
+mod driving;
 mod fault;
 mod journal;
 #[cfg(test)]

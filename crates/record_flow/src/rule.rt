@@ -1,5 +1,5 @@
 //! The rule of the queue, and what each step of it tells.
-ghost use Rattle.std.specs.Prelude.{◌≡◌, ℕ, [], Some};
+ghost use Rattle.std.specs.Prelude.{◌≡◌, ℕ, Some};
 ghost use Rattle.record_queue.specs.declared.node.Filled.{Filled};
 ghost use Rattle.record_flow.specs.Views.{opening_view, send_opened, flush_opened, ended_view, used_up_view, taken_on};
 ghost use Rattle.record_flow.specs.Flows.{Flows, ComesNext, OnTheWay, SendsRecord};
