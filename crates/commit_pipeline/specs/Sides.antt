@@ -9,6 +9,7 @@ use Rattle.failover_writer.specs.Moves.{Pushes}
 use Rattle.record_queue.specs.declared.node.Filled.{Filled}
 use Rattle.record_flow.specs.declared.rule.FlowView.{FlowView}
 use Rattle.record_flow.specs.Views.{records_of}
+use Rattle.record_flow.specs.Flows.{WasEmpty}
 use Rattle.commit_pipeline.specs.Openings.{Opening, KeepsJournal}
 use Rattle.commit_pipeline.specs.Logging.{SettlesJournal, FallsUnlessAcked}
 
@@ -45,17 +46,19 @@ pub record MovesThese {Disk : Type 0} (tells : Bool) (view : Disk → DiskView) 
 abbrev pub MovesNodes : {Disk : Type 0} → Bool → (Disk → DiskView) → FlushView Disk → FlushView Disk → Type 0
 MovesNodes tells view old new = (moved : List Filled) × MovesThese tells view moved old new
 
--- They were moved, and then the journal was stepped as long as a step moved.
+-- They were moved until none was found, and then the journal was stepped as long as a step moved.
 pub record DrivesJournal {Disk : Type 0} (tells : Bool) (view : Disk → DiskView) (old new : FlushView Disk) : Type 0 where
   pub mid : FlushView Disk
   pub moves : MovesNodes tells view old mid
+  pub emptied : WasEmpty mid.flow
   pub settles : SettlesJournal view mid.journal new.journal
   pub flow : new.flow ≡ mid.flow
 
--- They were moved, and then the journal was stepped once, with this answer, for the batch of this place.
+-- They were moved until none was found, and then the journal was stepped once, with this answer, for the batch of this place.
 pub record StepsFor {Disk : Type 0} (tells : Bool) (view : Disk → DiskView) (index : ℕ) (old new : FlushView Disk)
     (answer : Result Step JournalFault) : Type 0 where
   pub mid : FlushView Disk
   pub moves : MovesNodes tells view old mid
+  pub emptied : WasEmpty mid.flow
   pub falls : FallsUnlessAcked view index mid.journal new.journal answer
   pub flow : new.flow ≡ mid.flow

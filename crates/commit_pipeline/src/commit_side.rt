@@ -1,8 +1,7 @@
 //! What is behind the commit lock, where batches get their numbers.
-ghost use Rattle.std.specs.Prelude.{◌≡◌, ◌+◌, ◌<◌, ◌≤◌, None};
+ghost use Rattle.std.specs.Prelude.{◌≡◌, ◌+◌, ◌<◌, None};
 ghost use Rattle.batch_repr.specs.declared.limits.TheConstants.{NUMBER_MAX, BATCHES_MAX};
 ghost use Rattle.batch_repr.specs.Batches.{count_of};
-ghost use Rattle.record_flow.specs.Passes.{flow_id};
 ghost use Rattle.commit_queue.specs.Tables.{table_id_of};
 ghost use Rattle.commit_queue.specs.Seats.{session_table, session_view};
 ghost use Rattle.commit_pipeline.specs.Numbering.{Numbers, CausesNumbering, SendsWhereNumbered};

@@ -1,5 +1,5 @@
 //! What is behind the flush lock, where the log is written. Nothing here is handed the commit lock.
-ghost use Rattle.std.specs.Prelude.{◌≡◌, ◌+◌, ◌++◌, true, None, IfErr, IfSome};
+ghost use Rattle.std.specs.Prelude.{◌≡◌, ◌+◌, true, None, IfErr, IfSome};
 ghost use Rattle.disk_face.specs.Calls.{Stalls};
 ghost use Rattle.record_flow.specs.Passes.{flow_id, flush_queue, take_view, send_queue, send_view};
 ghost use Rattle.record_flow.specs.Flows.{WasEmpty, HasEnded, TookAll};

@@ -2,22 +2,14 @@
 //!
 //! A thread may take this lock while it has the commit lock, and never the other way round: nothing here is
 //! handed the commit lock.
-ghost use Rattle.std.specs.Prelude.{◌≡◌, true, None, IfErr, IfSome};
+ghost use Rattle.std.specs.Prelude.{◌≡◌};
 ghost use Rattle.record_flow.specs.Passes.{flow_id, send_queue, send_view};
 ghost use Rattle.record_flow.specs.Flows.{CanSend, SendsRecord};
-ghost use Rattle.commit_queue.specs.Tables.{table_id_of};
-ghost use Rattle.commit_pipeline.specs.Commits.{TellsDeath};
-ghost use Rattle.commit_pipeline.specs.Desks.{Raises, known, TellsFault, deaths_stepped};
-ghost use Rattle.commit_pipeline.specs.Meeting.{HearDeaths, deaths_heard};
 
-use crate::desk::Desk;
 use crate::flush_side::FlushSide;
 use crate::locking::lock_soon;
 use crate::name::PipeName;
-use crate::session::Session;
-use commit_queue::PipeTable;
-use disk_face::{Disk, Side, StallDisk};
-use failover_writer::{DeadMark, JournalFault, Step};
+use disk_face::Disk;
 use record_flow::{RecordFlow, SendPass};
 use record_queue::RecordNode;
 use std::sync::ledger::Ledger;
@@ -49,55 +41,5 @@ impl<D: Disk, N: PipeName, M: Ledger> LogSide<D, N, M> {
             lock_soon(rt, &self.lock).take_in(rt, &self.flow);
         }
         unreachable!()
-    }
-
-    /// The mark of a journal that is dead, which the session then knows of. `None` where it lives: then the
-    /// session knew of no death.
-    pub(crate) fn refuses<R: Wait>(&self, rt: &R, desk: &mut Desk<N, M>) -> Option<DeadMark>
-        requires part { desk.old.dead.parts ≡ 1 }
-        ensures told { IfSome result (λ mark. TellsDeath mark.side mark.faults) }
-        ensures seat { desk.new.seat ≡ desk.old.seat }
-        ensures own { desk.new.own ≡ desk.old.own }
-        ensures dead { Raises desk.old.dead (deaths_heard result) desk.new.dead }
-        ensures met { Raises desk.old.told 0 desk.new.told }
-        ensures lives { result ≡ None → known desk.old ≡ 0 }
-    {
-        lock_soon(rt, &self.lock).refuses(desk)
-    }
-
-    /// Moves the records found, and does what the journal can do without waiting.
-    pub(crate) fn drive<R: Wait>(&self, rt: &R, table: &PipeTable)
-        requires table { table_id_of table.now ≡ N.table }
-    {
-        lock_soon(rt, &self.lock).drive(rt, table, &self.flow);
-    }
-
-    /// Moves the records found, and steps the journal once. A fault counts where the batch of this place is
-    /// not synced then.
-    pub(crate) fn step_for<R: Wait>(
-        &self,
-        rt: &R,
-        table: &PipeTable,
-        desk: &mut Desk<N, M>,
-        index: u64,
-    ) -> Result<Step, JournalFault>
-        requires table { table_id_of table.now ≡ N.table }
-        requires part { desk.old.dead.parts ≡ 1 }
-        ensures seat { desk.new.seat ≡ desk.old.seat }
-        ensures own { desk.new.own ≡ desk.old.own }
-        ensures dead { Raises desk.old.dead (deaths_stepped result) desk.new.dead }
-        ensures met { desk.new.told ≡ desk.old.told }
-        ensures fault { IfErr result TellsFault }
-    {
-        lock_soon(rt, &self.lock).step_for(rt, table, &self.flow, desk, index)
-    }
-}
-
-impl<D: StallDisk, N: PipeName, M: Ledger> LogSide<D, N, M> {
-    /// Leaves polls of a side to stall.
-    pub(crate) fn stall<R: Wait>(&self, rt: &R, side: Side, polls: u32)
-        requires { N.opening.may_stall ≡ true }
-    {
-        self.lock.lock(rt).stall(side, polls);
     }
 }

@@ -107,7 +107,7 @@ impl<'a, D: Disk, G: Gate, N: PipeName, M: Ledger> Pipeline<'a, D, G, N, M> {
         ensures met { Raises desk.old.told 0 desk.new.told }
         ensures lives { StartsLiving (known desk.old) result }
     {
-        if let Some(mark) = self.log.refuses(rt, desk) {
+        if let Some(mark) = lock_soon(rt, &self.log.lock).refuses(desk) {
             return Err(CommitFault::Dead {
                 side: mark.side,
                 faults: mark.faults,
@@ -115,7 +115,7 @@ impl<'a, D: Disk, G: Gate, N: PipeName, M: Ledger> Pipeline<'a, D, G, N, M> {
         }
         match self.take_number(rt, desk, batch, node, sync) {
             Ok(numbers) => {
-                self.log.drive(rt, &self.table);
+                lock_soon(rt, &self.log.lock).drive(rt, &self.table, &self.log.flow);
                 Ok(numbers)
             }
             Err(Refusal::TooMany { next }) => {
@@ -221,7 +221,13 @@ impl<'a, D: Disk, G: Gate, N: PipeName, M: Ledger> Pipeline<'a, D, G, N, M> {
             if self.table.acked(&mut desk.seat) > numbers.index {
                 return Ok(());
             }
-            let stepped = self.log.step_for(rt, &self.table, desk, numbers.index);
+            let stepped = lock_soon(rt, &self.log.lock).step_for(
+                rt,
+                &self.table,
+                &self.log.flow,
+                desk,
+                numbers.index,
+            );
             match stepped {
                 Ok(Step::Moved) => {}
                 Ok(_) => thread::yield_now(),
@@ -275,6 +281,6 @@ impl<'a, D: StallDisk, G: Gate, N: PipeName, M: Ledger> Pipeline<'a, D, G, N, M>
     pub fn stall<R: Wait>(&self, rt: &R, side: Side, polls: u32)
         requires { N.opening.may_stall ≡ true }
     {
-        self.log.stall(rt, side, polls);
+        self.log.lock.lock(rt).stall(side, polls);
     }
 }

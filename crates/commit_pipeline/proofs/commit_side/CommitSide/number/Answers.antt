@@ -9,6 +9,8 @@ use Rattle.commit_queue.specs.Seats.{producer_table, producer_view, session_view
 use Rattle.commit_pipeline.specs.Ties.{Enrols}
 use Rattle.commit_pipeline.proofs.Showing.{shows_all}
 use Rattle.commit_pipeline.proofs.Enrols.{enrols_read, enrols_entered}
+use Rattle.commit_pipeline.proofs.commit_side.CommitSide.number.Given.{Over}
+use Rattle.commit_pipeline.proofs.commit_side.CommitSide.number.Goals.{After-add}
 use Rattle.commit_pipeline.proofs.commit_side.CommitSide.number.Goals as goal
 
 pub returns-then-self-ge-BATCHES_MAX-clause-told : goal.returns-then-self-ge-BATCHES_MAX-clause-told
@@ -21,8 +23,12 @@ returns-then-self-ge-BATCHES_MAX-clause-told g c =
     let awaits : AwaitsBatch p c.self.inside.next BATCHES_MAX = subst (AwaitsBatch p c.self.inside.next) full enrols.awaits in
     shows_all p v v' c.self.inside.next BATCHES_MAX awaits c.requires.desk.idle.0 c.show.ensures.shown
 
-pub invariant_of-self-2 : goal.invariant_of-self-2
-invariant_of-self-2 g c =
+-- what holds behind the lock once the batch is entered and sent
+entered_and_sent : (g : Over) (c : After-add g)
+    → Enrols g.N.PipeName.table g.N.PipeName.queue g.N.PipeName.opening (producer_table c.enter-index.new.producer)
+    (producer_view c.enter-index.new.producer) (send_queue c.send.new.sends) (send_view c.send.new.sends) c.end-self-inside.result
+    (c.enter-index.result + 1) c.add.new.self.total
+entered_and_sent g c =
     let read = enrols_read c.self.invariant.0 (producer_table c.slot_free.new.p) (producer_view c.slot_free.new.p) c.slot_free.result
     c.slot_free.ensures.same c.slot_free.ensures.read in
     let entered = c.enter-index.ensures in
@@ -36,16 +42,17 @@ invariant_of-self-2 g c =
       c.count.ensures.count,
       c.if-from-next.false,
       c.self.invariant.0.within,
-    ) in (
-      subst (λ (n : ℕ). Enrols g.N.PipeName.table g.N.PipeName.queue g.N.PipeName.opening (producer_table c.enter-index.new.producer)
-          (producer_view c.enter-index.new.producer) (send_queue c.send.new.sends) (send_view c.send.new.sends) n (c.enter-index.result + 1)
-          c.add.new.self.total) ends
-          (subst (λ (n : ℕ). Enrols g.N.PipeName.table g.N.PipeName.queue g.N.PipeName.opening (producer_table c.enter-index.new.producer)
-          (producer_view c.enter-index.new.producer) (send_queue c.send.new.sends) (send_view c.send.new.sends) (end_of f.rec) (n + 1)
-          c.add.new.self.total) (sym place)
-          (enrols_entered read f (producer_table c.enter-index.new.producer) (producer_view c.enter-index.new.producer) (send_queue c.send.new.sends)
-          (send_view c.send.new.sends) c.add.new.self.total entered.same_producer
-          (subst (λ (n : ℕ). AwaitsBatch (producer_view c.enter-index.new.producer) (end_of f.rec) (n + 1)) place entered.awaits) entered.appends
-          c.send.ensures.queue (c.send.ensures.sent f entered.node) within c.if-self-ge-BATCHES_MAX.false c.add.ensures.total)),
-      c.self.invariant.1,
-    )
+    ) in
+    subst (λ (n : ℕ). Enrols g.N.PipeName.table g.N.PipeName.queue g.N.PipeName.opening (producer_table c.enter-index.new.producer)
+    (producer_view c.enter-index.new.producer) (send_queue c.send.new.sends) (send_view c.send.new.sends) n (c.enter-index.result + 1)
+    c.add.new.self.total) ends
+    (subst (λ (n : ℕ). Enrols g.N.PipeName.table g.N.PipeName.queue g.N.PipeName.opening (producer_table c.enter-index.new.producer)
+    (producer_view c.enter-index.new.producer) (send_queue c.send.new.sends) (send_view c.send.new.sends) (end_of f.rec) (n + 1)
+    c.add.new.self.total) (sym place)
+    (enrols_entered read f (producer_table c.enter-index.new.producer) (producer_view c.enter-index.new.producer) (send_queue c.send.new.sends)
+    (send_view c.send.new.sends) c.add.new.self.total entered.same_producer
+    (subst (λ (n : ℕ). AwaitsBatch (producer_view c.enter-index.new.producer) (end_of f.rec) (n + 1)) place entered.awaits) entered.appends
+    c.send.ensures.queue (c.send.ensures.sent f entered.node) within c.if-self-ge-BATCHES_MAX.false c.add.ensures.total))
+
+pub invariant_of-self-2 : goal.invariant_of-self-2
+invariant_of-self-2 g c = (entered_and_sent g (goal.at.invariant_of-self-2 g c).After-add, c.self.invariant.1)
