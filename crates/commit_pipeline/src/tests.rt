@@ -4,6 +4,9 @@ ghost use Rattle.batch_repr.specs.declared.limits.TheConstants.{NUMBER_FIRST, SE
 ghost use Rattle.commit_pipeline.specs.Openings.{opening_on};
 ghost use Rattle.failover_writer.specs.State.{len};
 
+mod in_flight;
+mod stops;
+
 use crate::{Gate, GatePoint, NoGate, Parts, PipeName, Pipeline, Session};
 use batch_repr::{BatchBuilder, Batches, NUMBER_FIRST, Unnumbered};
 use disk_face::{Disk, Side, StallDisk};

@@ -1,0 +1,511 @@
+//! A stop after each call of the journal in a run of eight sessions, which is played by the parts of a commit.
+ghost use Rattle.std.specs.Prelude.{◌≡◌, ◌+◌, true};
+ghost use Rattle.batch_repr.specs.declared.limits.TheConstants.{NUMBER_FIRST};
+ghost use Rattle.commit_pipeline.specs.Openings.{opening_on};
+ghost use Rattle.failover_writer.specs.State.{len};
+
+use super::{new_journal, one_set};
+use crate::desk::Desk;
+use crate::locking::lock_soon;
+use crate::{NoGate, Parts, PipeName, Pipeline, Session, Sessions};
+use batch_repr::{Batch, Batches, NUMBER_FIRST};
+use disk_face::{Disk, SegName, Side, StallDisk};
+use failover_writer::{Journal, Step};
+use mem_disk::{CrashPick, FilePick, FilePicks, MemDisk};
+use memtable_shards::{Pieces, split};
+use record_queue::RecordNode;
+use std::alloc::Global;
+use std::marker::{Brand, Model};
+use std::mem;
+use std::process::Abort;
+use std::sync::Wait;
+use std::sync::ledger::Ledger;
+use wal_base::{Blob, Entry};
+use wal_recovery::{Mode, recover};
+
+/// So many sessions commit, and one more steps the journal.
+const COMMITTING: usize = 8;
+
+/// So often each of them commits.
+const ROUNDS: u64 = 4;
+
+/// So many sessions, one group after another, number before anything is written.
+const GROUPS: [usize; 4] = [1, 2, 3, 2];
+
+/// More steps than any wait of the run takes.
+const STEPS: u32 = 100;
+
+/// How far a run goes, and how far it is.
+#[derive(Drop)]
+struct Played {
+    /// So many calls of the journal may still be made.
+    left: u32,
+    made: u32,
+    numbered: u64,
+    /// So many of the batches that are numbered are on their way to the journal.
+    on_way: u32,
+}
+
+impl Played {
+    fn new(calls: u32) -> Played {
+        Played {
+            left: calls,
+            made: 0,
+            numbered: 0,
+            on_way: 0,
+        }
+    }
+
+    /// Whether so many calls may still be made, which counts them.
+    fn call(&mut self, calls: u32) -> bool {
+        if calls > self.left {
+            return false;
+        }
+        self.left = self.left.wrapping_sub(calls);
+        self.made = self.made.wrapping_add(calls);
+        true
+    }
+}
+
+/// Whether a batch of the run is to be synced.
+fn is_synced(place: u64) -> bool {
+    place % 3 == 2
+}
+
+/// The key and the value of a batch of the run.
+fn entry_at(place: u64) -> (u8, u8) {
+    ((place % 8) as u8, (place % 256) as u8)
+}
+
+/// A session that holds no batch.
+#[derive(Drop)]
+struct Idle<N: PipeName, M: Ledger> {
+    desk: Desk<N, M>,
+}
+
+impl<N: PipeName, M: Ledger> Model for Idle<N, M> {
+    ghost use Rattle.commit_pipeline.specs.Desks.{IsDeskIdle};
+    ghost use Rattle.commit_pipeline.specs.declared.desk.Desk.{Desk};
+
+    ghost Value = { Desk N M };
+
+    ghost view = { λ s. s.desk };
+
+    ghost invariant = { λ s. IsDeskIdle N.table N.opening s.desk };
+}
+
+/// The sessions of a run between two of its groups.
+#[derive(Drop)]
+struct Seats<N: PipeName, M: Ledger> {
+    /// It steps the journal, and commits nothing.
+    stepping: Idle<N, M>,
+    /// These have not committed in this round.
+    idle: Vec<Idle<N, M>>,
+    /// And these have.
+    done: Vec<Idle<N, M>>,
+}
+
+/// A session whose batch is numbered and not applied.
+#[derive(Drop)]
+struct Holding<N: PipeName, M: Ledger> {
+    desk: Desk<N, M>,
+    pieces: Pieces,
+    end: u64,
+}
+
+impl<N: PipeName, M: Ledger> Model for Holding<N, M> {
+    ghost use Rattle.std.specs.Prelude.{◌≡◌, None, length, ◌≤◌};
+    ghost use Rattle.commit_queue.specs.Calls.{HoldsUnapplied};
+    ghost use Rattle.commit_queue.specs.Seats.{session_table, session_view};
+    ghost use Rattle.commit_pipeline.specs.Waits.{IsHeldEnd};
+    ghost use Rattle.commit_pipeline.specs.declared.desk.Desk.{Desk};
+
+    ghost Value = { Desk N M };
+
+    ghost view = { λ s. s.desk };
+
+    ghost invariant = { λ s.
+        (session_table s.desk.seat ≡ N.table)
+        × ((session_view s.desk.seat).base ≡ N.opening.journal.next)
+        × ((session_view s.desk.seat).seat.turn ≡ None)
+        × HoldsUnapplied (session_view s.desk.seat) s.pieces
+        × IsHeldEnd (session_view s.desk.seat) s.end
+        × (s.desk.own.parts ≡ 1) × (s.desk.dead.parts ≡ 1) × (s.desk.told.parts ≡ 1) };
+}
+
+impl<N: PipeName, M: Ledger> Idle<N, M> {
+    /// Numbers the next batch of the run.
+    fn number<D: Disk, R: Wait + Abort>(
+        self,
+        rt: &R,
+        alloc: Global,
+        pipe: &Pipeline<'_, D, NoGate, N, M>,
+        place: u64,
+    ) -> Holding<N, M> {
+        let Idle { mut desk } = self;
+        let (key, value) = entry_at(place);
+        let batch = one_set(rt, alloc, key, value);
+        let count = batch.count();
+        let mut pieces = split(alloc, &batch).expect(rt, "memory");
+        let node = RecordNode::empty(alloc).expect(rt, "memory");
+        let sync = is_synced(place);
+        match pipe.take_number(rt, &mut desk, batch, node, sync) {
+            Ok((first, index)) => {
+                assert_eq!(rt; index, place);
+                pieces.number(first);
+                let end = first + u64::from(count);
+                Holding { desk, pieces, end }
+            }
+            Err(_) => panic!(rt; "a number"),
+        }
+    }
+
+    /// Steps the journal once.
+    fn step<D: Disk, R: Wait + Abort>(
+        &mut self,
+        rt: &R,
+        pipe: &Pipeline<'_, D, NoGate, N, M>,
+    ) -> Step {
+        let mut log = lock_soon(rt, &pipe.log.lock);
+        match log.step_for(rt, &pipe.table, &pipe.log.flow, &mut self.desk, 0) {
+            Ok(step) => step,
+            Err(_) => panic!(rt; "a step"),
+        }
+    }
+}
+
+impl<N: PipeName, M: Ledger> Holding<N, M> {
+    /// Applies the batch, and publishes it.
+    fn publish<D: Disk, R: Wait>(self, rt: &R, pipe: &Pipeline<'_, D, NoGate, N, M>) -> Idle<N, M> {
+        let Holding {
+            mut desk,
+            pieces,
+            end,
+        } = self;
+        pipe.publish(rt, 0, &mut desk, pieces, end);
+        Idle { desk }
+    }
+}
+
+/// Moves the records on their way into the journal, each of which is a call, where so many may still be made. They are
+/// moved early where no more may.
+fn take_in<D: Disk, N: PipeName, M: Ledger, R: Wait>(
+    rt: &R,
+    pipe: &Pipeline<'_, D, NoGate, N, M>,
+    played: &mut Played,
+    early: bool,
+) {
+    let calls = played.on_way;
+    if early && calls != played.left {
+        return;
+    }
+    if played.call(calls) {
+        lock_soon(rt, &pipe.log.lock).take_in(rt, &pipe.log.flow);
+        played.on_way = 0;
+    }
+}
+
+/// Steps the journal as long as a step moves, or until so many batches are acked.
+fn step_until<D: Disk, N: PipeName, M: Ledger, R: Wait + Abort>(
+    rt: &R,
+    pipe: &Pipeline<'_, D, NoGate, N, M>,
+    played: &mut Played,
+    stepping: &mut Idle<N, M>,
+    acked: Option<u64>,
+) {
+    for _ in 0..STEPS {
+        if let Some(acked) = acked
+            && lock_soon(rt, &pipe.log.lock).journal.acked() >= acked
+        {
+            return;
+        }
+        if !played.call(1) {
+            return;
+        }
+        if stepping.step(rt, pipe) != Step::Moved && acked.is_none() {
+            return;
+        }
+    }
+    panic!(rt; "a step of the journal that comes to an end");
+}
+
+/// So many sessions number, one after another, then the log is written, and then they publish. Answers how many batches
+/// are to be acked after that.
+fn play_group<D: Disk, N: PipeName, M: Ledger, R: Wait + Abort>(
+    rt: &R,
+    alloc: Global,
+    pipe: &Pipeline<'_, D, NoGate, N, M>,
+    played: &mut Played,
+    seats: &mut Seats<N, M>,
+    group: usize,
+) -> Option<u64> {
+    let mut holding = Vec::new(alloc);
+    let mut asked = None;
+    for _ in 0..group {
+        let Some(session) = seats.idle.pop() else {
+            panic!(rt; "a session");
+        };
+        let place = played.numbered;
+        let held = session.number(rt, alloc, pipe, place);
+        holding.push(held).expect(rt, "memory");
+        played.numbered = place.wrapping_add(1);
+        played.on_way = played.on_way.wrapping_add(1);
+        take_in(rt, pipe, played, true);
+        if is_synced(place) {
+            asked = Some(played.numbered);
+        }
+    }
+    take_in(rt, pipe, played, false);
+    step_until(rt, pipe, played, &mut seats.stepping, None);
+    for held in holding {
+        let idle = held.publish(rt, pipe);
+        seats.done.push(idle).expect(rt, "memory");
+    }
+    asked
+}
+
+/// The sessions of a run before its first group.
+fn seats_of<N: PipeName, M: Ledger>(
+    rt: &impl Abort,
+    alloc: Global,
+    sessions: Sessions<N, M>,
+) -> Seats<N, M> {
+    let mut idle = Vec::new(alloc);
+    for session in sessions {
+        let Session { number: _, desk } = session;
+        idle.push(Idle { desk }).expect(rt, "memory");
+    }
+    let Some(stepping) = idle.pop() else {
+        panic!(rt; "a session");
+    };
+    assert_eq!(rt; idle.len(), COMMITTING);
+    Seats {
+        stepping,
+        idle,
+        done: Vec::new(alloc),
+    }
+}
+
+/// Plays the run up to so many calls of the journal, and then lets one group more number: nobody moves what that sends.
+/// Each side stalls once, and so long that the log leaves it.
+fn play<D: StallDisk, N: PipeName, M: Ledger, R: Wait + Abort>(
+    rt: &R,
+    alloc: Global,
+    pipe: &Pipeline<'_, D, NoGate, N, M>,
+    sessions: Sessions<N, M>,
+    calls: u32,
+) -> Played
+    requires may_stall { N.opening.may_stall ≡ true }
+{
+    let mut played = Played::new(calls);
+    let mut seats = seats_of(rt, alloc, sessions);
+    for round in 0..ROUNDS {
+        if round == 1 {
+            pipe.stall(rt, Side::Primary, 5);
+        }
+        if round == 2 {
+            pipe.stall(rt, Side::Secondary, 4);
+        }
+        for group in GROUPS {
+            let stopped = played.left == 0;
+            let asked = play_group(rt, alloc, pipe, &mut played, &mut seats, group);
+            if asked.is_some() {
+                step_until(rt, pipe, &mut played, &mut seats.stepping, asked);
+            }
+            if stopped {
+                return played;
+            }
+        }
+        mem::swap(&mut seats.idle, &mut seats.done);
+    }
+    step_until(rt, pipe, &mut played, &mut seats.stepping, None);
+    played
+}
+
+/// A run over a journal of no record, up to so many calls of the journal. The journal is given up then.
+fn run_stopped<D: StallDisk + Drop, R: Wait + Abort>(
+    rt: &R,
+    alloc: Global,
+    journal: Journal<D>,
+    calls: u32,
+) -> (Journal<D>, Played)
+    requires empty { len journal.state ≡ 0 }
+    requires next { journal.state.next ≡ NUMBER_FIRST }
+{
+    let base = Batches::new(alloc);
+    let parts = Parts::new(alloc, &base, NUMBER_FIRST, COMMITTING + 1).expect(rt, "memory");
+    stopped_table::<D, Brand, R>(rt, alloc, parts, journal, calls)
+}
+
+/// The name of the table is picked, by which polls may be left to stall.
+fn stopped_table<D: StallDisk + Drop, N: PipeName, R: Wait + Abort>(
+    rt: &R,
+    alloc: Global,
+    parts: Parts,
+    journal: Journal<D>,
+    calls: u32,
+) -> (Journal<D>, Played)
+    requires opening { N.opening ≡ opening_on D.view parts.base journal N.opening.may_stall }
+    requires may_stall { N.opening.may_stall ≡ true }
+    requires table { parts.table ≡ N.table }
+    requires queue { parts.queue ≡ N.queue }
+    requires batches { (parts.batches ≡ N.name) × (parts.sessions ≡ N.parts) }
+    requires empty { len journal.state ≡ 0 }
+    requires next { journal.state.next ≡ parts.next }
+{
+    stopped_names::<D, N, Brand, R>(rt, alloc, parts, journal, calls)
+}
+
+/// All names are picked.
+fn stopped_names<D: StallDisk + Drop, N: PipeName, M: Ledger, R: Wait + Abort>(
+    rt: &R,
+    alloc: Global,
+    parts: Parts,
+    journal: Journal<D>,
+    calls: u32,
+) -> (Journal<D>, Played)
+    requires opening { N.opening ≡ opening_on D.view parts.base journal N.opening.may_stall }
+    requires may_stall { N.opening.may_stall ≡ true }
+    requires table { parts.table ≡ N.table }
+    requires queue { parts.queue ≡ N.queue }
+    requires batches { (parts.batches ≡ N.name) × (parts.sessions ≡ N.parts) }
+    requires answers { (parts.answers ≡ M.name) × (parts.sessions + parts.sessions ≡ M.parts) }
+    requires empty { len journal.state ≡ 0 }
+    requires next { journal.state.next ≡ parts.next }
+{
+    let Ok((pipe, sessions)) = Pipeline::<D, NoGate, N, M>::new(journal, parts, &NoGate) else {
+        panic!(rt; "memory");
+    };
+    let played = play(rt, alloc, &pipe, sessions, calls);
+    (pipe.into_journal(), played)
+}
+
+/// What a crash leaves after the stable bytes of each segment.
+#[derive(Clone, Copy, Debug, PartialEq, Eq)]
+enum Tail {
+    Nothing,
+    AllSent,
+    LastByteChanged,
+}
+
+fn side_of(index: u32) -> Side {
+    if index % 2 == 0 {
+        Side::Primary
+    } else {
+        Side::Secondary
+    }
+}
+
+/// The segment of this index.
+fn segment_at(index: u32) -> SegName {
+    SegName { wal: 1, index }
+}
+
+/// The bytes sent to a segment after its stable ones, changed as the tail says.
+fn tail_of(
+    rt: &impl Abort,
+    alloc: Global,
+    disk: &MemDisk,
+    least: &MemDisk,
+    index: u32,
+    tail: Tail,
+) -> Option<Blob> {
+    let (side, name) = (side_of(index), segment_at(index));
+    if tail == Tail::Nothing {
+        return None;
+    }
+    let stable = match least.content(side, name) {
+        Some(bytes) => bytes.len(),
+        None => 0,
+    };
+    let sent = disk.sent(side, name)?;
+    let mut bytes = Vec::from_slice(alloc, sent.get(stable..)?).expect(rt, "memory");
+    if tail == Tail::LastByteChanged
+        && let Some(last) = bytes.last_mut()
+    {
+        *last ^= 1;
+    }
+    Some(Blob::copy_of(alloc, bytes.as_slice()).expect(rt, "memory"))
+}
+
+/// The pick of an image in which each segment has this tail after its stable bytes, as they stand in that image.
+fn pick_of(
+    rt: &impl Abort,
+    alloc: Global,
+    disk: &MemDisk,
+    least: &MemDisk,
+    tail: Tail,
+) -> CrashPick {
+    let mut files = FilePicks::new(alloc);
+    for index in 0..10 {
+        let pushed = files.push(FilePick {
+            side: side_of(index),
+            name: segment_at(index),
+            tail: tail_of(rt, alloc, disk, least, index, tail),
+        });
+        assert!(rt; pushed.is_ok());
+    }
+    CrashPick { files }
+}
+
+/// The batch of this place of the run is as it was committed.
+fn check_batch(rt: &impl Abort, place: u64, batch: &Batch) {
+    assert_eq!(rt; batch.first, NUMBER_FIRST.wrapping_add(place));
+    let (byte, digit) = entry_at(place);
+    match batch.entries.as_slice() {
+        [Entry::Set { key, value }] => {
+            assert!(rt; key.as_slice() == [byte].as_slice());
+            assert!(rt; value.as_slice() == [digit].as_slice());
+        }
+        _ => panic!(rt; "one Set"),
+    }
+}
+
+/// After so many calls of the journal a crash with this tail leaves a prefix of the batches in the order of their
+/// numbers, with all that were acked, and none that no call moved.
+fn crash<R: Wait + Abort>(rt: &R, alloc: Global, calls: u32, tail: Tail) {
+    let none = CrashPick {
+        files: FilePicks::new(alloc),
+    };
+    let (journal, _) = run_stopped(rt, alloc, new_journal(rt, alloc), calls);
+    let least = journal.into_disk().crash(&none).expect(rt, "memory");
+    let (journal, played) = run_stopped(rt, alloc, new_journal(rt, alloc), calls);
+    let (acked, moved) = (journal.acked(), journal.len());
+    assert_eq!(rt; (played.left, played.made), (0, calls));
+    assert_eq!(rt;
+        moved.wrapping_add(u64::from(played.on_way)),
+        played.numbered
+    );
+    let disk = journal.into_disk();
+    let pick = pick_of(rt, alloc, &disk, &least, tail);
+    assert!(rt; disk.chance_free(&pick).expect(rt, "memory"));
+    let mut image = disk.crash(&pick).expect(rt, "memory");
+    let found = match recover(alloc, &mut image, Mode::Strict) {
+        Ok(found) => found,
+        Err(_) => panic!(rt; "after {calls} calls the image recovers"),
+    };
+    let count = found.batches.len() as u64;
+    assert!(rt;
+        acked <= count && count <= moved,
+        "after {calls} calls {count}"
+    );
+    for (place, batch) in found.batches.as_slice().iter().enumerate() {
+        check_batch(rt, place as u64, batch);
+    }
+}
+
+#[test]
+fn a_stop_after_each_call_of_the_journal(rt: HostRuntime) {
+    let alloc = rt.alloc();
+    let (journal, played) = run_stopped(&rt, alloc, new_journal(&rt, alloc), 1_000);
+    let (calls, batches) = (played.made, ROUNDS * COMMITTING as u64);
+    // One for each batch, and one step at least for each group.
+    assert!(rt; 48 <= calls && calls < 1_000);
+    assert!(rt; 2 < journal.segments());
+    assert_eq!(rt; (journal.len(), played.numbered), (batches, batches));
+    for made in 0..=calls {
+        for tail in [Tail::Nothing, Tail::AllSent, Tail::LastByteChanged] {
+            crash(&rt, alloc, made, tail);
+        }
+    }
+}
