@@ -8,6 +8,7 @@ use Rattle.std.proofs.Crossing.{crosses}
 use Rattle.std.specs.declared.sync.ledger.Ledger as ledger
 use Rattle.std.proofs.sync.ledger.Book.TheSendSync as book
 use Rattle.std.proofs.sync.ledger.Share.TheSendSync as share
+use Rattle.std.proofs.sync.atomic.AtomicBool.TheSendSync as flag
 use Rattle.disk_face.specs.declared.disk.Disk as disk
 use Rattle.record_flow.proofs.Laws.{nodes_sent, send_pass_field_sent, flush_pass_field_sent, flow_field_shared}
 use Rattle.commit_queue.proofs.pipe_table.PipeTable.TheSendSync as table
@@ -65,7 +66,7 @@ log_shared : (D N M : RattleType) (d : disk.Ghosts D.Denot) (n : name.Ghosts N.D
 log_shared D N M d n b a sent =
     let t = log.the_type D N M d n b a in
     let behind = flushes_sent D N M d n b a sent in
-    struct_sync (shape t) (flow_field_shared, (search (sendable, crosses, behind), tt))
+    struct_sync (shape t) (flow_field_shared, (search (sendable, crosses, behind), (search (sendable, flag.the_field_sync), tt)))
 
 -- A pipeline may be shared.
 pub pipeline_shared : (κ : NamedLft) (D G N M : RattleType) (d : disk.Ghosts D.Denot) (n : name.Ghosts N.Denot) (b : ledger.Ghosts N.Denot)

@@ -50,7 +50,11 @@ impl<'a, D: Disk, G: Gate, N: PipeName, M: Ledger> Pipeline<'a, D, G, N, M> {
             mut batches,
             mut own,
         } = self.commits.into_inner();
-        let LogSide { flow, lock } = self.log;
+        let LogSide {
+            flow,
+            lock,
+            died: _died,
+        } = self.log;
         let mut log = lock.into_inner();
         log.take_last(rt, &flow, sends);
         let FlushSide {
@@ -101,7 +105,7 @@ fn gather<N: PipeName, M: Ledger>(
         } = desk;
         table.retire(producer, seat);
         own.merge(batches);
-        dead.merge(answers);
-        dead.merge(meetings);
+        dead.merge(answers.into_share());
+        dead.merge(meetings.into_share());
     }
 }

@@ -11,7 +11,7 @@ ghost use Rattle.commit_pipeline.specs.Sides.{MovesNodes, DrivesJournal, StepsFo
 ghost use Rattle.commit_pipeline.specs.Logging.{SettlesJournal, FallsUnlessAcked};
 ghost use Rattle.commit_pipeline.specs.Ties.{IsNextTo};
 
-use crate::desk::Desk;
+use crate::desk::{DeathCount, Desk};
 use crate::name::PipeName;
 use crate::session::Session;
 use commit_queue::{FlushSeat, PipeTable};
@@ -20,6 +20,7 @@ use failover_writer::{DeadMark, Journal, JournalFault, Step, a_journal_at_hand};
 use record_flow::{FlushPass, RecordFlow, SendPass};
 use std::marker::{Model, PhantomData};
 use std::sync::Wait;
+use std::sync::atomic::{AtomicBool, Ordering};
 use std::sync::ledger::{Book, Ledger, Share};
 
 /// The journal with the seat that tells what is synced, the pass that takes records off their way, and the
@@ -103,7 +104,7 @@ impl<D: Disk, N: PipeName, M: Ledger> FlushSide<D, N, M> {
     {
         audit(&mut self.answers, &mut desk.dead, &mut desk.told);
         let mark = self.journal.dead()?;
-        self.answers.add(&mut desk.dead, 1);
+        desk.dead.count(&mut self.answers);
         Some(mark)
     }
 
@@ -178,10 +179,17 @@ impl<D: Disk, N: PipeName, M: Ledger> FlushSide<D, N, M> {
             Err(_) if acked > index => Ok(Step::Moved),
             Err(fault) => {
                 if let JournalFault::Dead { .. } = fault {
-                    self.answers.add(&mut desk.dead, 1);
+                    desk.dead.count(&mut self.answers);
                 }
                 Err(fault)
             }
+        }
+    }
+
+    /// Sets the word where the journal is dead. A commit looks at it before it is numbered.
+    pub(crate) fn note_death(&self, died: &AtomicBool) {
+        if self.journal.dead().is_some() {
+            died.store(true, Ordering::SeqCst);
         }
     }
 
@@ -217,21 +225,21 @@ impl<D: Disk, N: PipeName, M: Ledger> FlushSide<D, N, M> {
     {
         audit(&mut self.answers, &mut desk.dead, &mut desk.told);
         if let Some(_) = self.journal.dead() {
-            self.answers.add(&mut desk.told, 1);
+            desk.told.count(&mut self.answers);
             return;
         }
     }
 }
 
 /// Where no death was counted, a session knows of none.
-fn audit<M: Ledger>(answers: &mut Book<M>, dead: &mut Share<M>, told: &mut Share<M>)
+fn audit<M: Ledger>(answers: &mut Book<M>, dead: &mut DeathCount<M>, told: &mut DeathCount<M>)
     ensures total { answers.new.total ≡ answers.old.total }
     ensures dead { Raises dead.old 0 dead.new }
     ensures told { Raises told.old 0 told.new }
     ensures none { answers.old.total ≡ 0 → dead.old.amount + told.old.amount ≡ 0 }
 {
-    answers.audit(dead);
-    answers.audit(told);
+    dead.audit(answers);
+    told.audit(answers);
 }
 
 impl<D: StallDisk, N: PipeName, M: Ledger> FlushSide<D, N, M> {

@@ -10,7 +10,7 @@ ghost use Rattle.commit_pipeline.specs.Parts.{ArePartsOf, AreNew, AreSeatsOf, Ha
 ghost use Rattle.commit_pipeline.specs.Ties.{IsSpare};
 
 use crate::commit_side::CommitSide;
-use crate::desk::Desk;
+use crate::desk::{DeathCount, Desk};
 use crate::flush_side::FlushSide;
 use crate::gate::Gate;
 use crate::log_side::LogSide;
@@ -27,6 +27,7 @@ use std::alloc::Global;
 use std::marker::{Model, PhantomData};
 use std::snapshot::Snapshot;
 use std::sync::Mutex;
+use std::sync::atomic::AtomicBool;
 use std::sync::ledger::{Blank, Ledger, Share};
 use wal_base::{ListOf, NoMemory};
 
@@ -195,7 +196,11 @@ impl<'a, D: Disk, G: Gate, N: PipeName, M: Ledger> Pipeline<'a, D, G, N, M> {
             alloc,
             table,
             commits,
-            log: LogSide { flow, lock },
+            log: LogSide {
+                flow,
+                lock,
+                died: AtomicBool::new(false),
+            },
             gate,
         };
         Ok((pipeline, sessions))
@@ -223,8 +228,8 @@ fn seated<N: PipeName, M: Ledger>(
         let desk = Desk {
             seat,
             own: own.split_off(1, 0),
-            dead: dead.split_off(1, 0),
-            told: dead.split_off(1, 0),
+            dead: DeathCount::none(dead.split_off(1, 0)),
+            told: DeathCount::none(dead.split_off(1, 0)),
         };
         sessions.push(Session::<N, M> { number, desk })?;
     }

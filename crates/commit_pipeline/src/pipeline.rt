@@ -107,7 +107,7 @@ impl<'a, D: Disk, G: Gate, N: PipeName, M: Ledger> Pipeline<'a, D, G, N, M> {
         ensures met { Raises desk.old.told 0 desk.new.told }
         ensures lives { StartsLiving (known desk.old) result }
     {
-        if let Some(mark) = lock_soon(rt, &self.log.lock).refuses(desk) {
+        if let Some(mark) = self.log.refuses(rt, desk, sync) {
             return Err(CommitFault::Dead {
                 side: mark.side,
                 faults: mark.faults,
@@ -115,7 +115,7 @@ impl<'a, D: Disk, G: Gate, N: PipeName, M: Ledger> Pipeline<'a, D, G, N, M> {
         }
         match self.take_number(rt, desk, batch, node, sync) {
             Ok(numbers) => {
-                lock_soon(rt, &self.log.lock).drive(rt, &self.table, &self.log.flow);
+                self.log.drive(rt, &self.table);
                 Ok(numbers)
             }
             Err(Refusal::TooMany { next }) => {
@@ -221,13 +221,7 @@ impl<'a, D: Disk, G: Gate, N: PipeName, M: Ledger> Pipeline<'a, D, G, N, M> {
             if self.table.acked(&mut desk.seat) > numbers.index {
                 return Ok(());
             }
-            let stepped = lock_soon(rt, &self.log.lock).step_for(
-                rt,
-                &self.table,
-                &self.log.flow,
-                desk,
-                numbers.index,
-            );
+            let stepped = self.log.step_for(rt, &self.table, desk, numbers.index);
             match stepped {
                 Ok(Step::Moved) => {}
                 Ok(_) => thread::yield_now(),
@@ -241,7 +235,11 @@ impl<'a, D: Disk, G: Gate, N: PipeName, M: Ledger> Pipeline<'a, D, G, N, M> {
     pub fn into_journal(self) -> Journal<D>
         ensures { StillKeeps D.tells D.view N.opening result }
     {
-        let LogSide { flow: _flow, lock } = self.log;
+        let LogSide {
+            flow: _flow,
+            lock,
+            died: _died,
+        } = self.log;
         lock.into_inner().journal
     }
 }

@@ -29,7 +29,7 @@ invariant_of-self-then-acked-index g c = (
 
 pub invariant_of-self-in-Dead : goal.invariant_of-self-in-Dead
 invariant_of-self-in-Dead g c = (
-  flushes_dead (followed g (goal.at.invariant_of-self-in-Dead g c).After-raise_acked) _ c.add.new.self.total
+  flushes_dead (followed g (goal.at.invariant_of-self-in-Dead g c).After-raise_acked) _ c.count.new.book.total
       (marked_dead c.step-answer.new.self.state c.step-answer.ensures.dead c.in-Err-2.is c.in-Dead.is),
   c.self.invariant.1,
 )
