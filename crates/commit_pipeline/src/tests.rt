@@ -7,7 +7,7 @@ ghost use Rattle.failover_writer.specs.State.{len};
 mod in_flight;
 mod stops;
 
-use crate::{Gate, GatePoint, NoGate, Parts, PipeName, Pipeline, Session};
+use crate::{Gate, GatePoint, NoGate, Parts, PipeName, Pipeline, Session, Sessions};
 use batch_repr::{BatchBuilder, Batches, NUMBER_FIRST, Unnumbered};
 use disk_face::{Disk, Side, StallDisk};
 use failover_writer::Journal;
@@ -231,7 +231,9 @@ impl Gate for Held {
 
 /// Each session commits one batch.
 #[derive(Drop)]
-struct CommitsOne;
+struct CommitsOne {
+    sync: bool,
+}
 
 impl<G: Gate> Act<G> for CommitsOne {
     fn act<D: Disk, N: PipeName, M: Ledger, R: Wait + Abort>(
@@ -242,8 +244,10 @@ impl<G: Gate> Act<G> for CommitsOne {
         session: &mut Session<N, M>,
     ) {
         let batch = one_set(rt, alloc, (session.number % 256) as u8, 0);
-        pipe.commit(rt, session, batch, false)
+        let committed = pipe
+            .commit(rt, session, batch, self.sync)
             .expect(rt, "a commit");
+        assert_eq!(rt; committed.synced, self.sync);
     }
 }
 
@@ -258,7 +262,7 @@ fn a_session_that_is_held_holds_up_no_other(rt: HostRuntime) {
                 &gate,
                 new_journal(&rt, rt.alloc()),
                 sessions as usize,
-                &CommitsOne,
+                &CommitsOne { sync: false },
             );
             assert_eq!(rt; batches, u64::from(sessions));
             assert!(rt; gate.left.load(Ordering::SeqCst) > 0);
@@ -266,32 +270,43 @@ fn a_session_that_is_held_holds_up_no_other(rt: HostRuntime) {
     }
 }
 
-/// Each of so many sessions commits one batch with a sync, after polls of the primary side were
-/// left to stall. Answers the length of the journal, given up as it stands.
-fn run_stalled<D: StallDisk + Drop, R: Wait + Abort>(
+/// What a thread plays with all sessions of a pipeline, polls of whose disk may be left to stall.
+trait Play {
+    fn play<D: StallDisk, N: PipeName, M: Ledger, R: Wait + Abort>(
+        &mut self,
+        rt: &R,
+        alloc: Global,
+        pipe: &Pipeline<'_, D, NoGate, N, M>,
+        sessions: Sessions<N, M>,
+    )
+        requires may_stall { N.opening.may_stall ≡ true };
+}
+
+/// Plays with so many sessions over a journal of no record, which is given up as it stands then.
+fn play_out<D: StallDisk + Drop, P: Play, R: Wait + Abort>(
     rt: &R,
     alloc: Global,
     journal: Journal<D>,
     sessions: usize,
-    polls: u32,
-) -> u64
+    play: &mut P,
+) -> Journal<D>
     requires sessions { (1 ≤ sessions) × (sessions ≤ SESSIONS_MAX) }
     requires empty { len journal.state ≡ 0 }
     requires next { journal.state.next ≡ NUMBER_FIRST }
 {
     let base = Batches::new(alloc);
     let parts = Parts::new(alloc, &base, NUMBER_FIRST, sessions).expect(rt, "memory");
-    stalled_table::<D, Brand, R>(rt, alloc, parts, journal, polls)
+    played_table::<D, Brand, P, R>(rt, alloc, parts, journal, play)
 }
 
 /// The name of the table is picked, by which polls may be left to stall.
-fn stalled_table<D: StallDisk + Drop, N: PipeName, R: Wait + Abort>(
+fn played_table<D: StallDisk + Drop, N: PipeName, P: Play, R: Wait + Abort>(
     rt: &R,
     alloc: Global,
     parts: Parts,
     journal: Journal<D>,
-    polls: u32,
-) -> u64
+    play: &mut P,
+) -> Journal<D>
     requires opening { N.opening ≡ opening_on D.view parts.base journal N.opening.may_stall }
     requires may_stall { N.opening.may_stall ≡ true }
     requires table { parts.table ≡ N.table }
@@ -300,17 +315,17 @@ fn stalled_table<D: StallDisk + Drop, N: PipeName, R: Wait + Abort>(
     requires empty { len journal.state ≡ 0 }
     requires next { journal.state.next ≡ parts.next }
 {
-    stalled_names::<D, N, Brand, R>(rt, alloc, parts, journal, polls)
+    played_names::<D, N, Brand, P, R>(rt, alloc, parts, journal, play)
 }
 
 /// All names are picked.
-fn stalled_names<D: StallDisk + Drop, N: PipeName, M: Ledger, R: Wait + Abort>(
+fn played_names<D: StallDisk + Drop, N: PipeName, M: Ledger, P: Play, R: Wait + Abort>(
     rt: &R,
     alloc: Global,
     parts: Parts,
     journal: Journal<D>,
-    polls: u32,
-) -> u64
+    play: &mut P,
+) -> Journal<D>
     requires opening { N.opening ≡ opening_on D.view parts.base journal N.opening.may_stall }
     requires may_stall { N.opening.may_stall ≡ true }
     requires table { parts.table ≡ N.table }
@@ -320,23 +335,42 @@ fn stalled_names<D: StallDisk + Drop, N: PipeName, M: Ledger, R: Wait + Abort>(
     requires empty { len journal.state ≡ 0 }
     requires next { journal.state.next ≡ parts.next }
 {
-    let Ok((pipe, mut sessions)) = Pipeline::<D, NoGate, N, M>::new(journal, parts, &NoGate) else {
+    let Ok((pipe, sessions)) = Pipeline::<D, NoGate, N, M>::new(journal, parts, &NoGate) else {
         panic!(rt; "memory");
     };
-    pipe.stall(rt, Side::Primary, polls);
-    for session in sessions.iter_mut() {
-        let batch = one_set(rt, alloc, 0, 0);
-        let committed = pipe.commit(rt, session, batch, true).expect(rt, "a commit");
-        assert!(rt; committed.synced);
+    play.play(rt, alloc, &pipe, sessions);
+    pipe.into_journal()
+}
+
+/// Each session commits one batch with a sync, after so many polls of the primary side were left to stall.
+#[derive(Drop)]
+struct SyncsStalled {
+    polls: u32,
+}
+
+impl Play for SyncsStalled {
+    fn play<D: StallDisk, N: PipeName, M: Ledger, R: Wait + Abort>(
+        &mut self,
+        rt: &R,
+        alloc: Global,
+        pipe: &Pipeline<'_, D, NoGate, N, M>,
+        sessions: Sessions<N, M>,
+    )
+        requires may_stall { N.opening.may_stall ≡ true }
+    {
+        let mut sessions = sessions;
+        pipe.stall(rt, Side::Primary, self.polls);
+        for session in sessions.iter_mut() {
+            CommitsOne { sync: true }.act(rt, alloc, pipe, session);
+        }
     }
-    pipe.into_journal().len()
 }
 
 #[test]
 fn a_journal_is_given_up_with_all_batches_though_polls_stalled(rt: HostRuntime) {
     for polls in [0u32, 1, 2, 20] {
         let journal = new_journal(&rt, rt.alloc());
-        let batches = run_stalled(&rt, rt.alloc(), journal, 3, polls);
-        assert_eq!(rt; batches, 3);
+        let journal = play_out(&rt, rt.alloc(), journal, 3, &mut SyncsStalled { polls });
+        assert_eq!(rt; journal.len(), 3);
     }
 }

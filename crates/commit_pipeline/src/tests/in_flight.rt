@@ -4,11 +4,11 @@ ghost use Rattle.batch_repr.specs.declared.limits.TheConstants.{NUMBER_FIRST};
 ghost use Rattle.disk_face.specs.View.{Place, files, NothingInFlight};
 ghost use Rattle.failover_writer.specs.State.{len};
 
-use super::{Act, TURNS, one_set, run};
+use super::{Act, CommitsOne, TURNS, one_set, run};
 use crate::locking::lock_soon;
 use crate::{Gate, GatePoint, PipeName, Pipeline, Session};
 use batch_repr::NUMBER_FIRST;
-use disk_face::{Disk, Side, StallDisk};
+use disk_face::{Disk, Side};
 use failover_writer::Journal;
 use mem_disk::MemDisk;
 use std::alloc::Global;
@@ -172,24 +172,6 @@ impl Gate for Together {
     }
 }
 
-/// Each session commits one batch with a sync.
-#[derive(Drop)]
-struct CommitsSynced;
-
-impl<G: Gate> Act<G> for CommitsSynced {
-    fn act<D: Disk, N: PipeName, M: Ledger, R: Wait + Abort>(
-        &self,
-        rt: &R,
-        alloc: Global,
-        pipe: &Pipeline<'_, D, G, N, M>,
-        session: &mut Session<N, M>,
-    ) {
-        let batch = one_set(rt, alloc, (session.number % 256) as u8, 0);
-        let committed = pipe.commit(rt, session, batch, true).expect(rt, "a commit");
-        assert!(rt; committed.synced);
-    }
-}
-
 /// A creation, a write and a sync: what is asked for beyond these fails, in each segment, so that a batch that they did
 /// not sync would be answered as unsynced.
 #[test]
@@ -212,7 +194,7 @@ fn one_write_and_one_sync_are_for_all_that_wait(rt: HostRuntime) {
             &gate,
             journal,
             sessions as usize,
-            &CommitsSynced,
+            &CommitsOne { sync: true },
         );
         assert_eq!(rt; batches, sessions);
         assert!(rt; !gate.late.load(Ordering::SeqCst));

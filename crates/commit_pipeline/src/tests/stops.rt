@@ -1,21 +1,18 @@
 //! A stop after each call of the journal in a run of eight sessions, which is played by the parts of a commit.
-ghost use Rattle.std.specs.Prelude.{◌≡◌, ◌+◌, true};
-ghost use Rattle.batch_repr.specs.declared.limits.TheConstants.{NUMBER_FIRST};
-ghost use Rattle.commit_pipeline.specs.Openings.{opening_on};
-ghost use Rattle.failover_writer.specs.State.{len};
+ghost use Rattle.std.specs.Prelude.{◌≡◌, true};
 
-use super::{new_journal, one_set};
+use super::{Play, new_journal, one_set, play_out};
 use crate::desk::Desk;
 use crate::locking::lock_soon;
-use crate::{NoGate, Parts, PipeName, Pipeline, Session, Sessions};
-use batch_repr::{Batch, Batches, NUMBER_FIRST};
+use crate::{NoGate, PipeName, Pipeline, Session, Sessions};
+use batch_repr::{Batch, NUMBER_FIRST};
 use disk_face::{Disk, SegName, Side, StallDisk};
 use failover_writer::{Journal, Step};
 use mem_disk::{CrashPick, FilePick, FilePicks, MemDisk};
 use memtable_shards::{Pieces, split};
 use record_queue::RecordNode;
 use std::alloc::Global;
-use std::marker::{Brand, Model};
+use std::marker::Model;
 use std::mem;
 use std::process::Abort;
 use std::sync::Wait;
@@ -286,98 +283,48 @@ fn seats_of<N: PipeName, M: Ledger>(
     }
 }
 
-/// Plays the run up to so many calls of the journal, and then lets one group more number: nobody moves what that sends.
-/// Each side stalls once, and so long that the log leaves it.
-fn play<D: StallDisk, N: PipeName, M: Ledger, R: Wait + Abort>(
-    rt: &R,
-    alloc: Global,
-    pipe: &Pipeline<'_, D, NoGate, N, M>,
-    sessions: Sessions<N, M>,
-    calls: u32,
-) -> Played
-    requires may_stall { N.opening.may_stall ≡ true }
-{
-    let mut played = Played::new(calls);
-    let mut seats = seats_of(rt, alloc, sessions);
-    for round in 0..ROUNDS {
-        if round == 1 {
-            pipe.stall(rt, Side::Primary, 5);
-        }
-        if round == 2 {
-            pipe.stall(rt, Side::Secondary, 4);
-        }
-        for group in GROUPS {
-            let stopped = played.left == 0;
-            let asked = play_group(rt, alloc, pipe, &mut played, &mut seats, group);
-            if asked.is_some() {
-                step_until(rt, pipe, &mut played, &mut seats.stepping, asked);
+impl Play for Played {
+    /// Plays the run up to so many calls of the journal, and then lets one group more number: nobody moves what that
+    /// sends. Each side stalls once, and so long that the log leaves it.
+    fn play<D: StallDisk, N: PipeName, M: Ledger, R: Wait + Abort>(
+        &mut self,
+        rt: &R,
+        alloc: Global,
+        pipe: &Pipeline<'_, D, NoGate, N, M>,
+        sessions: Sessions<N, M>,
+    )
+        requires may_stall { N.opening.may_stall ≡ true }
+    {
+        let mut seats = seats_of(rt, alloc, sessions);
+        for round in 0..ROUNDS {
+            if round == 1 {
+                pipe.stall(rt, Side::Primary, 5);
             }
-            if stopped {
-                return played;
+            if round == 2 {
+                pipe.stall(rt, Side::Secondary, 4);
             }
+            for group in GROUPS {
+                let stopped = self.left == 0;
+                let asked = play_group(rt, alloc, pipe, self, &mut seats, group);
+                if asked.is_some() {
+                    step_until(rt, pipe, self, &mut seats.stepping, asked);
+                }
+                if stopped {
+                    return;
+                }
+            }
+            mem::swap(&mut seats.idle, &mut seats.done);
         }
-        mem::swap(&mut seats.idle, &mut seats.done);
+        step_until(rt, pipe, self, &mut seats.stepping, None);
     }
-    step_until(rt, pipe, &mut played, &mut seats.stepping, None);
-    played
 }
 
 /// A run over a journal of no record, up to so many calls of the journal. The journal is given up then.
-fn run_stopped<D: StallDisk + Drop, R: Wait + Abort>(
-    rt: &R,
-    alloc: Global,
-    journal: Journal<D>,
-    calls: u32,
-) -> (Journal<D>, Played)
-    requires empty { len journal.state ≡ 0 }
-    requires next { journal.state.next ≡ NUMBER_FIRST }
-{
-    let base = Batches::new(alloc);
-    let parts = Parts::new(alloc, &base, NUMBER_FIRST, COMMITTING + 1).expect(rt, "memory");
-    stopped_table::<D, Brand, R>(rt, alloc, parts, journal, calls)
-}
-
-/// The name of the table is picked, by which polls may be left to stall.
-fn stopped_table<D: StallDisk + Drop, N: PipeName, R: Wait + Abort>(
-    rt: &R,
-    alloc: Global,
-    parts: Parts,
-    journal: Journal<D>,
-    calls: u32,
-) -> (Journal<D>, Played)
-    requires opening { N.opening ≡ opening_on D.view parts.base journal N.opening.may_stall }
-    requires may_stall { N.opening.may_stall ≡ true }
-    requires table { parts.table ≡ N.table }
-    requires queue { parts.queue ≡ N.queue }
-    requires batches { (parts.batches ≡ N.name) × (parts.sessions ≡ N.parts) }
-    requires empty { len journal.state ≡ 0 }
-    requires next { journal.state.next ≡ parts.next }
-{
-    stopped_names::<D, N, Brand, R>(rt, alloc, parts, journal, calls)
-}
-
-/// All names are picked.
-fn stopped_names<D: StallDisk + Drop, N: PipeName, M: Ledger, R: Wait + Abort>(
-    rt: &R,
-    alloc: Global,
-    parts: Parts,
-    journal: Journal<D>,
-    calls: u32,
-) -> (Journal<D>, Played)
-    requires opening { N.opening ≡ opening_on D.view parts.base journal N.opening.may_stall }
-    requires may_stall { N.opening.may_stall ≡ true }
-    requires table { parts.table ≡ N.table }
-    requires queue { parts.queue ≡ N.queue }
-    requires batches { (parts.batches ≡ N.name) × (parts.sessions ≡ N.parts) }
-    requires answers { (parts.answers ≡ M.name) × (parts.sessions + parts.sessions ≡ M.parts) }
-    requires empty { len journal.state ≡ 0 }
-    requires next { journal.state.next ≡ parts.next }
-{
-    let Ok((pipe, sessions)) = Pipeline::<D, NoGate, N, M>::new(journal, parts, &NoGate) else {
-        panic!(rt; "memory");
-    };
-    let played = play(rt, alloc, &pipe, sessions, calls);
-    (pipe.into_journal(), played)
+fn run_stopped<R: Wait + Abort>(rt: &R, alloc: Global, calls: u32) -> (Journal<MemDisk>, Played) {
+    let mut played = Played::new(calls);
+    let journal = new_journal(rt, alloc);
+    let journal = play_out(rt, alloc, journal, COMMITTING + 1, &mut played);
+    (journal, played)
 }
 
 /// What a crash leaves after the stable bytes of each segment.
@@ -467,9 +414,9 @@ fn crash<R: Wait + Abort>(rt: &R, alloc: Global, calls: u32, tail: Tail) {
     let none = CrashPick {
         files: FilePicks::new(alloc),
     };
-    let (journal, _) = run_stopped(rt, alloc, new_journal(rt, alloc), calls);
+    let (journal, _) = run_stopped(rt, alloc, calls);
     let least = journal.into_disk().crash(&none).expect(rt, "memory");
-    let (journal, played) = run_stopped(rt, alloc, new_journal(rt, alloc), calls);
+    let (journal, played) = run_stopped(rt, alloc, calls);
     let (acked, moved) = (journal.acked(), journal.len());
     assert_eq!(rt; (played.left, played.made), (0, calls));
     assert_eq!(rt;
@@ -497,7 +444,7 @@ fn crash<R: Wait + Abort>(rt: &R, alloc: Global, calls: u32, tail: Tail) {
 #[test]
 fn a_stop_after_each_call_of_the_journal(rt: HostRuntime) {
     let alloc = rt.alloc();
-    let (journal, played) = run_stopped(&rt, alloc, new_journal(&rt, alloc), 1_000);
+    let (journal, played) = run_stopped(&rt, alloc, 1_000);
     let (calls, batches) = (played.made, ROUNDS * COMMITTING as u64);
     // One for each batch, and one step at least for each group.
     assert!(rt; 48 <= calls && calls < 1_000);

@@ -1,8 +1,0 @@
-use Rattle.std.proofs.Common.{List, sym, subst}
-use Rattle.batch_repr.specs.declared.batch.Batch.{Batch}
-use Rattle.commit_pipeline.specs.Openings.{EndsBefore}
-use Rattle.commit_pipeline.proofs.EndsBefore.{no_base}
-use Rattle.commit_pipeline.proofs.tests.run_stalled.Goals as goal
-
-pub new-requires-clause-base : goal.new-requires-clause-base
-new-requires-clause-base g c = subst (λ (base : List Batch). EndsBefore base 10) (sym c.new-base.ensures) (no_base 10)
