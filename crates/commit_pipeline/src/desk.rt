@@ -1,5 +1,5 @@
 //! What a session commits with, while a call is under way.
-ghost use Rattle.std.specs.Prelude.{◌≡◌, ◌+◌, ◌<◌, ◌≤◌, false};
+ghost use Rattle.std.specs.Prelude.{◌≡◌, ◌↔◌, ◌+◌, ◌<◌, ◌≤◌, false};
 ghost use Rattle.commit_pipeline.specs.Desks.{Raises, known};
 
 use crate::name::PipeName;
@@ -16,14 +16,14 @@ pub(crate) struct DeathCount<M: Ledger> {
 }
 
 impl<M: Ledger> Model for DeathCount<M> {
-    ghost use Rattle.std.specs.Prelude.{◌≡◌, false};
+    ghost use Rattle.std.specs.Prelude.{◌≡◌, ◌↔◌, false};
     ghost use Rattle.std.specs.declared.sync.ledger.Share.{Share};
 
     ghost Value = { Share M };
 
     ghost view = { λ c. c.share };
 
-    ghost invariant = { λ c. c.any ≡ false → c.share.amount ≡ 0 };
+    ghost invariant = { λ c. (c.any ≡ false) ↔ (c.share.amount ≡ 0) };
 }
 
 impl<M: Ledger> DeathCount<M> {
@@ -37,7 +37,7 @@ impl<M: Ledger> DeathCount<M> {
 
     /// Whether it was told.
     pub(crate) fn is_any(&self) -> bool
-        ensures { result ≡ false → self.now.amount ≡ 0 }
+        ensures { (result ≡ false) ↔ (self.now.amount ≡ 0) }
     {
         self.any
     }
@@ -88,7 +88,7 @@ pub(crate) struct Desk<N: PipeName, M: Ledger> {
 impl<N: PipeName, M: Ledger> Desk<N, M> {
     /// Whether the session knows of a death.
     pub(crate) fn knows_death(&self) -> bool
-        ensures { result ≡ false → known self.now ≡ 0 }
+        ensures { (result ≡ false) ↔ (known self.now ≡ 0) }
     {
         self.dead.is_any() || self.told.is_any()
     }

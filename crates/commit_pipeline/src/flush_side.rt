@@ -1,5 +1,5 @@
 //! What is behind the flush lock, where the log is written. Nothing here is handed the commit lock.
-ghost use Rattle.std.specs.Prelude.{◌≡◌, ◌+◌, true, None, IfErr, IfSome};
+ghost use Rattle.std.specs.Prelude.{◌≡◌, ◌↔◌, ◌+◌, true, IsTrue, None, IsSome, IfErr, IfSome};
 ghost use Rattle.disk_face.specs.Calls.{Stalls};
 ghost use Rattle.record_flow.specs.Passes.{flow_id, flush_queue, take_view, send_queue, send_view};
 ghost use Rattle.record_flow.specs.Flows.{WasEmpty, HasEnded, TookAll};
@@ -20,7 +20,6 @@ use failover_writer::{DeadMark, Journal, JournalFault, Step, a_journal_at_hand};
 use record_flow::{FlushPass, RecordFlow, SendPass};
 use std::marker::{Model, PhantomData};
 use std::sync::Wait;
-use std::sync::atomic::{AtomicBool, Ordering};
 use std::sync::ledger::{Book, Ledger, Share};
 
 /// The journal with the seat that tells what is synced, the pass that takes records off their way, and the
@@ -186,11 +185,11 @@ impl<D: Disk, N: PipeName, M: Ledger> FlushSide<D, N, M> {
         }
     }
 
-    /// Sets the word where the journal is dead. A commit looks at it before it is numbered.
-    pub(crate) fn note_death(&self, died: &AtomicBool) {
-        if self.journal.dead().is_some() {
-            died.store(true, Ordering::SeqCst);
-        }
+    /// Whether the journal is dead.
+    pub(crate) fn is_dead(&self) -> bool
+        ensures { IsTrue result ↔ IsSome self.now.journal.state.dead }
+    {
+        self.journal.dead().is_some()
     }
 
     /// Nothing more is sent: all that was is moved into the journal.

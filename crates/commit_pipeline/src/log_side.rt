@@ -53,7 +53,8 @@ impl<D: Disk, N: PipeName, M: Ledger> LogSide<D, N, M> {
         unreachable!()
     }
 
-    /// The mark of a journal that is dead, which the session then knows of. A commit with a sync does not
+    /// The mark of a journal that is dead, which the session then knows of. `None` where it lives, or where
+    /// none knows yet that it does not: then the session knew of no death. A commit with a sync does not
     /// take the lock where no death is known: numbered while another one's sync is under way, it shares
     /// the next sync with all that are.
     pub(crate) fn refuses<R: Wait>(
@@ -82,7 +83,7 @@ impl<D: Disk, N: PipeName, M: Ledger> LogSide<D, N, M> {
     {
         let mut side = lock_soon(rt, &self.lock);
         side.drive(rt, table, &self.flow);
-        side.note_death(&self.died);
+        self.note_death(side.is_dead());
     }
 
     /// Moves the records found, and steps the journal once. A fault counts where the batch of this place is
@@ -104,7 +105,14 @@ impl<D: Disk, N: PipeName, M: Ledger> LogSide<D, N, M> {
     {
         let mut side = lock_soon(rt, &self.lock);
         let stepped = side.step_for(rt, table, &self.flow, desk, index);
-        side.note_death(&self.died);
+        self.note_death(side.is_dead());
         stepped
+    }
+
+    /// Sets the word where the journal is dead, behind the lock still.
+    fn note_death(&self, is_dead: bool) {
+        if is_dead {
+            self.died.store(true, Ordering::SeqCst);
+        }
     }
 }
