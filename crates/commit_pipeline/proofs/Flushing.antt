@@ -30,7 +30,7 @@ use Rattle.commit_queue.specs.Calls.{RaisesAcked}
 use Rattle.commit_pipeline.specs.Openings.{Opening, KeepsJournal}
 use Rattle.commit_pipeline.proofs.KeepsJournal.{kept_further, kept_pushed, kept_stalled}
 use Rattle.commit_pipeline.specs.Desks.{TellsFault}
-use Rattle.commit_pipeline.specs.Sides.{FlushView, PushesAll, MovesNodes, flushing}
+use Rattle.commit_pipeline.specs.Sides.{PushesAll, MovesNodes}
 use Rattle.commit_pipeline.specs.Ties.{Flushes, IsNextTo}
 
 -- ---- the journal's mark
@@ -82,39 +82,39 @@ pushes_more (g ∷ fs) f old mid new (after, first, others) one = (after, first,
 
 module _ {Disk : Type 0} (tells : Bool) (view : Disk → DiskView) where
   -- none was
-  pub moves_none : (v : FlushView Disk) → MovesNodes tells view v v
-  moves_none v = (
+  pub moves_none : (flow : FlowView) (journal : JournalView Disk) → MovesNodes tells view flow journal flow journal
+  moves_none flow journal = (
     [],
     record {
-      taken = ap (λ (l : List Filled). record v.flow { taken = l }) (sym (append-nil v.flow.taken));
+      taken = ap (λ (l : List Filled). record flow { taken = l }) (sym (append-nil flow.taken));
       pushes = refl;
       disk = refl;
       dead = refl;
       acked_is = refl;
       holds = λ opening batches keeps.
-          subst (λ (l : List Batch). KeepsJournal tells opening l v.journal.state (view v.journal.disk)) (sym (append-nil batches)) keeps;
+          subst (λ (l : List Batch). KeepsJournal tells opening l journal.state (view journal.disk)) (sym (append-nil batches)) keeps;
     },
   )
 
   -- one more was
-  pub moves_more : (old mid new : FlushView Disk) (f : Filled) → MovesNodes tells view old mid → new.flow ≡ taken_on mid.flow f
-      → Pushes f.rec f.sync mid.journal.state new.journal.state → acked new.journal.state ≡ acked mid.journal.state
-      → new.journal.disk ≡ mid.journal.disk → AddsRecord tells view f.rec mid.journal new.journal
-      → KeepsBases tells view mid.journal new.journal → MovesNodes tells view old new
-  moves_more old mid new f (moved, m) taken pushes same_acked disk adds keeps_base = (
+  pub moves_more : (flow : FlowView) (old : JournalView Disk) (flow_mid : FlowView) (mid : JournalView Disk) (flow' : FlowView)
+      (new : JournalView Disk) (f : Filled) → MovesNodes tells view flow old flow_mid mid → flow' ≡ taken_on flow_mid f
+      → Pushes f.rec f.sync mid.state new.state → acked new.state ≡ acked mid.state → new.disk ≡ mid.disk
+      → AddsRecord tells view f.rec mid new → KeepsBases tells view mid new → MovesNodes tells view flow old flow' new
+  moves_more flow old flow_mid mid flow' new f (moved, m) taken pushes same_acked disk adds keeps_base = (
     moved ++ f ∷ [],
     record {
       taken = taken ∙ ap (λ (v : FlowView). taken_on v f) m.taken
-          ∙ ap (λ (l : List Filled). record old.flow { taken = l }) (append_assoc old.flow.taken moved (f ∷ []));
-      pushes = pushes_more moved f old.journal.state mid.journal.state new.journal.state m.pushes pushes;
+          ∙ ap (λ (l : List Filled). record flow { taken = l }) (append_assoc flow.taken moved (f ∷ []));
+      pushes = pushes_more moved f old.state mid.state new.state m.pushes pushes;
       disk = disk ∙ m.disk;
       dead = ap (λ (s : State). s.dead) pushes.new_is ∙ m.dead;
       acked_is = same_acked ∙ m.acked_is;
       holds = λ opening batches keeps.
           let same = append_assoc batches (records_of moved) (f.rec ∷ [])
           ∙ ap (λ (l : List Batch). batches ++ l) (sym (records_append moved (f ∷ []))) in
-          subst (λ (l : List Batch). KeepsJournal tells opening l new.journal.state (view new.journal.disk)) same
-          (kept_pushed tells opening view (batches ++ records_of moved) mid.journal new.journal f.rec f.sync pushes disk adds keeps_base
+          subst (λ (l : List Batch). KeepsJournal tells opening l new.state (view new.disk)) same
+          (kept_pushed tells opening view (batches ++ records_of moved) mid new f.rec f.sync pushes disk adds keeps_base
           (m.holds opening batches keeps));
     },
   )
@@ -200,7 +200,7 @@ module _ {tells : Bool} {table queue : TableId} {opening : Opening} where
 -- Records were taken and pushed.
 pub flushes_moved : {tells : Bool} {table queue : TableId} {opening : Opening} {Disk : Type 0} (view : Disk → DiskView)
     {old new : JournalView Disk} {seat : TableId} {f : View} {pops pops' : TableId} {flow flow' : FlowView} {answers : ℕ}
-    → pops' ≡ pops → IsNextTo flow' new.state → MovesNodes tells view (flushing old flow) (flushing new flow')
+    → pops' ≡ pops → IsNextTo flow' new.state → MovesNodes tells view flow old flow' new
     → Flushes tells table queue opening old.state (view old.disk) seat f pops flow answers
     → Flushes tells table queue opening new.state (view new.disk) seat f pops' flow' answers
 flushes_moved {tells} {table} {queue} {opening} {Disk} view {old} {new} {flow = flow} {flow' = flow'} same next (moved, m) flushes = record {
@@ -237,13 +237,28 @@ flushes_stalled {tells} {table} {queue} {opening} {Disk} view {old} {new} {seat}
     (subst (λ (s : State). StandsFor tells records s (view new.disk)) same (keeps records flushes.keeps.stands))
     (λ base was. subst (λ (s : State). KeepsBase tells base s (view new.disk)) same (keeps_base base was)) flushes.keeps))
 
--- The journal stepped, and the acked word followed it.
+-- The journal stepped.
+pub flushes_stepped : {tells : Bool} {table queue : TableId} {opening : Opening} {Disk : Type 0} {view : Disk → DiskView}
+    {old new : JournalView Disk} {seat : TableId} {f : View} {pops : TableId} {flow : FlowView} {answers : ℕ}
+    → Lasts tells view old new → KeepsBases tells view old new → ((old.state.dead ≢ None) ⊎ IsIdle old.state → new ≡ old)
+    → Flushes tells table queue opening old.state (view old.disk) seat f pops flow answers
+    → Flushes tells table queue opening new.state (view new.disk) seat f pops flow answers
+flushes_stepped {tells} {table} {queue} {opening} {Disk} {view} {old} {new} {flow = flow} lasts keeps_base still flushes =
+    flushes_kept flushes new.state (view new.disk) lasts.setting lasts.acked (lived_before old new still)
+    (kept_further tells opening view (records_of flow.taken) old new lasts keeps_base flushes.keeps)
+
+-- It did, and the acked word followed it.
 pub flushes_driven : {tells : Bool} {table queue : TableId} {opening : Opening} {Disk : Type 0} {view : Disk → DiskView}
     {old new : JournalView Disk} {seat seat' : TableId} {f f' : View} {pops : TableId} {flow : FlowView} {answers : ℕ}
     → Lasts tells view old new → KeepsBases tells view old new → ((old.state.dead ≢ None) ⊎ IsIdle old.state → new ≡ old) → seat' ≡ seat
     → (n r : ℕ) → RaisesAcked f n r f' → n ≡ acked new.state
     → Flushes tells table queue opening old.state (view old.disk) seat f pops flow answers
     → Flushes tells table queue opening new.state (view new.disk) seat' f' pops flow answers
-flushes_driven {tells} {table} {queue} {opening} {Disk} {view} {old} {new} {flow = flow} lasts keeps_base still same n r raises is flushes =
-    flushes_raised (flushes_kept flushes new.state (view new.disk) lasts.setting lasts.acked (lived_before old new still)
-    (kept_further tells opening view (records_of flow.taken) old new lasts keeps_base flushes.keeps)) _ _ n r same raises is
+flushes_driven {view = view} lasts keeps_base still same n r raises is flushes =
+    flushes_raised (flushes_stepped {view = view} lasts keeps_base still flushes) _ _ n r same raises is
+
+-- The acked word was raised to what the journal has synced.
+pub acks_synced : {was f f' : View} {n r : ℕ} (state : State) → f ≡ was → RaisesAcked f n r f' → n ≡ acked state
+    → (raised : ℕ) × RaisesAcked was (acked state) raised f'
+acks_synced {was} {f} {f'} {n} {r} state same raises is =
+    (r, subst (λ (m : ℕ). RaisesAcked was m r f') is (subst (λ (v : View). RaisesAcked v n r f') same raises))

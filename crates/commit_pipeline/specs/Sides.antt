@@ -10,6 +10,8 @@ use Rattle.record_queue.specs.declared.node.Filled.{Filled}
 use Rattle.record_flow.specs.declared.rule.FlowView.{FlowView}
 use Rattle.record_flow.specs.Views.{records_of}
 use Rattle.record_flow.specs.Flows.{WasEmpty}
+use Rattle.commit_queue.specs.declared.view.View.{View}
+use Rattle.commit_queue.specs.Calls.{RaisesAcked}
 use Rattle.commit_pipeline.specs.Openings.{Opening, KeepsJournal}
 use Rattle.commit_pipeline.specs.Logging.{SettlesJournal, FallsUnlessAcked}
 
@@ -19,13 +21,11 @@ pub record CommitView : Type 0 where
   pub placed : ℕ
   pub sent : List Filled
 
--- behind the flush lock: the journal with its disk, and what the pass that pops knows
+-- behind the flush lock: the journal with its disk, and what the pass that pops and the seat that raises the acked word know
 pub record FlushView (Disk : Type 0) : Type 0 where
   pub journal : JournalView Disk
   pub flow : FlowView
-
-abbrev pub flushing : {Disk : Type 0} → JournalView Disk → FlowView → FlushView Disk
-flushing journal flow = record { journal = journal; flow = flow }
+  pub seat : View
 
 -- These records were pushed, one after another.
 abbrev pub PushesAll : List Filled → State → State → Type 0
@@ -33,32 +33,45 @@ PushesAll [] old new = new ≡ old
 PushesAll (f ∷ fs) old new = (mid : State) × Pushes f.rec f.sync old mid × PushesAll fs mid new
 
 -- These records were taken and pushed, and nothing was written: the journal holds what it held since any opening, and these after it.
-pub record MovesThese {Disk : Type 0} (tells : Bool) (view : Disk → DiskView) (moved : List Filled) (old new : FlushView Disk) : Type 0 where
-  pub taken : new.flow ≡ record old.flow { taken = old.flow.taken ++ moved }
-  pub pushes : PushesAll moved old.journal.state new.journal.state
-  pub disk : new.journal.disk ≡ old.journal.disk
-  pub dead : new.journal.state.dead ≡ old.journal.state.dead
-  pub acked_is : acked new.journal.state ≡ acked old.journal.state
-  pub holds : (opening : Opening) (batches : List Batch) → KeepsJournal tells opening batches old.journal.state (view old.journal.disk)
-      → KeepsJournal tells opening (batches ++ records_of moved) new.journal.state (view new.journal.disk)
+pub record MovesThese {Disk : Type 0} (tells : Bool) (view : Disk → DiskView) (moved : List Filled) (flow : FlowView) (old : JournalView Disk)
+    (flow' : FlowView) (new : JournalView Disk) : Type 0 where
+  pub taken : flow' ≡ record flow { taken = flow.taken ++ moved }
+  pub pushes : PushesAll moved old.state new.state
+  pub disk : new.disk ≡ old.disk
+  pub dead : new.state.dead ≡ old.state.dead
+  pub acked_is : acked new.state ≡ acked old.state
+  pub holds : (opening : Opening) (batches : List Batch) → KeepsJournal tells opening batches old.state (view old.disk)
+      → KeepsJournal tells opening (batches ++ records_of moved) new.state (view new.disk)
 
 -- The records that were found on their way were moved.
-abbrev pub MovesNodes : {Disk : Type 0} → Bool → (Disk → DiskView) → FlushView Disk → FlushView Disk → Type 0
-MovesNodes tells view old new = (moved : List Filled) × MovesThese tells view moved old new
+abbrev pub MovesNodes : {Disk : Type 0} → Bool → (Disk → DiskView) → FlowView → JournalView Disk → FlowView → JournalView Disk → Type 0
+MovesNodes tells view flow old flow' new = (moved : List Filled) × MovesThese tells view moved flow old flow' new
 
--- They were moved until none was found, and then the journal was stepped as long as a step moved.
+-- Behind the lock they were, and nothing else was done.
+pub record MovesIn {Disk : Type 0} (tells : Bool) (view : Disk → DiskView) (old new : FlushView Disk) : Type 0 where
+  pub moves : MovesNodes tells view old.flow old.journal new.flow new.journal
+  pub seat : new.seat ≡ old.seat
+
+-- The acked word was raised to what the journal has synced now.
+abbrev pub AcksSynced : {Disk : Type 0} → FlushView Disk → FlushView Disk → Type 0
+AcksSynced old new = (raised : ℕ) × RaisesAcked old.seat (acked new.journal.state) raised new.seat
+
+-- They were moved until none was found, and then the journal was stepped as long as a step moved, which the acked word followed.
 pub record DrivesJournal {Disk : Type 0} (tells : Bool) (view : Disk → DiskView) (old new : FlushView Disk) : Type 0 where
   pub mid : FlushView Disk
-  pub moves : MovesNodes tells view old mid
+  pub moves : MovesIn tells view old mid
   pub emptied : WasEmpty mid.flow
   pub settles : SettlesJournal view mid.journal new.journal
+  pub acks : AcksSynced mid new
   pub flow : new.flow ≡ mid.flow
 
--- They were moved until none was found, and then the journal was stepped once, with this answer, for the batch of this place.
+-- They were moved until none was found, and then the journal was stepped once, with this answer, for the batch of this place, which the
+-- acked word followed.
 pub record StepsFor {Disk : Type 0} (tells : Bool) (view : Disk → DiskView) (index : ℕ) (old new : FlushView Disk)
     (answer : Result Step JournalFault) : Type 0 where
   pub mid : FlushView Disk
-  pub moves : MovesNodes tells view old mid
+  pub moves : MovesIn tells view old mid
   pub emptied : WasEmpty mid.flow
   pub falls : FallsUnlessAcked view index mid.journal new.journal answer
+  pub acks : AcksSynced mid new
   pub flow : new.flow ≡ mid.flow

@@ -7,7 +7,7 @@ ghost use Rattle.commit_queue.specs.Tables.{table_id_of};
 ghost use Rattle.commit_pipeline.specs.Desks.{Raises, known, TellsFault, deaths_stepped};
 ghost use Rattle.commit_pipeline.specs.Meeting.{HearDeaths, deaths_heard};
 ghost use Rattle.commit_pipeline.specs.Openings.{IsDeadBy};
-ghost use Rattle.commit_pipeline.specs.Sides.{MovesNodes, DrivesJournal, StepsFor, flushing};
+ghost use Rattle.commit_pipeline.specs.Sides.{MovesNodes, MovesIn, AcksSynced, DrivesJournal, StepsFor};
 ghost use Rattle.commit_pipeline.specs.Logging.{SettlesJournal, FallsUnlessAcked};
 ghost use Rattle.commit_pipeline.specs.Ties.{IsNextTo};
 
@@ -44,7 +44,7 @@ impl<D: Disk, N: PipeName, M: Ledger> Model for FlushSide<D, N, M> {
 
     ghost Value = { FlushView D };
 
-    ghost view = { λ l. record { journal = l.journal; flow = take_view l.pops } };
+    ghost view = { λ l. record { journal = l.journal; flow = take_view l.pops; seat = flush_seat_view l.flush } };
 
     ghost invariant = { λ l.
         Flushes D.tells N.table N.queue N.opening l.journal.state (D.view l.journal.disk) (flush_table l.flush)
@@ -63,8 +63,7 @@ fn move_all<D: Disk, R: Wait>(
     requires next { IsNextTo (take_view pops.old) journal.old.state }
     ensures same { flush_queue pops.new ≡ flush_queue pops.old }
     ensures next { IsNextTo (take_view pops.new) journal.new.state }
-    ensures moves { MovesNodes D.tells D.view (flushing journal.old (take_view pops.old))
-        (flushing journal.new (take_view pops.new)) }
+    ensures moves { MovesNodes D.tells D.view (take_view pops.old) journal.old (take_view pops.new) journal.new }
     ensures empty { WasEmpty (take_view pops.new) }
     ensures all { HasEnded (take_view pops.new) → TookAll (take_view pops.new) }
 {
@@ -81,7 +80,7 @@ impl<D: Disk, N: PipeName, M: Ledger> FlushSide<D, N, M> {
     /// Moves the records found on their way into the journal.
     pub(crate) fn take_in<R: Wait>(&mut self, rt: &R, flow: &RecordFlow)
         requires queue { flow_id flow.now ≡ N.queue }
-        ensures moves { MovesNodes D.tells D.view self.old self.new }
+        ensures moves { MovesIn D.tells D.view self.old self.new }
         ensures empty { WasEmpty self.new.flow }
         ensures all { HasEnded self.new.flow → TookAll self.new.flow }
     {
@@ -122,6 +121,7 @@ impl<D: Disk, N: PipeName, M: Ledger> FlushSide<D, N, M> {
     fn settle(&mut self, table: &PipeTable)
         requires table { table_id_of table.now ≡ N.table }
         ensures settles { SettlesJournal D.view self.old.journal self.new.journal }
+        ensures acks { AcksSynced self.old self.new }
         ensures flow { self.new.flow ≡ self.old.flow }
     {
         let _answer = self.journal.settle();
@@ -166,6 +166,7 @@ impl<D: Disk, N: PipeName, M: Ledger> FlushSide<D, N, M> {
         ensures dead { Raises desk.old.dead (deaths_stepped result) desk.new.dead }
         ensures met { desk.new.told ≡ desk.old.told }
         ensures falls { FallsUnlessAcked D.view index self.old.journal self.new.journal result }
+        ensures acks { AcksSynced self.old self.new }
         ensures flow { self.new.flow ≡ self.old.flow }
         ensures fault { IfErr result TellsFault }
     {
@@ -247,6 +248,7 @@ impl<D: StallDisk, N: PipeName, M: Ledger> FlushSide<D, N, M> {
         requires { N.opening.may_stall ≡ true }
         ensures state { self.new.journal.state ≡ self.old.journal.state }
         ensures flow { self.new.flow ≡ self.old.flow }
+        ensures seat { self.new.seat ≡ self.old.seat }
         ensures stalled { Stalls side polls (D.view self.old.journal.disk) (D.view self.new.journal.disk) }
     {
         self.journal.stall(side, polls);

@@ -1,7 +1,7 @@
 -- A record found comes next after those taken, so the journal may take it.
 use Rattle.std.proofs.Common.{◌∙◌}
 use Rattle.record_flow.specs.Passes.{take_view}
-use Rattle.commit_pipeline.specs.Sides.{MovesNodes, flushing}
+use Rattle.commit_pipeline.specs.Sides.{MovesNodes}
 use Rattle.commit_pipeline.specs.Ties.{IsNextTo}
 use Rattle.commit_pipeline.proofs.Flushing.{next_to_more, moves_more}
 use Rattle.commit_pipeline.proofs.flush_side.move_all.Given.{Over}
@@ -17,14 +17,12 @@ next_one g c =
 
 -- one more was moved
 moves_one : (g : Over) (c : After-push_node g)
-    → MovesNodes g.D.Disk.tells g.D.Disk.view (flushing c.args.journal.now (take_view c.args.pops.now))
-    (flushing c.push_node.new.self (take_view c.take.new.pass))
+    → MovesNodes g.D.Disk.tells g.D.Disk.view (take_view c.args.pops.now) c.args.journal.now (take_view c.take.new.pass) c.push_node.new.self
 moves_one g c =
     let (f, is) = c.in-Some-take.ensures.filled in
     let e = c.push_node.ensures in
-    moves_more g.D.Disk.tells g.D.Disk.view (flushing c.args.journal.now (take_view c.args.pops.now))
-    (flushing c.loop.journal (take_view c.loop.pops)) (flushing c.push_node.new.self (take_view c.take.new.pass)) f c.loop.invariant.moves
-    (c.in-Some-take.ensures.taken f is) (e.pushed f is) e.acked e.disk (e.keeps f is) e.keeps_base
+    moves_more g.D.Disk.tells g.D.Disk.view (take_view c.args.pops.now) c.args.journal.now (take_view c.loop.pops) c.loop.journal
+    (take_view c.take.new.pass) c.push_node.new.self f c.loop.invariant.moves (c.in-Some-take.ensures.taken f is) (e.pushed f is) e.acked e.disk (e.keeps f is) e.keeps_base
 
 pub loop-preserved : goal.loop-preserved
 loop-preserved g c =

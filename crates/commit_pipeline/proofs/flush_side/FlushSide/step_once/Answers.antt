@@ -1,8 +1,10 @@
 -- The journal steps, and the acked word follows it. An answer that tells of a death is counted.
+use Rattle.std.proofs.Common.{ap}
 use Rattle.commit_queue.specs.Seats.{flush_table, flush_seat_view}
 use Rattle.record_flow.specs.Passes.{flush_queue, take_view}
 use Rattle.commit_pipeline.specs.Ties.{Flushes}
-use Rattle.commit_pipeline.proofs.Flushing.{marked_dead, tells_fault, flushes_driven, flushes_dead}
+use Rattle.commit_pipeline.specs.Sides.{FlushView}
+use Rattle.commit_pipeline.proofs.Flushing.{marked_dead, tells_fault, flushes_driven, flushes_dead, acks_synced}
 use Rattle.commit_pipeline.proofs.flush_side.FlushSide.step_once.Given.{Over}
 use Rattle.commit_pipeline.proofs.flush_side.FlushSide.step_once.Goals.{After-raise_acked}
 use Rattle.commit_pipeline.proofs.flush_side.FlushSide.step_once.Goals as goal
@@ -40,3 +42,7 @@ invariant_of-self-in-Err-2 g c = (followed g (goal.at.invariant_of-self-in-Err-2
 pub returns-in-Dead-clause-fault : goal.returns-in-Dead-clause-fault
 returns-in-Dead-clause-fault g c =
     tells_fault c.a_journal_at_hand.ensures.sound (marked_dead c.step-answer.new.self.state c.step-answer.ensures.dead c.in-Err-2.is c.in-Dead.is) c.in-Dead.is
+
+pub returns-in-Dead-clause-acks : goal.returns-in-Dead-clause-acks
+returns-in-Dead-clause-acks g c =
+    acks_synced c.step-answer.new.self.state (ap (λ (l : FlushView _). l.seat) c.self.view_is) c.raise_acked.ensures.raised c.acked-acked.ensures
