@@ -5,10 +5,40 @@ ghost use Rattle.std.specs.Io.KnownBytes.{ReadConsumes, WriteAppends};
 ghost use Rattle.wal_base.specs.Faults.{HasCause, StaysUnless};
 
 use crate::stream::{PutErr, ReadFault, Sink, Source};
-use std::io::{Read, Write};
+use std::io;
+use std::io::{ErrorKind, Read, Write};
 use std::marker::Model;
 
-/// Standard input, or any reader. It tells no content, and counts each error. Contracts see the count.
+/// Reads once, and again where a signal interrupted it.
+fn read_again<I: Read>(input: &mut I, buf: &mut [u8]) -> io::Result<usize>
+    ensures within { IfOk result (λ n. n ≤ length buf.old) }
+    ensures passed { ReadConsumes (I.remaining input.old) (I.remaining input.new) result buf.new }
+{
+    for _ in 0..u64::MAX {
+        match input.read(buf) {
+            Err(error) if error.kind() == ErrorKind::Interrupted => {}
+            answer => return answer,
+        }
+    }
+    Err(ErrorKind::Interrupted.into())
+}
+
+/// Writes once, and again where a signal interrupted it.
+fn write_again<O: Write>(output: &mut O, bytes: &[u8]) -> io::Result<usize>
+    ensures within { IfOk result (λ n. n ≤ length bytes.now) }
+    ensures passed { WriteAppends (O.contents output.old) (O.contents output.new) result bytes.now }
+{
+    for _ in 0..u64::MAX {
+        match output.write(bytes) {
+            Err(error) if error.kind() == ErrorKind::Interrupted => {}
+            answer => return answer,
+        }
+    }
+    Err(ErrorKind::Interrupted.into())
+}
+
+/// Standard input, or any reader. It tells no content, and counts each error, of which an interrupted read is none.
+/// Contracts see the count.
 #[derive(Drop)]
 pub struct StdSource<I: Read + Drop> {
     input: I,
@@ -40,7 +70,7 @@ impl<I: Read + Drop> Source for StdSource<I> {
         // It hands out what the reader gives, and where that gives nothing it is at its end.
         ensures passed { ReadConsumes (I.remaining self.old.input) (I.remaining self.new.input) result buf.new }
     {
-        match self.input.read(buf) {
+        match read_again(&mut self.input, buf) {
             Ok(count) => Ok(count),
             Err(_) => {
                 self.faults = self.faults.saturating_add(1);
@@ -50,7 +80,8 @@ impl<I: Read + Drop> Source for StdSource<I> {
     }
 }
 
-/// Standard output, or any writer. It tells no content, and counts each error. Contracts see the count.
+/// Standard output, or any writer. It tells no content, and counts each error, of which an interrupted write is none.
+/// Contracts see the count.
 #[derive(Drop)]
 pub struct StdSink<O: Write + Drop> {
     output: O,
@@ -87,7 +118,7 @@ impl<O: Write + Drop> Sink for StdSink<O> {
         // The writer takes what is answered, from the front, and nothing where it failed.
         ensures passed { WriteAppends (O.contents self.old.output) (O.contents self.new.output) result bytes.now }
     {
-        match self.output.write(bytes) {
+        match write_again(&mut self.output, bytes) {
             Ok(count) if count > 0 || bytes.is_empty() => Ok(count),
             _ => {
                 self.faults = self.faults.saturating_add(1);

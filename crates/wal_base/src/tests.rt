@@ -106,14 +106,23 @@ fn copies_over(rt: &impl Abort, input: &[u8], output: &mut [u8]) {
     assert_eq!(rt; put_in(&mut sink, b"z"), Err(PutErr::Failed));
 }
 
-/// Refuses its first calls, and then gives one byte a call, or takes one.
+/// Refuses its first calls by that kind of error, and then gives one byte a call, or takes one.
 #[derive(Drop)]
 struct Refusing {
     refusals: u32,
+    kind: ErrorKind,
     bytes: [u8; 1],
 }
 
 impl Refusing {
+    fn twice(kind: ErrorKind) -> Refusing {
+        Refusing {
+            refusals: 2,
+            kind,
+            bytes: *b"a",
+        }
+    }
+
     fn refuses(&mut self) -> bool {
         let refused = self.refusals > 0;
         self.refusals = self.refusals.saturating_sub(1);
@@ -124,7 +133,7 @@ impl Refusing {
 impl Read for Refusing {
     fn read(&mut self, buf: &mut [u8]) -> io::Result<usize> {
         if self.refuses() {
-            return Err(io::Error::from(ErrorKind::ConnectionReset));
+            return Err(io::Error::from(self.kind));
         }
         if buf.is_empty() {
             return Ok(0);
@@ -137,7 +146,7 @@ impl Read for Refusing {
 impl Write for Refusing {
     fn write(&mut self, buf: &[u8]) -> io::Result<usize> {
         if self.refuses() {
-            return Err(io::Error::from(ErrorKind::ConnectionReset));
+            return Err(io::Error::from(self.kind));
         }
         if buf.is_empty() {
             return Ok(0);
@@ -153,17 +162,25 @@ impl Write for Refusing {
 
 #[test]
 fn each_refusal_of_a_standard_stream_is_a_fault(rt: HostRuntime) {
-    let bytes = *b"a";
-    let mut source = StdSource::new(Refusing { refusals: 2, bytes });
+    let mut source = StdSource::new(Refusing::twice(ErrorKind::ConnectionReset));
     assert_eq!(rt; next_two(&mut source).0, Err(ReadFault));
     assert_eq!(rt; next_two(&mut source).0, Err(ReadFault));
     assert_eq!(rt; next_two(&mut source), (Ok(1), *b"a\0"));
     assert_eq!(rt; source.faults, 2);
-    let mut sink = StdSink::new(Refusing { refusals: 2, bytes });
+    let mut sink = StdSink::new(Refusing::twice(ErrorKind::ConnectionReset));
     assert_eq!(rt; put_in(&mut sink, b"bc"), Err(PutErr::Failed));
     assert_eq!(rt; put_in(&mut sink, b"bc"), Err(PutErr::Failed));
     assert_eq!(rt; put_in(&mut sink, b"bc"), Ok(1));
     assert_eq!(rt; sink.faults, 2);
+}
+
+#[test]
+fn an_interrupted_call_of_a_standard_stream_is_no_fault(rt: HostRuntime) {
+    let mut source = StdSource::new(Refusing::twice(ErrorKind::Interrupted));
+    assert_eq!(rt; next_two(&mut source), (Ok(1), *b"a\0"));
+    let mut sink = StdSink::new(Refusing::twice(ErrorKind::Interrupted));
+    assert_eq!(rt; put_in(&mut sink, b"bc"), Ok(1));
+    assert_eq!(rt; (source.faults, sink.faults), (0, 0));
 }
 
 #[test]
