@@ -189,11 +189,6 @@ pub record ViewGoesOn (v v' : View) : Type 0 where
   pub within : v.seat.published ≤ length v.history → v'.seat.published ≤ length v'.history
   pub retired : v'.acked_known.retired ≡ v.acked_known.retired
 
--- The batch of this index is among the history, and ends here.
-pub record IsEndOf (v : View) (index end : ℕ) : Type 0 where
-  pub seen : index < length v.history
-  pub end_is : end ≡ ends numbers v.base v.history (suc index)
-
 -- The batches that the seat has seen published are among its history; where this is the end of n batches, they are n at least.
 pub record PublishesTo (v : View) (end : ℕ) (v' : View) : Type 0 where
   pub within : v'.seat.published ≤ length v'.history

@@ -1,5 +1,5 @@
 //! The calls that may wait: for memory, or until a batch is visible.
-ghost use Rattle.std.specs.Prelude.{◌≡◌, ◌<◌};
+ghost use Rattle.std.specs.Prelude.{◌≡◌};
 
 use crate::pipe_table::PipeTable;
 use crate::published::Published;
@@ -8,7 +8,7 @@ use std::sync::Wait;
 use std::thread;
 
 impl PipeTable {
-    ghost use Rattle.commit_queue.specs.Calls.{ViewGoesOn, IsEndOf, PublishesTo, HoldsAdmitted};
+    ghost use Rattle.commit_queue.specs.Calls.{ViewGoesOn, PublishesTo, HoldsAdmitted};
     ghost use Rattle.commit_queue.specs.Tables.{IsOfTable};
     ghost use Rattle.commit_queue.specs.Seats.{session_table, session_view};
     ghost use Rattle.commit_queue.specs.Seats.{producer_table, producer_view, HandsOver};
@@ -47,16 +47,5 @@ impl PipeTable {
             }
         }
         unreachable!()
-    }
-
-    /// Publishes until the batch of the index, which ends at `end`, is published.
-    pub fn publish_past<R: Wait>(&self, rt: &R, s: &mut SessionSeat, index: u64, end: u64)
-        requires table { IsOfTable self.now (session_table s.old) }
-        requires end { IsEndOf (session_view s.old) index end }
-        ensures same { session_table s.new ≡ session_table s.old }
-        ensures on { ViewGoesOn (session_view s.old) (session_view s.new) }
-        ensures past { index < (session_view s.new).seat.published }
-    {
-        self.publish_until(rt, s, end);
     }
 }

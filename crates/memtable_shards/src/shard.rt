@@ -99,17 +99,6 @@ impl Shard {
         Ok(())
     }
 
-    /// Moves what was applied into the index, where at least so many versions wait. The versions are the same afterwards,
-    /// on `Err` too.
-    pub fn settle_from(&mut self, least: usize) -> Result<(), NoMemory>
-        ensures { HasSameVersions self.old self.new }
-    {
-        if self.waiting.len() < least {
-            return Ok(());
-        }
-        self.settle()
-    }
-
     /// The newest version of the key below a number. It looks at what is not settled, too.
     pub fn newest(&self, key: &[u8], below: u64) -> Found<'_>
         ensures { FindsNewest self.now key.now below result }

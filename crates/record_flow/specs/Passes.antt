@@ -28,10 +28,6 @@ send_view s = view s.pass
 abbrev pub take_view : FlushPass → FlowView
 take_view p = view p.pass
 
--- the first numbers of the records sent with the pass, in their order
-abbrev pub sent_numbers : SendPass → List ℕ
-sent_numbers s = first_numbers (send_view s).sent
-
 -- the first numbers of the records taken with the pass, in their order
 abbrev pub taken_numbers : FlushPass → List ℕ
 taken_numbers p = first_numbers (take_view p).taken
