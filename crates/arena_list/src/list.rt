@@ -175,7 +175,7 @@ impl ArenaList {
         self.nodes.len() - 1
     }
 
-    /// How many places are free: so many insertions take no memory.
+    /// How many places are free: so many insertions take no memory for a node.
     pub fn free_places(&self) -> usize
         ensures { result ≡ self.now.free }
     {

@@ -1,7 +1,7 @@
 //! The command line: which command the words are.
 //!
 //! Stands on `clap` for which word is a command, an option or a value, on `stall_monitor` for the greatest threshold, and
-//! on `wal_base` for the want of memory. The layer above uses one contract: `read_command` answers the command that the
+//! on `wal_base` for what is answered out of memory. The layer above uses one contract: `read_command` answers the command that the
 //! words are, and `Usage` only where they are none.
 //!
 //! No value of this crate is kept.

@@ -35,7 +35,7 @@ known desk = desk.dead.amount + desk.told.amount
 abbrev pub Raises : {L : Type 0} → Share L → ℕ → Share L → Type 0
 Raises old more new = (new.parts ≡ old.parts) × (new.amount ≡ old.amount + more)
 
--- A fault of the journal tells of a death, or of want of memory.
+-- A fault of the journal tells of a death, or that it is out of memory.
 abbrev pub TellsFault : JournalFault → Type 0
 TellsFault (faults.Dead side count) = TellsDeath side count
 TellsFault faults.NoMemory = Unit {0}

@@ -52,7 +52,7 @@ pub record MovesIn {Disk : Type 0} (tells : Bool) (view : Disk → DiskView) (ol
   pub moves : MovesNodes tells view old.flow old.journal new.flow new.journal
   pub seat : new.seat ≡ old.seat
 
--- The acked word was raised to what the journal has synced now.
+-- The acked word was raised to what the journal has synced now, as far as batches are admitted.
 abbrev pub AcksSynced : {Disk : Type 0} → FlushView Disk → FlushView Disk → Type 0
 AcksSynced old new = (raised : ℕ) × RaisesAcked old.seat (acked new.journal.state) raised new.seat
 

@@ -39,8 +39,8 @@ pub(crate) type AtomicTable = Table<Option<Shard>, View, TableOpening, RingRule,
 
 pub(crate) type TableSeat = Seat<Option<Shard>, View>;
 
-/// The table of a commit ring. Each call on it takes a seat of it, and none but the two that
-/// publish in a loop waits.
+/// The table of a commit ring. Each call on it takes a seat of it, and none but `hand_over`
+/// and `publish_until` waits.
 #[derive(Drop)]
 pub struct PipeTable {
     pub(crate) table: AtomicTable,

@@ -51,6 +51,6 @@ pub struct JournalEnd {
     pub acked: u64,
     /// How many segments it began.
     pub segments: u32,
-    /// Whether it died. Otherwise it was closed.
+    /// Whether it died. Otherwise it was closed, or left where a script halts.
     pub died: bool,
 }

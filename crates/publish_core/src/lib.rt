@@ -11,7 +11,6 @@
 #![tactic(auto)]
 
 mod events;
-mod law;
 mod lending;
 mod machine;
 mod marks;
@@ -21,12 +20,13 @@ mod reading;
 mod seat;
 mod seating;
 mod state;
+mod theorems;
 
 pub use events::CoreEvent;
-pub use law::{all_schedules, every_core_is_sound};
 pub use machine::Core;
 pub use seat::{BatchShape, Claim, Counts, Ends, Kind, Pair, Reading, SeatState, Stage};
 pub use state::{END_LIMIT, MOST_BATCHES, SHARDS, SLOTS};
+pub use theorems::{all_schedules, every_core_is_sound};
 
 #[cfg(test)]
 mod tests;

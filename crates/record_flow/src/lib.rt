@@ -12,16 +12,16 @@
 #![tactic(auto)]
 
 mod flow;
-mod law;
 mod moving;
 mod opening;
 mod passes;
 mod rule;
+mod theorems;
 
 pub use flow::{CAPACITY, RecordFlow};
-pub use law::{full_flows_were_sent_as_many, taken_is_a_prefix_of_sent};
 pub use passes::{FlushPass, SendPass};
 pub use rule::FlowView;
+pub use theorems::{full_flows_were_sent_as_many, taken_is_a_prefix_of_sent};
 
 #[cfg(test)]
 mod tests;

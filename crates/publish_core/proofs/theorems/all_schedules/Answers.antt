@@ -1,7 +1,7 @@
 use Rattle.publish_core.specs.Parts.{shape_count, has_part}
 use Rattle.publish_core.proofs.Kept.{law}
 use Rattle.publish_core.proofs.Rises.{never_falls}
-use Rattle.publish_core.proofs.law.all_schedules.Goals as goal
+use Rattle.publish_core.proofs.theorems.all_schedules.Goals as goal
 
 pub returns-clause-kept : goal.returns-clause-kept
 returns-clause-kept c = law shape_count has_part
