@@ -1,13 +1,15 @@
-"""Cases that run the program through the launcher: what the checks of its behaviour share."""
+"""Cases that run the program: what the checks of its behaviour share."""
 
 import contextlib
 import difflib
+import os
 import subprocess
 import tempfile
 from pathlib import Path
 
 TOP = Path(__file__).resolve().parent.parent
-LAUNCHER = str(TOP / "pebble")
+# The program that was built, where it is named, or else the launcher, which builds it first.
+PROGRAM = os.environ.get("PEBBLE") or str(TOP / "pebble")
 SECONDS = 60
 
 passed, failed = [], []
@@ -60,15 +62,18 @@ def run_in(folder, words, **how):
 
 def limited(*words):
     """A command of the program, run where no file may have a byte: so the write of each segment fails."""
-    return ["sh", "-c", "trap '' XFSZ; ulimit -f 0; exec \"$@\"", "sh", LAUNCHER, *words]
+    return ["sh", "-c", "trap '' XFSZ; ulimit -f 0; exec \"$@\"", "sh", PROGRAM, *words]
 
 
 def ends(name, groups):
     """Runs groups of cases over the built program, prints the last line of a check, and returns its status."""
     # What the launcher says while it builds is for the reader, and no part of a case.
-    built = subprocess.run([LAUNCHER, "--help"], stdin=subprocess.DEVNULL, stdout=subprocess.DEVNULL)
-    if built.returncode > 8:
-        note("the launcher", [f"  status {built.returncode}: the program is not built"])
+    try:
+        built = subprocess.run([PROGRAM, "--help"], stdin=subprocess.DEVNULL, stdout=subprocess.DEVNULL).returncode
+    except OSError as error:
+        built = error
+    if built not in range(9):
+        note("the program", [f"  it is not built: {built}"])
     else:
         for group in groups:
             group()
