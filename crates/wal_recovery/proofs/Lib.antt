@@ -26,3 +26,4 @@ mod OneWal
 mod AtWal
 mod ByWal
 mod ReadsOnly
+mod Calm

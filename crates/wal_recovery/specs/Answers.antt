@@ -26,6 +26,10 @@ abbrev pub FaultRose : DiskView → DiskView → RecoverFault → Type 0
 FaultRose old new (faults.Disk side) = Rose (old.faults side) (new.faults side)
 FaultRose old new fault = Unit {0}
 
+-- No count of faults rose.
+abbrev pub NoFaultRose : DiskView → DiskView → Type 0
+NoFaultRose old new = new.faults ≡ old.faults
+
 -- The fault is the disk's or out of memory, or this holds of it.
 abbrev pub DiskMemoryOr : (RecoverFault → Type 0) → RecoverFault → Type 0
 DiskMemoryOr P (faults.Disk side) = Unit {0}

@@ -1,11 +1,11 @@
 //! The segments of both sides in one row, by their names.
 
-ghost use Rattle.std.specs.Prelude.{◌≡◌, [], ◌∷◌, All, MatchBool, IfOk, IfErr, IsTrue};
+ghost use Rattle.std.specs.Prelude.{◌≡◌, [], ◌∷◌, All, MatchBool, IfOk, IfErr, OnOk, IsTrue};
 ghost use Rattle.disk_face.specs.View.{files};
 ghost use Rattle.disk_face.specs.Listing.{IsBefore, IsAscending, AreSegmentNames, IsSegmentName};
 ghost use Rattle.disk_face.specs.Calls.{GoesOn, SameDisk};
 ghost use Rattle.wal_recovery.specs.declared.listing.Found.{Found};
-ghost use Rattle.wal_recovery.specs.Answers.{FaultRose};
+ghost use Rattle.wal_recovery.specs.Answers.{FaultRose, NoFaultRose};
 ghost use Rattle.wal_recovery.specs.Rows.{Ascends, IsRowOf, IsNext, Weaves, MeetsOrMemory, IsDiskOrMemory};
 ghost use Rattle.wal_recovery.specs.Asking.{AsksOnce, ListsRow};
 ghost use Rattle.wal_recovery.specs.Promises.{ListsSideOnce, IsSideListing, IsTwinRefusal};
@@ -111,6 +111,7 @@ fn names_on<D: Disk>(disk: &mut D, side: Side) -> Result<Names, RecoverFault>
     ensures asks { ListsSideOnce side result (D.view disk.old) (D.view disk.new) }
     ensures fault { IfErr result IsDiskOrMemory }
     ensures rose { IfErr result (FaultRose (D.view disk.old) (D.view disk.new)) }
+    ensures calm { OnOk result (NoFaultRose (D.view disk.old) (D.view disk.new)) }
     ensures ascending { IfOk result IsAscending }
     ensures numbers { IfOk result AreSegmentNames }
     ensures names { IfOk result (IsSideListing D.tells (D.view disk.old) side) }
@@ -129,6 +130,7 @@ pub(crate) fn list_all<D: Disk>(alloc: Global, disk: &mut D) -> Result<Row, Reco
     ensures asks { AsksOnce (D.view disk.old) (D.view disk.new) }
     ensures lists { IfOk result (λ row. ListsRow row (D.view disk.old) (D.view disk.new)) }
     ensures rose { IfErr result (FaultRose (D.view disk.old) (D.view disk.new)) }
+    ensures calm { OnOk result (NoFaultRose (D.view disk.old) (D.view disk.new)) }
     ensures ascends { IfOk result Ascends }
     ensures numbers { IfOk result (All (λ (f : Found). IsSegmentName f.name)) }
     ensures listed { IfOk result (λ row. IsTrue D.tells → IsRowOf (files (D.view disk.old)) row) }

@@ -8,7 +8,7 @@ ghost use Rattle.disk_face.specs.View.{files};
 ghost use Rattle.disk_face.specs.Calls.{GoesOn, SameDisk};
 ghost use Rattle.wal_recovery.specs.declared.reports.Mode.TheVariants.{Strict, Lenient};
 ghost use Rattle.wal_recovery.specs.Listing.{AreByNumber};
-ghost use Rattle.wal_recovery.specs.Answers.{FaultRose, DiskMemoryOr};
+ghost use Rattle.wal_recovery.specs.Answers.{FaultRose, NoFaultRose, DiskMemoryOr};
 ghost use Rattle.wal_recovery.specs.Rows.{wals_in};
 ghost use Rattle.wal_recovery.specs.Gathered.{IsReportOf, IsBadIn, AddsSegment};
 ghost use Rattle.wal_recovery.specs.Gathered.{AreReportsMerged, IsOwnWal, named_in_wal, IsNoDisk};
@@ -71,6 +71,7 @@ fn read_segment<D: Disk>(
     ensures asks { ReadsOnly (segment ∷ []) (D.view disk.old) (D.view disk.new) }
     ensures same { SameDisk (D.view disk.old) (D.view disk.new) }
     ensures rose { IfErr result (FaultRose (D.view disk.old) (D.view disk.new)) }
+    ensures calm { OnOk result (NoFaultRose (D.view disk.old) (D.view disk.new)) }
     ensures added { OnOk result (AddsSegment D.tells (files (D.view disk.old)) segment index reports.old reports.new row.old row.new) }
     ensures bad { IfErr result (IsBadSegment D.tells (D.view disk.old) segment) }
 {
@@ -98,6 +99,7 @@ fn read_wal<D: Disk>(
     ensures asks { ReadsOnly wal.now.segments.items (D.view disk.old) (D.view disk.new) }
     ensures same { SameDisk (D.view disk.old) (D.view disk.new) }
     ensures rose { IfErr result (FaultRose (D.view disk.old) (D.view disk.new)) }
+    ensures calm { OnOk result (NoFaultRose (D.view disk.old) (D.view disk.new)) }
     ensures row { IfOk result IsRow }
     ensures gathered { IfOk result (IsRowOfWal D.tells (D.view disk.old) wal.now reports.old reports.new) }
     ensures bad { IfErr result (IsBadWal D.tells (D.view disk.old) wal.now) }
@@ -143,6 +145,7 @@ fn merge_wal<D: Disk>(
     ensures asks { ReadsOnly wal.now.segments.items (D.view disk.old) (D.view disk.new) }
     ensures same { SameDisk (D.view disk.old) (D.view disk.new) }
     ensures rose { IfErr result (FaultRose (D.view disk.old) (D.view disk.new)) }
+    ensures calm { OnOk result (NoFaultRose (D.view disk.old) (D.view disk.new)) }
     ensures numbered { IfOk result (All IsNumbered) }
     ensures contiguous { IfOk result (IsContiguous next) }
     ensures merged { IfOk result (MergesWal D.tells (D.view disk.old) wal.now next) }
@@ -205,6 +208,7 @@ pub(crate) fn merge_strict<D: Disk>(
     ensures asks { ReadsOnly (found_in wals.now) (D.view disk.old) (D.view disk.new) }
     ensures same { SameDisk (D.view disk.old) (D.view disk.new) }
     ensures rose { IfErr result (FaultRose (D.view disk.old) (D.view disk.new)) }
+    ensures calm { OnOk result (NoFaultRose (D.view disk.old) (D.view disk.new)) }
     ensures contiguous { IfOk result (λ merged. IsContiguous NUMBER_FIRST merged.batches) }
     ensures next { IfOk result (λ merged. merged.next ≡ end_after NUMBER_FIRST merged.batches) }
     ensures within { IfOk result (λ merged. merged.next ≤ NUMBER_MAX) }
@@ -237,6 +241,7 @@ fn add_wal<D: Disk>(
     ensures asks { ReadsOnly wal.now.segments.items (D.view disk.old) (D.view disk.new) }
     ensures same { SameDisk (D.view disk.old) (D.view disk.new) }
     ensures rose { IfErr result (FaultRose (D.view disk.old) (D.view disk.new)) }
+    ensures calm { OnOk result (NoFaultRose (D.view disk.old) (D.view disk.new)) }
     ensures merged { IfOk result (AreReportsMerged reports.new) }
     ensures reports { OnOk result (ReportsOnWal D.tells (D.view disk.old) wal.now reports.old reports.new) }
     ensures refused { RefusesWalLeniently D.tells (D.view disk.old) wal.now so_far result }
@@ -262,6 +267,7 @@ pub(crate) fn merge_all<D: Disk>(
     ensures asks { ReadsOnly (found_in wals.now) (D.view disk.old) (D.view disk.new) }
     ensures same { SameDisk (D.view disk.old) (D.view disk.new) }
     ensures rose { IfErr result (FaultRose (D.view disk.old) (D.view disk.new)) }
+    ensures calm { OnOk result (NoFaultRose (D.view disk.old) (D.view disk.new)) }
     ensures next { IfOk result (λ merged. merged.next ≡ end_after NUMBER_FIRST merged.batches) }
     ensures within { IfOk result (λ merged. merged.next ≤ NUMBER_MAX) }
     ensures merged { IfOk result (MergesWalsLeniently D.tells (D.view disk.old) wals.now) }

@@ -1,8 +1,8 @@
 //! The bytes of one segment.
 
-ghost use Rattle.std.specs.Prelude.{◌≡◌, [], ◌∷◌, length, IfOk, IfErr, IsErrOf};
+ghost use Rattle.std.specs.Prelude.{◌≡◌, [], ◌∷◌, length, IfOk, IfErr, OnOk, IsErrOf};
 ghost use Rattle.disk_face.specs.Calls.{GoesOn, SameDisk};
-ghost use Rattle.wal_recovery.specs.Answers.{FaultRose};
+ghost use Rattle.wal_recovery.specs.Answers.{FaultRose, NoFaultRose};
 ghost use Rattle.wal_recovery.specs.Rows.{IsDiskOrMemory};
 ghost use Rattle.wal_recovery.specs.Asking.{ReadsOnly};
 ghost use Rattle.wal_recovery.specs.Promises.{ReadsIfWithin, SideRose, AreBytesOf, FillsBuffer};
@@ -25,6 +25,7 @@ fn fill<D: Disk>(disk: &mut D, segment: Found, buffer: &mut [u8]) -> Result<usiz
     ensures asks { ReadsIfWithin (length buffer.old) segment (D.view disk.old) (D.view disk.new) }
     ensures same { SameDisk (D.view disk.old) (D.view disk.new) }
     ensures failed { IsErrOf result DiskErr.Failed → SideRose segment.side (D.view disk.old) (D.view disk.new) }
+    ensures calm { OnOk result (NoFaultRose (D.view disk.old) (D.view disk.new)) }
     ensures bytes { IfOk result (FillsBuffer D.tells (D.view disk.old) segment buffer.old buffer.new) }
 {
     if buffer.is_empty() {
@@ -44,6 +45,7 @@ pub(crate) fn read_bytes<D: Disk>(
     ensures same { SameDisk (D.view disk.old) (D.view disk.new) }
     ensures fault { IfErr result IsDiskOrMemory }
     ensures rose { IfErr result (FaultRose (D.view disk.old) (D.view disk.new)) }
+    ensures calm { OnOk result (NoFaultRose (D.view disk.old) (D.view disk.new)) }
     ensures bytes { IfOk result (λ bytes. AreBytesOf D.tells (D.view disk.old) segment segment.len bytes.items) }
 {
     let Ok(len) = usize::try_from(segment.len) else {

@@ -8,7 +8,7 @@ ghost use Rattle.disk_face.specs.Listing.{IsSegmentName};
 ghost use Rattle.disk_face.specs.Calls.{GoesOn, SameDisk};
 ghost use Rattle.wal_recovery.specs.declared.listing.Found.{Found};
 ghost use Rattle.wal_recovery.specs.declared.reports.Mode.TheVariants.{Strict, Lenient};
-ghost use Rattle.wal_recovery.specs.Answers.{FaultRose};
+ghost use Rattle.wal_recovery.specs.Answers.{FaultRose, NoFaultRose};
 ghost use Rattle.wal_recovery.specs.Rows.{Ascends, IsRowOf, IsNextAfter};
 ghost use Rattle.wal_recovery.specs.Asking.{AsksOnce, ListsBoth, ReadsOnly};
 ghost use Rattle.wal_recovery.specs.Promises.{IsWhatRecovers, FindsWhatRecovers};
@@ -51,6 +51,7 @@ fn recover_strict<D: Disk>(
     ensures idle { NothingInFlight (D.view disk.new) }
     ensures asks { ReadsOnly segments.now (D.view disk.old) (D.view disk.new) }
     ensures disk { IfErr result (FaultRose (D.view disk.old) (D.view disk.new)) }
+    ensures calm { OnOk result (NoFaultRose (D.view disk.old) (D.view disk.new)) }
     ensures recovered { IfOk result (IsWhatRecovers D.tells Strict (D.view disk.old)) }
     ensures refused { IfErr result (IsReasonToRefuse D.tells Strict (D.view disk.old)) }
     ensures reports { IfOk result (ReportsOnSegments D.tells (D.view disk.old)) }
@@ -88,6 +89,7 @@ fn recover_lenient<D: Disk>(
     ensures idle { NothingInFlight (D.view disk.new) }
     ensures asks { ReadsOnly segments.now (D.view disk.old) (D.view disk.new) }
     ensures disk { IfErr result (FaultRose (D.view disk.old) (D.view disk.new)) }
+    ensures calm { OnOk result (NoFaultRose (D.view disk.old) (D.view disk.new)) }
     ensures recovered { IfOk result (IsWhatRecovers D.tells Lenient (D.view disk.old)) }
     ensures refused { IfErr result (IsReasonToRefuse D.tells Lenient (D.view disk.old)) }
     ensures reports { IfOk result (ReportsOnSegments D.tells (D.view disk.old)) }
@@ -113,13 +115,14 @@ fn recover_lenient<D: Disk>(
 /// segment is read. Then the WALs are read, decoded and merged in ascending order, each only once those before it are
 /// merged, and the first refusal met is the answer. `Strict` merges each WAL from the end of those before it, and syncs
 /// every segment before it answers `Ok`. `Lenient` merges the segments of all WALs as one row, accepts gaps, and starts
-/// no operation. `Disk` is answered at the call that failed, and `NoMemory` may come at any
-/// time. Nothing is in flight at the end, whatever is answered.
+/// no operation. `Disk` is answered at the call that failed, which is not tried again: a second sync may be answered
+/// well though bytes are lost. `NoMemory` may come at any time. Nothing is in flight at the end, whatever is answered.
 pub fn recover<D: Disk>(alloc: Global, disk: &mut D, mode: Mode) -> Result<Recovered, RecoverFault>
     requires { NothingInFlight (D.view disk.old) }
     ensures goes_on { GoesOn (D.view disk.old) (D.view disk.new) }
     ensures idle { NothingInFlight (D.view disk.new) }
     ensures disk { IfErr result (FaultRose (D.view disk.old) (D.view disk.new)) }
+    ensures calm { OnOk result (NoFaultRose (D.view disk.old) (D.view disk.new)) }
 
     // The directories, as they read.
     ensures recovered { IfOk result (IsWhatRecovers D.tells mode (D.view disk.old)) }

@@ -1,9 +1,9 @@
 //! Syncs of what was read.
 
-ghost use Rattle.std.specs.Prelude.{[], IfErr, IsSome, OnOk};
+ghost use Rattle.std.specs.Prelude.{[], IfErr, IsSome, IsTrue, OnOk};
 ghost use Rattle.disk_face.specs.View.{NothingInFlight};
 ghost use Rattle.disk_face.specs.Calls.{GoesOn};
-ghost use Rattle.wal_recovery.specs.Answers.{FaultRose};
+ghost use Rattle.wal_recovery.specs.Answers.{FaultRose, NoFaultRose};
 ghost use Rattle.wal_recovery.specs.Rows.{IsDiskOrMemory};
 ghost use Rattle.wal_recovery.specs.Resting.{EndsBy};
 ghost use Rattle.wal_recovery.specs.Asking.{ReadsOnly};
@@ -20,6 +20,7 @@ fn wait<D: Disk>(disk: &mut D, id: OpId) -> bool
     requires { IsSome ((D.view disk.old).in_flight id) }
     ensures asks { ReadsOnly [] (D.view disk.old) (D.view disk.new) }
     ensures goes_on { GoesOn (D.view disk.old) (D.view disk.new) }
+    ensures calm { IsTrue result → NoFaultRose (D.view disk.old) (D.view disk.new) }
     ensures ended { EndsBy D.tells id (D.view disk.old) (D.view disk.new) result }
 {
     loop {
@@ -40,6 +41,7 @@ fn sync<D: Disk>(disk: &mut D, segment: Found) -> Result<(), RecoverFault>
     ensures idle { NothingInFlight (D.view disk.new) }
     ensures fault { IfErr result IsDiskOrMemory }
     ensures rose { IfErr result (FaultRose (D.view disk.old) (D.view disk.new)) }
+    ensures calm { OnOk result (NoFaultRose (D.view disk.old) (D.view disk.new)) }
     ensures each_moment { OnlySyncsThroughout D.tells (D.view disk.old) (D.view disk.new) }
     ensures synced { OnOk result (HasSyncedOne D.tells (D.view disk.new) segment) }
 {
@@ -64,6 +66,7 @@ pub(crate) fn sync_all<D: Disk>(disk: &mut D, segments: &[Found]) -> Result<(), 
     ensures idle { NothingInFlight (D.view disk.new) }
     ensures fault { IfErr result IsDiskOrMemory }
     ensures rose { IfErr result (FaultRose (D.view disk.old) (D.view disk.new)) }
+    ensures calm { OnOk result (NoFaultRose (D.view disk.old) (D.view disk.new)) }
     ensures each_moment { OnlySyncsThroughout D.tells (D.view disk.old) (D.view disk.new) }
     ensures synced { OnOk result (HasSyncedEach D.tells (D.view disk.new) segments.now) }
 {

@@ -6,14 +6,15 @@ use Rattle.disk_face.specs.Image.{dirs_as_read}
 use Rattle.disk_face.specs.Listing.{IsAscending, AreSegmentNames, IsListing, IsSegmentName}
 use Rattle.disk_face.proofs.Laws.{same_files}
 use Rattle.wal_recovery.specs.declared.listing.Found.{Found}
-use Rattle.wal_recovery.specs.Answers.{DiskMemoryOr}
+use Rattle.wal_recovery.specs.Answers.{NoFaultRose, DiskMemoryOr}
 use Rattle.wal_recovery.specs.Rows.{Ascends, IsRowOf, Weaves, RefusesTwice, MeetsOrMemory}
-use Rattle.wal_recovery.proofs.Tools.{ok_map, err_map}
+use Rattle.wal_recovery.proofs.Tools.{ok_map, err_map, always_ok}
 use Rattle.wal_recovery.proofs.Weaves.{row_ascends}
 use Rattle.wal_recovery.proofs.IsListing.{both_listed, row_of, met_refused, row_named}
 use Rattle.disk_face.specs.View.{was_listed, Makes}
 use Rattle.wal_recovery.specs.Asking.{ListsRow, names_given}
 use Rattle.wal_recovery.proofs.ReadsOnly.{lists_row, lists_two, lists_one}
+use Rattle.wal_recovery.proofs.Calm.{calm_further}
 use Rattle.wal_recovery.proofs.listing.list_all.Goals as goal
 
 pub returns-clause-ascends : goal.returns-clause-ascends
@@ -101,3 +102,10 @@ returns-clause-lists g c =
     in
     ok_map (λ (row : List Found). Weaves row ones others [] []) (λ (row : List Found). ListsRow row old new) c.in_order.result
     (λ row w. lists_row row ones others old mid new first then w) c.in_order.ensures.woven
+
+pub returns-clause-calm : goal.returns-clause-calm
+returns-clause-calm g c =
+    let old = g.D.Disk.view c.args.disk.now in
+    let mid = g.D.Disk.view c.names_on.new.disk in
+    let new = g.D.Disk.view c.names_on-2.new.disk in
+    always_ok (NoFaultRose old new) c.in_order.result (calm_further old mid new c.in_ok-primary.ensures.calm c.in_ok-secondary.ensures.calm)

@@ -25,6 +25,7 @@ use Rattle.wal_recovery.proofs.AreReportsMerged as leniently
 use Rattle.wal_recovery.proofs.AreReportsMerged.{reports_hold, reports_numbered, refused_behind}
 use Rattle.wal_recovery.specs.Asking.{ReadsOnly, found_in}
 use Rattle.wal_recovery.proofs.ReadsOnly.{reads_none, reads_wal, reads_wal_within}
+use Rattle.wal_recovery.proofs.Calm.{calm_from, calm_further}
 use Rattle.wal_recovery.proofs.merging.merge_all.Goals as goal
 
 pub loop-wal-init : goal.loop-wal-init
@@ -33,6 +34,7 @@ loop-wal-init g c =
     record {
       goes = goes_on_from v;
       same = same_from v;
+      calm = calm_from v;
       asks = reads_none [] v;
       merged = leniently.reports_none c.args.reports.now c.new-so_far.result c.requires.none c.new-so_far.ensures;
       reports = λ told listed. subst (ReportOnAll []) (sym c.requires.none) (reports_none (files v) c.args.wals.now);
@@ -56,6 +58,7 @@ loop-wal-preserved g c =
     record {
       goes = goes_on_further first mid new c.loop-wal.invariant.goes c.in_ok-so_far.ensures.goes_on;
       same = same_further first mid new c.loop-wal.invariant.same c.in_ok-so_far.ensures.same;
+      calm = calm_further first mid new c.loop-wal.invariant.calm c.in_ok-so_far.ensures.calm;
       asks = reads_wal c.args.wals.now c.loop-wal.wal-index c.wal-item.result first mid new at c.loop-wal.invariant.asks c.in_ok-so_far.ensures.asks;
       merged = c.in_ok-so_far.ensures.merged;
       reports = λ told listed. reports_at (files first) c.args.wals.now c.loop-wal.wal-index c.wal-item.result at c.loop-wal.reports c.add_wal.new.reports

@@ -5,6 +5,7 @@ use Rattle.disk_face.specs.Calls.{GoesOn, SameDisk}
 use Rattle.wal_recovery.specs.Reports.{ReportOnAll}
 use Rattle.wal_recovery.specs.Rows.{wals_in}
 use Rattle.wal_recovery.specs.Gathered.{AreReportsMerged, AreListedWals}
+use Rattle.wal_recovery.specs.Answers.{NoFaultRose}
 use Rattle.wal_recovery.specs.Asking.{ReadsOnly, found_in}
 use Rattle.wal_recovery.proofs.merging.merge_all.Given as goal
 
@@ -13,6 +14,7 @@ invariant-loop-wal g l = record {
   goes : GoesOn (g.D.Disk.view l.initial.disk) (g.D.Disk.view l.disk);
   asks : ReadsOnly (found_in (take l.wal-index l.fn.wals)) (g.D.Disk.view l.initial.disk) (g.D.Disk.view l.disk);
   same : SameDisk (g.D.Disk.view l.initial.disk) (g.D.Disk.view l.disk);
+  calm : NoFaultRose (g.D.Disk.view l.initial.disk) (g.D.Disk.view l.disk);
   merged : AreReportsMerged l.reports l.so_far;
   reports : IsTrue g.D.Disk.tells → AreListedWals (files (g.D.Disk.view l.initial.disk)) l.fn.wals
       → ReportOnAll (wals_in (files (g.D.Disk.view l.initial.disk)) (take l.wal-index l.fn.wals)) l.reports;

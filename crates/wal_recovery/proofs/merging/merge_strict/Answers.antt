@@ -23,6 +23,7 @@ use Rattle.wal_recovery.proofs.ReportOnAll.{end_within}
 use Rattle.wal_recovery.proofs.AtWal.{StandsAt, stands_at, at_place, merged_none, reports_none, order_at, merged_at, reports_at, refused_at}
 use Rattle.wal_recovery.specs.Asking.{ReadsOnly, found_in}
 use Rattle.wal_recovery.proofs.ReadsOnly.{reads_none, reads_wal, reads_wal_within}
+use Rattle.wal_recovery.proofs.Calm.{calm_from, calm_further}
 use Rattle.wal_recovery.proofs.merging.merge_strict.Goals as goal
 
 pub loop-wal-init : goal.loop-wal-init
@@ -32,6 +33,7 @@ loop-wal-init g c =
     record {
       goes = goes_on_from v;
       same = same_from v;
+      calm = calm_from v;
       asks = reads_none [] v;
       next = sym (ap (end_after NUMBER_FIRST) c.new-batches.ensures);
       contiguous = subst (IsContiguous NUMBER_FIRST) (sym c.new-batches.ensures) tt;
@@ -68,6 +70,7 @@ loop-wal-preserved g c =
     record {
       goes = goes_on_further first mid new c.loop-wal.invariant.goes c.in_ok-own.ensures.goes_on;
       same = same_further first mid new c.loop-wal.invariant.same c.in_ok-own.ensures.same;
+      calm = calm_further first mid new c.loop-wal.invariant.calm c.in_ok-own.ensures.calm;
       asks = reads_wal c.args.wals.now c.loop-wal.wal-index c.wal-item.result first mid new at c.loop-wal.invariant.asks c.in_ok-own.ensures.asks;
       next = ends ∙ ap (λ (n : ℕ). end_after n own) c.loop-wal.invariant.next ∙ sym (end_append NUMBER_FIRST c.loop-wal.batches own)
           ∙ ap (end_after NUMBER_FIRST) (sym longer);

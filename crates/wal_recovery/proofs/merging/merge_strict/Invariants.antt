@@ -8,6 +8,7 @@ use Rattle.wal_recovery.specs.Recovering.{WalsMerge}
 use Rattle.wal_recovery.specs.Reports.{ReportOnAll}
 use Rattle.wal_recovery.specs.Rows.{wals_in}
 use Rattle.wal_recovery.specs.Gathered.{AreListedWals}
+use Rattle.wal_recovery.specs.Answers.{NoFaultRose}
 use Rattle.wal_recovery.specs.Asking.{ReadsOnly, found_in}
 use Rattle.wal_recovery.proofs.merging.merge_strict.Given as goal
 
@@ -16,6 +17,7 @@ invariant-loop-wal g l = record {
   goes : GoesOn (g.D.Disk.view l.initial.disk) (g.D.Disk.view l.disk);
   asks : ReadsOnly (found_in (take l.wal-index l.fn.wals)) (g.D.Disk.view l.initial.disk) (g.D.Disk.view l.disk);
   same : SameDisk (g.D.Disk.view l.initial.disk) (g.D.Disk.view l.disk);
+  calm : NoFaultRose (g.D.Disk.view l.initial.disk) (g.D.Disk.view l.disk);
   next : l.next ≡ end_after NUMBER_FIRST l.batches;
   contiguous : IsContiguous NUMBER_FIRST l.batches;
   within : l.next ≤ NUMBER_MAX;

@@ -10,6 +10,7 @@ use Rattle.wal_recovery.specs.Gathered.{AreAsListed, GathersWal, IsFirstBadOf}
 use Rattle.wal_recovery.proofs.GathersWal.{wal_none, wal_step, wal_row, first_bad}
 use Rattle.wal_recovery.specs.Asking.{ReadsOnly}
 use Rattle.wal_recovery.proofs.ReadsOnly.{reads_none, reads_taken, reads_within}
+use Rattle.wal_recovery.proofs.Calm.{calm_from, calm_further}
 use Rattle.wal_recovery.proofs.merging.read_wal.Goals as goal
 
 pub loop-segment-init : goal.loop-segment-init
@@ -18,6 +19,7 @@ loop-segment-init g c =
     record {
       goes = goes_on_from v;
       same = same_from v;
+      calm = calm_from v;
       asks = reads_none [] v;
       gathered = subst (λ (r : List SegmentRead). GathersWal g.D.Disk.tells (files v) [] c.args.reports.now c.args.reports.now r)
           (sym c.new-row.ensures) (wal_none g.D.Disk.tells (files v) c.args.reports.now);
@@ -32,6 +34,7 @@ loop-segment-preserved g c =
     record {
       goes = goes_on_further first mid new c.loop-segment.invariant.goes c.in_ok-read_segment.ensures.goes_on;
       same = same_further first mid new c.loop-segment.invariant.same c.in_ok-read_segment.ensures.same;
+      calm = calm_further first mid new c.loop-segment.invariant.calm c.in_ok-read_segment.ensures.calm;
       asks = reads_taken c.deref-segment-items.result.now c.loop-segment.segment-index _ first mid new c.loop-segment-test.true
           c.loop-segment.invariant.asks c.in_ok-read_segment.ensures.asks;
       gathered = wal_step g.D.Disk.tells (files first) (files mid) now c.deref-segment-items.result.now c.loop-segment.segment-index _

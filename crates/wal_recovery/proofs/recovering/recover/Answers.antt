@@ -16,6 +16,7 @@ use Rattle.wal_recovery.proofs.NextWals.{next_wal_answered}
 use Rattle.wal_recovery.proofs.RecoversBy.{twice_refused, only_recovered, only_refused, row_behind, recovered_before, refused_before, reported_before}
 use Rattle.wal_recovery.specs.Asking.{ListsBoth, ReadsOnly}
 use Rattle.wal_recovery.proofs.ReadsOnly.{asks_once, lists_both}
+use Rattle.wal_recovery.proofs.Calm.{calm_before}
 use Rattle.wal_recovery.proofs.recovering.recover.Goals as goal
 
 -- ---- a name that stands twice
@@ -169,3 +170,15 @@ returns-clause-lists g c =
     let both : ListsBoth old new = lists_both c.in_ok-segments.segments old mid new c.in_ok-segments.ensures.lists
     (subst (λ (r : List Found). ReadsOnly r mid new) c.as_slice-in-Lenient.ensures c.recover_lenient.ensures.asks) in
     always_ok (ListsBoth old new) c.recover_lenient.result both
+
+-- ---- counts of faults
+
+pub returns-in-Strict-clause-calm : goal.returns-in-Strict-clause-calm
+returns-in-Strict-clause-calm g c =
+    calm_before (g.D.Disk.view c.args.disk.now) (g.D.Disk.view c.list_all.new.disk) (g.D.Disk.view c.recover_strict.new.disk)
+    c.recover_strict.result c.in_ok-segments.ensures.calm c.recover_strict.ensures.calm
+
+pub returns-clause-calm : goal.returns-clause-calm
+returns-clause-calm g c =
+    calm_before (g.D.Disk.view c.args.disk.now) (g.D.Disk.view c.list_all.new.disk) (g.D.Disk.view c.recover_lenient.new.disk)
+    c.recover_lenient.result c.in_ok-segments.ensures.calm c.recover_lenient.ensures.calm

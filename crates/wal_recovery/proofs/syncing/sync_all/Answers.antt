@@ -6,6 +6,7 @@ use Rattle.wal_recovery.specs.Rows.{place_listed}
 use Rattle.wal_recovery.specs.Resting.{IsSynced}
 use Rattle.wal_recovery.proofs.Syncs.{moments_of_both, synced_more}
 use Rattle.wal_recovery.proofs.ReadsOnly.{reads_nothing}
+use Rattle.wal_recovery.proofs.Calm.{calm_further}
 use Rattle.wal_recovery.proofs.syncing.sync_all.Goals as goal
 
 pub loop-segment-preserved : goal.loop-segment-preserved
@@ -17,6 +18,7 @@ loop-segment-preserved g c =
       goes = goes_on_further first mid new c.loop-segment.invariant.goes c.in_ok-sync.ensures.goes_on;
       asks = reads_nothing first mid new c.loop-segment.invariant.asks c.in_ok-sync.ensures.asks;
       idle = c.in_ok-sync.ensures.idle;
+      calm = calm_further first mid new c.loop-segment.invariant.calm c.in_ok-sync.ensures.calm;
       moments = λ told. moments_of_both first mid new c.loop-segment.invariant.goes c.in_ok-sync.ensures.goes_on
           (c.loop-segment.invariant.moments told) (c.in_ok-sync.ensures.each_moment told);
       synced = λ told.
