@@ -10,13 +10,13 @@ use Rattle.disk_face.specs.declared.SegName.{SegName}
 use Rattle.disk_face.specs.declared.OpId.{OpId}
 use Rattle.disk_face.specs.declared.Listed.{Listed}
 use Rattle.disk_face.specs.View.{was_listed, was_read, was_started, was_polled, DiskView, Makes, side_eq}
-use Rattle.disk_face.specs.Asked.{name_eq, listings, length_listed, length_among}
+use Rattle.disk_face.specs.Asked.{name_eq, listings, bytes_asked, length_listed, length_among}
 use Rattle.disk_face.proofs.Laws.{makes_none, makes_further, listings-append, bytes_asked-append, length_listed-append}
 use Rattle.wal_recovery.specs.declared.listing.Found.{Found}
 use Rattle.wal_recovery.specs.declared.wals.FoundWal.{FoundWal}
 use Rattle.wal_recovery.specs.Rows.{item_of, Takes, Weaves, Groups}
 use Rattle.wal_recovery.proofs.AtWal.{StandsAt}
-use Rattle.wal_recovery.specs.Asking.{AsksOnce, ListsBoth, length_in_row, ReadsOnly, ListsRow, found_in}
+use Rattle.wal_recovery.specs.Asking.{AsksOnce, both_listed, ListsInTurn, length_in_row, ReadsOnly, ListsRow, found_in}
 
 -- how many bytes of this segment a segment of a row has
 abbrev bytes_here : Side → SegName → Found → ℕ
@@ -123,22 +123,24 @@ woven Secondary name [] ones others w = ap (length_among name) w.1
 woven side name (f ∷ row) ones others (a, b, takes, rest) =
     taken side name f ones others a b takes ∙ ap (λ (n : ℕ). bytes_here side name f + n) (woven side name row a b rest) ∙ sym (bytes_cons side name f row)
 
+each_once : (ones others : List Listed) (side : Side) → listings side (both_listed ones others) ≡ 1
+each_once ones others Primary = refl
+each_once ones others Secondary = refl
+
+none_asked : (ones others : List Listed) (side : Side) (name : SegName) → bytes_asked side name (both_listed ones others) ≡ 0
+none_asked ones others side name = refl
+
 -- both sides are listed, and the row is woven of what they gave
 pub lists_row : (row : List Found) (ones others : List Listed) (old mid new : DiskView) → Makes (was_listed Primary ones ∷ []) old mid
     → Makes (was_listed Secondary others ∷ []) mid new → Weaves row ones others [] [] → ListsRow row old new
 lists_row row ones others old mid new a b w = record {
-  made = was_listed Secondary others ∷ was_listed Primary ones ∷ [];
+  ones = ones;
+  others = others;
   makes = makes_further (was_listed Primary ones ∷ []) (was_listed Secondary others ∷ []) old mid new a b;
-  lists = once;
-  asked = λ side name. refl;
   listed = given;
 }
   where
-    once : (side : Side) → listings side (was_listed Secondary others ∷ was_listed Primary ones ∷ []) ≡ 1
-    once Primary = refl
-    once Secondary = refl
-
-    given : (side : Side) (name : SegName) → length_listed side name (was_listed Secondary others ∷ was_listed Primary ones ∷ []) ≡ length_in_row side name row
+    given : (side : Side) (name : SegName) → length_listed side name (both_listed ones others) ≡ length_in_row side name row
     given Primary name = (let e : 0 + 0 + length_among name ones ≡ length_among name ones = omega arith in e) ∙ woven Primary name row ones others w
     given Secondary name = between_none (length_among name others) ∙ woven Secondary name row ones others w
 
@@ -146,15 +148,11 @@ lists_row row ones others old mid new a b w = record {
 pub lists_two : (ones others : List Listed) (old mid new : DiskView) → Makes (was_listed Primary ones ∷ []) old mid
     → Makes (was_listed Secondary others ∷ []) mid new → AsksOnce old new
 lists_two ones others old mid new a b = record {
-  made = was_listed Secondary others ∷ was_listed Primary ones ∷ [];
+  made = both_listed ones others;
   makes = makes_further (was_listed Primary ones ∷ []) (was_listed Secondary others ∷ []) old mid new a b;
-  lists = once;
+  lists = λ side. omega (arith, each_once ones others side);
   reads = λ side name. omega arith;
 }
-  where
-    once : (side : Side) → listings side (was_listed Secondary others ∷ was_listed Primary ones ∷ []) ≤ 1
-    once Primary = omega arith
-    once Secondary = omega arith
 
 pub lists_one : (ones : List Listed) (old new : DiskView) → Makes (was_listed Primary ones ∷ []) old new → AsksOnce old new
 lists_one ones old new a = record { made = was_listed Primary ones ∷ []; makes = a; lists = once; reads = λ side name. omega arith }
@@ -167,25 +165,27 @@ lists_one ones old new a = record { made = was_listed Primary ones ∷ []; makes
 
 pub asks_once : (row : List Found) (old mid new : DiskView) → ListsRow row old mid → ReadsOnly row mid new → AsksOnce old new
 asks_once row old mid new a b = record {
-  made = b.made ++ a.made;
-  makes = makes_further a.made b.made old mid new a.makes b.makes;
-  lists = λ side. omega (arith, listings-append side b.made a.made, a.lists side, b.lists side);
+  made = b.made ++ both_listed a.ones a.others;
+  makes = makes_further (both_listed a.ones a.others) b.made old mid new a.makes b.makes;
+  lists = λ side. omega (arith, listings-append side b.made (both_listed a.ones a.others), each_once a.ones a.others side, b.lists side);
   reads = λ side name. omega (
     arith,
-    bytes_asked-append side name b.made a.made,
-    length_listed-append side name b.made a.made,
-    a.asked side name,
+    bytes_asked-append side name b.made (both_listed a.ones a.others),
+    length_listed-append side name b.made (both_listed a.ones a.others),
+    none_asked a.ones a.others side name,
     a.listed side name,
     b.asked side name,
     b.listed side name,
   );
 }
 
-pub lists_both : (row : List Found) (old mid new : DiskView) → ListsRow row old mid → ReadsOnly row mid new → ListsBoth old new
-lists_both row old mid new a b = record {
-  made = b.made ++ a.made;
-  makes = makes_further a.made b.made old mid new a.makes b.makes;
-  lists = λ side. omega (arith, listings-append side b.made a.made, a.lists side, b.lists side);
+pub lists_in_turn : (row : List Found) (old mid new : DiskView) → ListsRow row old mid → ReadsOnly row mid new → ListsInTurn old new
+lists_in_turn row old mid new a b = record {
+  ones = a.ones;
+  others = a.others;
+  later = b.made;
+  makes = makes_further (both_listed a.ones a.others) b.made old mid new a.makes b.makes;
+  no_more = b.lists;
 }
 
 -- the WALs of a row have its segments

@@ -1,10 +1,11 @@
 -- What recovery asks of the disk, in listings and in bytes (docs/FORMATS.md, "Recovery").
-use Rattle.std.specs.Prelude.{◌≡◌, ℕ, ◌≤◌, ◌&&◌, if◌then◌else◌, List, [], sum_by, Result, Ok, Err}
+use Rattle.std.specs.Prelude.{◌≡◌, ℕ, ◌≤◌, ◌&&◌, if◌then◌else◌, List, [], ◌∷◌, ◌++◌, sum_by, Result, Ok, Err}
 use Rattle.std.specs.List.{flat_map}
 use Rattle.disk_face.specs.declared.Side.{Side}
+use Rattle.disk_face.specs.declared.Side.TheVariants.{Primary, Secondary}
 use Rattle.disk_face.specs.declared.SegName.{SegName}
 use Rattle.disk_face.specs.declared.Listed.{Listed}
-use Rattle.disk_face.specs.View.{Call, DiskView, Makes, side_eq}
+use Rattle.disk_face.specs.View.{Call, was_listed, DiskView, Makes, side_eq}
 use Rattle.disk_face.specs.Asked.{name_eq, listings, bytes_asked, length_listed, ListsOnce, ReadsAtMostListed}
 use Rattle.wal_recovery.specs.declared.fault.RecoverFault.{RecoverFault}
 use Rattle.wal_recovery.specs.declared.listing.Found.{Found}
@@ -17,11 +18,17 @@ pub record AsksOnce (old new : DiskView) : Type 0 where
   pub lists : ListsOnce made
   pub reads : ReadsAtMostListed made
 
--- In the calls made since, each side is listed once.
-pub record ListsBoth (old new : DiskView) : Type 0 where
-  pub made : List Call
-  pub makes : Makes made old new
-  pub lists : (side : Side) → listings side made ≡ 1
+-- a listing of the primary side, and then one of the secondary side, the last one first
+abbrev pub both_listed : List Listed → List Listed → List Call
+both_listed ones others = was_listed Secondary others ∷ was_listed Primary ones ∷ []
+
+-- Of the calls made since, the first is a listing of the primary side, the second one of the secondary side, and no later one lists a side.
+pub record ListsInTurn (old new : DiskView) : Type 0 where
+  pub ones : List Listed
+  pub others : List Listed
+  pub later : List Call
+  pub makes : Makes (later ++ both_listed ones others) old new
+  pub no_more : (side : Side) → listings side later ≡ 0
 
 -- ---- on the way
 
@@ -37,13 +44,12 @@ pub record ReadsOnly (row : List Found) (old new : DiskView) : Type 0 where
   pub listed : (side : Side) (name : SegName) → length_listed side name made ≡ 0
   pub asked : (side : Side) (name : SegName) → bytes_asked side name made ≤ length_in_row side name row
 
--- The calls made since list each side once and read nothing, and the row has of each segment as many bytes as it was listed with.
+-- The calls made since are the listings of both sides, and the row has of each segment as many bytes as it was listed with.
 pub record ListsRow (row : List Found) (old new : DiskView) : Type 0 where
-  pub made : List Call
-  pub makes : Makes made old new
-  pub lists : (side : Side) → listings side made ≡ 1
-  pub asked : (side : Side) (name : SegName) → bytes_asked side name made ≡ 0
-  pub listed : (side : Side) (name : SegName) → length_listed side name made ≡ length_in_row side name row
+  pub ones : List Listed
+  pub others : List Listed
+  pub makes : Makes (both_listed ones others) old new
+  pub listed : (side : Side) (name : SegName) → length_listed side name (both_listed ones others) ≡ length_in_row side name row
 
 -- what a listing gave: nothing where it failed
 abbrev pub names_given : Result (List Listed) RecoverFault → List Listed

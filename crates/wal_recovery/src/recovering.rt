@@ -10,7 +10,7 @@ ghost use Rattle.wal_recovery.specs.declared.listing.Found.{Found};
 ghost use Rattle.wal_recovery.specs.declared.reports.Mode.TheVariants.{Strict, Lenient};
 ghost use Rattle.wal_recovery.specs.Answers.{FaultRose, NoFaultRose};
 ghost use Rattle.wal_recovery.specs.Rows.{Ascends, IsRowOf, IsNextAfter};
-ghost use Rattle.wal_recovery.specs.Asking.{AsksOnce, ListsBoth, ReadsOnly};
+ghost use Rattle.wal_recovery.specs.Asking.{AsksOnce, ListsInTurn, ReadsOnly};
 ghost use Rattle.wal_recovery.specs.Promises.{IsWhatRecovers, FindsWhatRecovers};
 ghost use Rattle.wal_recovery.specs.Promises.{IsReasonToRefuse, AnswersRefusal};
 ghost use Rattle.wal_recovery.specs.Promises.{ReportsOnSegments, HasNextWal, HasNoGap};
@@ -139,7 +139,7 @@ pub fn recover<D: Disk>(alloc: Global, disk: &mut D, mode: Mode) -> Result<Recov
 
     // The calls, of any disk: of each segment no more bytes are asked for than it was listed with.
     ensures asks { AsksOnce (D.view disk.old) (D.view disk.new) }
-    ensures lists { OnOk result (ListsBoth (D.view disk.old) (D.view disk.new)) }
+    ensures lists { OnOk result (ListsInTurn (D.view disk.old) (D.view disk.new)) }
 
     // The files: nothing happens to any but a sync, so a crash may leave nothing new; refused directories are not touched, and what was read is stable where no gap is accepted.
     ensures each_moment { AddsNoImageThroughout D.tells (D.view disk.old) (D.view disk.new) }

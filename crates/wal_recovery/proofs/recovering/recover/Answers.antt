@@ -14,8 +14,8 @@ use Rattle.wal_recovery.proofs.Tools.{on_ok_map, always_ok}
 use Rattle.wal_recovery.proofs.IsStable.{same_then, synced_moments}
 use Rattle.wal_recovery.proofs.NextWals.{next_wal_answered}
 use Rattle.wal_recovery.proofs.RecoversBy.{twice_refused, only_recovered, only_refused, row_behind, recovered_before, refused_before, reported_before}
-use Rattle.wal_recovery.specs.Asking.{ListsBoth, ReadsOnly}
-use Rattle.wal_recovery.proofs.ReadsOnly.{asks_once, lists_both}
+use Rattle.wal_recovery.specs.Asking.{ListsInTurn, ReadsOnly}
+use Rattle.wal_recovery.proofs.ReadsOnly.{asks_once, lists_in_turn}
 use Rattle.wal_recovery.proofs.Calm.{calm_before}
 use Rattle.wal_recovery.proofs.recovering.recover.Goals as goal
 
@@ -151,9 +151,9 @@ returns-in-Strict-clause-lists g c =
     let old = g.D.Disk.view c.args.disk.now in
     let mid = g.D.Disk.view c.list_all.new.disk in
     let new = g.D.Disk.view c.recover_strict.new.disk in
-    let both : ListsBoth old new = lists_both c.in_ok-segments.segments old mid new c.in_ok-segments.ensures.lists
+    let turn : ListsInTurn old new = lists_in_turn c.in_ok-segments.segments old mid new c.in_ok-segments.ensures.lists
     (subst (λ (r : List Found). ReadsOnly r mid new) c.as_slice.ensures c.recover_strict.ensures.asks) in
-    always_ok (ListsBoth old new) c.recover_strict.result both
+    always_ok (ListsInTurn old new) c.recover_strict.result turn
 
 pub returns-clause-asks : goal.returns-clause-asks
 returns-clause-asks g c =
@@ -167,9 +167,9 @@ returns-clause-lists g c =
     let old = g.D.Disk.view c.args.disk.now in
     let mid = g.D.Disk.view c.list_all.new.disk in
     let new = g.D.Disk.view c.recover_lenient.new.disk in
-    let both : ListsBoth old new = lists_both c.in_ok-segments.segments old mid new c.in_ok-segments.ensures.lists
+    let turn : ListsInTurn old new = lists_in_turn c.in_ok-segments.segments old mid new c.in_ok-segments.ensures.lists
     (subst (λ (r : List Found). ReadsOnly r mid new) c.as_slice-in-Lenient.ensures c.recover_lenient.ensures.asks) in
-    always_ok (ListsBoth old new) c.recover_lenient.result both
+    always_ok (ListsInTurn old new) c.recover_lenient.result turn
 
 -- ---- counts of faults
 
