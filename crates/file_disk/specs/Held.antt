@@ -1,5 +1,6 @@
 -- Which file a directory holds open, and how an operation comes to its file (docs/FORMATS.md, "Segment names").
-use Rattle.std.specs.Prelude.{◌≡◌, Some}
+use Rattle.std.specs.Prelude.{◌≡◌, ℕ, List, Option, Some}
+use Rattle.std.specs.Io.KnownBytes.{Appends}
 use Rattle.disk_face.specs.declared.Side.{Side}
 use Rattle.disk_face.specs.declared.SegName.{SegName}
 use Rattle.file_disk.specs.declared.directory.Target.{Target}
@@ -48,3 +49,8 @@ HoldsAfter old new name (Create path) = HoldsOpen new name
 HoldsAfter old new name (Append target bytes) = HoldsOpen new name
 HoldsAfter old new name (Sync (Open file)) = HoldsOpen new name
 HoldsAfter old new name (Sync (Path path)) = HoldsTheSame old new
+
+-- where the file was held open, the bytes that it is known to have grew by these
+abbrev pub GrewOpen : {F : Type 0} → (F → Option (List ℕ)) → Target F → F → List ℕ → Type 0
+GrewOpen contents (Open file) grown bytes = Appends (contents file) (contents grown) bytes
+GrewOpen contents (Path path) grown bytes = Unit {0}

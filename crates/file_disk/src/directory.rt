@@ -6,7 +6,7 @@ ghost use Rattle.disk_face.specs.declared.Side.{Side};
 ghost use Rattle.disk_face.specs.Calls.{side_of};
 ghost use Rattle.file_disk.specs.Flights.{flight_on_side, flight_at, IsTaskOf, HasBytesOf, HasInFlight, HasNoFlight};
 ghost use Rattle.file_disk.specs.Flights.{SameFlights, OtherFlightsStay};
-ghost use Rattle.file_disk.specs.Held.{IsHeld, HoldsOpen, HoldsTheSame, HoldsAfter, IsOpen, LeadsTo, FindsItsFile};
+ghost use Rattle.file_disk.specs.Held.{IsHeld, HoldsOpen, HoldsTheSame, HoldsAfter, IsOpen, LeadsTo, FindsItsFile, GrewOpen};
 
 use crate::flights::Flights;
 use crate::paths::{PARENT, directory_of, path_of};
@@ -33,7 +33,9 @@ pub enum Target<F> {
 
 impl<F: Write + OpenFile + Drop> Target<F> {
     /// Puts bytes at the end of the file, and answers the file.
-    fn append<R: Files<File = F>>(self, rt: &R, bytes: &[u8]) -> io::Result<F> {
+    fn append<R: Files<File = F>>(self, rt: &R, bytes: &[u8]) -> io::Result<F>
+        ensures grew { IfOk result (λ file. GrewOpen F.contents self file bytes.now) }
+    {
         let mut file = match self {
             Target::Open(file) => file,
             Target::Path(path) => system::open(rt, &path)?,

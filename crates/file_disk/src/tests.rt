@@ -180,6 +180,8 @@ fn a_segment_stays_open(rt: HostRuntime) -> Result<(), Fail> {
         (write(0), full, 0),
         (write(0), None, 1),
         (sync(0), broken, 0),
+        // Nor is a sync done that is refused of a segment that is not held.
+        (sync(0), broken, 1),
         // What is only synced is not held.
         (sync(0), None, 1),
         (write(0), None, 1),
@@ -198,6 +200,9 @@ fn a_segment_stays_open(rt: HostRuntime) -> Result<(), Fail> {
         assert_eq!(rt; is_done, refused.is_none(), "at {op:?}");
         assert_eq!(rt; watch.opened.get(), opened, "at {op:?}");
     }
+    // Each write that is done stands whole, though the system took two bytes at a time.
+    let listed = FileDisk::new(&rt)?.list(Side::Primary)?;
+    assert!(rt; are_listed(&listed, &[(1, 0, 12), (1, 2, 9)]));
     Ok(())
 }
 
