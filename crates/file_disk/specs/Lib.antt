@@ -3,3 +3,4 @@ pub mod Seen
 pub mod Refusals
 pub mod Paths
 pub mod Held
+pub mod Locked

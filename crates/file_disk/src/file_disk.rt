@@ -6,29 +6,35 @@ ghost use Rattle.disk_face.specs.View.{NothingInFlight, was_polled};
 ghost use Rattle.disk_face.specs.Calls as spec;
 ghost use Rattle.disk_face.specs.Calls.{GoesOn, SameDisk, Ends};
 ghost use Rattle.wal_base.specs.Faults.{Rose, counted};
+ghost use Rattle.disk_face.specs.Listing.{IsAscending, AreSegmentNames};
 ghost use Rattle.file_disk.specs.Seen.{on_files};
+ghost use Rattle.file_disk.specs.Locked.{KeepsLocks};
 ghost use Rattle.file_disk.specs.Refusals.{OtherFaultsStay, CountsNoneButRefusal, CountsRefusal, FailsIfRefused};
 
 use crate::directory::{Directory, Started};
+use crate::locks::{LockFiles, Locks};
 use crate::system;
 use disk_face::{CallLog, Disk, DiskErr, DiskOp, Names, OpId, Progress, SegName, Side};
 use std::io;
 use std::io::ErrorKind;
-use std::rt::Files;
 use wal_base::NoMemory;
 
 /// The directories `./wal` and `./wal_secondary` of the folder in which the program runs. It tells nothing and
 /// never stalls. An operation is run at its first poll, and a failure that is answered was counted once. Each side
 /// holds one file open, so that a write to the segment that was created or written last is one call of the system.
+///
+/// What it has listed is its own while it lives: a listing locks the folder, and the directory of its side, and fails where
+/// another disk has one of them.
 #[derive(Drop)]
-pub struct FileDisk<R: Files + AllocGlobal + Clone + Drop> {
+pub struct FileDisk<R: LockFiles + AllocGlobal + Clone + Drop> {
     runtime: R,
     primary: Directory<R::File>,
     secondary: Directory<R::File>,
+    locks: Locks<R::File>,
     log: CallLog,
 }
 
-impl<R: Files + AllocGlobal + Clone + Drop> FileDisk<R> {
+impl<R: LockFiles + AllocGlobal + Clone + Drop> FileDisk<R> {
     /// Works on the files of this runtime. No file and no directory is touched yet. `Err` means out of memory.
     pub fn new(runtime: &R) -> Result<Self, NoMemory>
         ensures silent { ⟦<FileDisk<R> as Disk>⟧.tells ≡ false }
@@ -40,6 +46,7 @@ impl<R: Files + AllocGlobal + Clone + Drop> FileDisk<R> {
             runtime: runtime.clone()?,
             primary: Directory::new(runtime.alloc()),
             secondary: Directory::new(runtime.alloc()),
+            locks: Locks::new(),
             log: CallLog::new(),
         })
     }
@@ -116,6 +123,20 @@ impl<R: Files + AllocGlobal + Clone + Drop> FileDisk<R> {
     }
 }
 
+/// The segments of a side, once no other disk can be at work there.
+fn list_alone<R: LockFiles + AllocGlobal + Clone + Drop>(
+    rt: &R,
+    locks: &mut Locks<R::File>,
+    side: Side,
+) -> Result<Names, DiskErr>
+    ensures keeps { KeepsLocks locks.old locks.new }
+    ensures ascending { IfOk result IsAscending }
+    ensures numbers { IfOk result AreSegmentNames }
+{
+    locks.take(rt, side).map_err(system::refusal)?;
+    system::list(rt, side)
+}
+
 fn side_of(op: DiskOp<'_>) -> Side
     ensures { result ≡ spec.side_of op.entry }
 {
@@ -126,7 +147,7 @@ fn side_of(op: DiskOp<'_>) -> Side
     }
 }
 
-impl<R: Files + AllocGlobal + Clone + Drop> Disk for FileDisk<R> {
+impl<R: LockFiles + AllocGlobal + Clone + Drop> Disk for FileDisk<R> {
     ghost use Rattle.disk_face.specs.NoFiles.{no_files, no_sound};
 
     ghost tells = { false };
@@ -134,7 +155,7 @@ impl<R: Files + AllocGlobal + Clone + Drop> Disk for FileDisk<R> {
     ghost view = { λ d. on_files d };
 
     fn list(&mut self, side: Side) -> Result<Names, DiskErr> {
-        let listed = system::list(&self.runtime, side);
+        let listed = list_alone(&self.runtime, &mut self.locks, side);
         if let Err(DiskErr::Failed) = listed {
             self.raise(side);
         }

@@ -12,11 +12,13 @@
 mod directory;
 mod file_disk;
 mod flights;
+mod locks;
 mod order;
 mod paths;
 mod system;
 
 pub use file_disk::FileDisk;
+pub use locks::LockFiles;
 
 #[cfg(test)]
 mod tests;

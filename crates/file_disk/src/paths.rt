@@ -1,6 +1,6 @@
 //! Where the files stand.
 
-ghost use Rattle.std.specs.Prelude.{◌≡◌, IfOk};
+ghost use Rattle.std.specs.Prelude.{◌≡◌, ◌++◌, codes, IfOk};
 ghost use Rattle.file_disk.specs.Paths.{directory_text, path_text};
 
 use disk_face::{SegName, Side};
@@ -17,6 +17,16 @@ pub fn directory_of(side: Side) -> &'static str
     match side {
         Side::Primary => "./wal",
         Side::Secondary => "./wal_secondary",
+    }
+}
+
+/// The directory of a side, with the slash that the system takes after nothing but a directory.
+pub fn slashed_directory_of(side: Side) -> &'static str
+    ensures { result.now ≡ directory_text side ++ codes "/" }
+{
+    match side {
+        Side::Primary => "./wal/",
+        Side::Secondary => "./wal_secondary/",
     }
 }
 

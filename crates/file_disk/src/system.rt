@@ -65,7 +65,7 @@ pub fn sync<R: Files>(rt: &R, path: &Buf) -> io::Result<()> {
 }
 
 /// What a refusal of the system is to the caller of `list` or `read`.
-fn refusal(error: io::Error) -> DiskErr {
+pub fn refusal(error: io::Error) -> DiskErr {
     match error.kind() {
         ErrorKind::OutOfMemory => DiskErr::NoMemory,
         _ => DiskErr::Failed,

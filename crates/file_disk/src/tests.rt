@@ -9,6 +9,7 @@ use std::{fs, io};
 use wal_base::NoMemory;
 use watched::{Call, Watch, Watched};
 
+mod locks;
 mod watched;
 
 /// Starts an operation on a disk of its own, and asks once how it stands.

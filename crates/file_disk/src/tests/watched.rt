@@ -1,9 +1,10 @@
 //! The files of the system, seen at work: how many are opened, and one call that is refused.
 
+use crate::LockFiles;
 use crate::paths::PARENT;
 use std::alloc::{Allocator, Global};
 use std::cell::Cell;
-use std::fs::{Metadata, OpenFile, OpenOptions};
+use std::fs::{Metadata, OpenFile, OpenOptions, TryLockError};
 use std::io;
 use std::io::{ErrorKind, Read, Seek, SeekFrom, Write};
 use std::rt::Files;
@@ -15,6 +16,8 @@ pub enum Call {
     SyncDirectory,
     SyncSegment,
     Write,
+    OpenFolder,
+    Lock,
 }
 
 /// What is seen, and which call is refused.
@@ -22,6 +25,9 @@ pub enum Call {
 pub struct Watch {
     pub opened: Cell<u32>,
     pub parent_syncs: Cell<u32>,
+    pub locked: Cell<u32>,
+    /// What stands in place of the folder of the program.
+    pub folder: Cell<&'static str>,
     pub refused: Cell<Option<(Call, ErrorKind)>>,
 }
 
@@ -30,6 +36,8 @@ impl Watch {
         Watch {
             opened: Cell::new(0),
             parent_syncs: Cell::new(0),
+            locked: Cell::new(0),
+            folder: Cell::new(PARENT),
             refused: Cell::new(None),
         }
     }
@@ -125,6 +133,12 @@ impl<'a> Files for Watched<'a> {
             _ if path.ends_with(".log") => Call::SyncSegment,
             _ => Call::SyncDirectory,
         };
+        let path = if path == PARENT {
+            self.watch.ask(Call::OpenFolder)?;
+            self.watch.folder.get()
+        } else {
+            path
+        };
         self.watch
             .opened
             .set(self.watch.opened.get().saturating_add(1));
@@ -169,5 +183,21 @@ impl<'a> Files for Watched<'a> {
 
     fn remove_dir_all<B: Allocator>(&self, alloc: B, path: &str) -> io::Result<()> {
         self.system.remove_dir_all(alloc, path)
+    }
+}
+
+impl LockFiles for Watched<'_> {
+    fn try_lock(&self, file: &Self::File) -> Result<(), TryLockError> {
+        match self.watch.ask(Call::Lock) {
+            Ok(()) => {}
+            Err(error) if error.kind() == ErrorKind::WouldBlock => {
+                return Err(TryLockError::WouldBlock);
+            }
+            Err(error) => return Err(TryLockError::Error(error)),
+        }
+        self.watch
+            .locked
+            .set(self.watch.locked.get().saturating_add(1));
+        self.system.try_lock(&file.file)
     }
 }
