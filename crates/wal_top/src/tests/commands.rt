@@ -168,3 +168,13 @@ fn a_load_whose_journal_dies_is_told_as_dead(rt: HostRuntime) -> Result<(), Fail
     assert!(rt; segment_at(&disk, 9).is_none());
     Ok(())
 }
+
+#[test]
+fn a_load_of_many_batches_tells_what_it_came_to(rt: HostRuntime) -> Result<(), Fail> {
+    let alloc = rt.alloc();
+    let words = &["load", "7", "20000"];
+    let text =
+        "load batches 20000 visible 22510 live 875 acked 20000 segments 1 last 828850fe970534cc\n";
+    check_command(&rt, alloc, Rig::new(alloc)?, words, b"", Status::Done, text)?;
+    Ok(())
+}

@@ -18,6 +18,11 @@ fn segments_are_recovered(rt: HostRuntime) -> Result<(), Fail> {
     let rig = rig_of(&rt, alloc, first, Some(second.as_slice()))?;
     let store = "a = 4\nend batches 4 next 14\n";
     check_command(&rt, alloc, rig, &["recover"], b"", Status::Done, store)?;
+    // It has zeros in the place of its third chunk.
+    let mut first = segment_of(alloc, 1, &[(10, b'1'), (11, b'2')])?;
+    first.append(&[0; 28])?;
+    let rig = rig_of(&rt, alloc, first.as_slice(), Some(second.as_slice()))?;
+    check_command(&rt, alloc, rig, &["recover"], b"", Status::Done, store)?;
     let rig = Rig::new(alloc)?;
     let store = "end batches 0 next 10\n";
     check_command(&rt, alloc, rig, &["recover"], b"", Status::Done, store)?;
@@ -91,15 +96,17 @@ fn directories_are_refused(rt: HostRuntime) -> Result<(), Fail> {
         let rig = rig_of(&rt, alloc, first.as_slice(), second)?;
         check_command(&rt, alloc, rig, &[words], script, Status::Refused, text)?;
     }
-    let mut rig = rig_of(&rt, alloc, three.as_slice(), None)?;
-    rig.put(
-        &rt,
-        Side::Secondary,
-        SegName { wal: 1, index: 0 },
-        three.as_slice(),
-    );
-    let text = "refused duplicate 000001.log\n";
-    check_command(&rt, alloc, rig, &["replay"], script, Status::Refused, text)?;
+    for words in ["recover", "dump", "replay"] {
+        let mut rig = rig_of(&rt, alloc, three.as_slice(), None)?;
+        rig.put(
+            &rt,
+            Side::Secondary,
+            SegName { wal: 1, index: 0 },
+            three.as_slice(),
+        );
+        let text = "refused duplicate 000001.log\n";
+        check_command(&rt, alloc, rig, &[words], script, Status::Refused, text)?;
+    }
     Ok(())
 }
 
