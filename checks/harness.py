@@ -10,7 +10,8 @@ from pathlib import Path
 TOP = Path(__file__).resolve().parent.parent
 # The program that was built, where it is named, or else the launcher, which builds it first.
 PROGRAM = os.environ.get("PEBBLE") or str(TOP / "pebble")
-SECONDS = 60
+# A run that takes longer hangs, however busy the machine is.
+SECONDS = 1_200
 
 passed, failed = [], []
 
