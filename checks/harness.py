@@ -61,9 +61,12 @@ def run_in(folder, words, **how):
         return subprocess.CompletedProcess(words, f"none within {how['timeout']} seconds", b"", b"")
 
 
-def limited(*words):
-    """A command of the program, run where no file may have a byte: so the write of each segment fails."""
-    return ["sh", "-c", "trap '' XFSZ; ulimit -f 0; exec \"$@\"", "sh", PROGRAM, *words]
+def limited(blocks, *words):
+    """A command of the program, run where no file may have more than so many blocks of 512 bytes.
+
+    A write that would go on behind them is taken up to there, and the next one is refused.
+    """
+    return ["sh", "-c", "trap '' XFSZ; ulimit -f \"$0\"; exec \"$@\"", str(blocks), PROGRAM, *words]
 
 
 def ends(name, groups):
