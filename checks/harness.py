@@ -8,8 +8,11 @@ import tempfile
 from pathlib import Path
 
 TOP = Path(__file__).resolve().parent.parent
+BUILT = os.environ.get("PEBBLE")
 # The program that was built, where it is named, or else the launcher, which builds it first.
-PROGRAM = os.environ.get("PEBBLE") or str(TOP / "pebble")
+PROGRAM = BUILT or str(TOP / "pebble")
+# What the launcher starts, for cases that the launcher's own shell would change.
+STARTED = BUILT or str(TOP / "build" / "pebble")
 # A run that takes longer hangs, however busy the machine is.
 SECONDS = 1_200
 
