@@ -64,6 +64,31 @@ def run_in(folder, words, **how):
         return subprocess.CompletedProcess(words, f"none within {how['timeout']} seconds", b"", b"")
 
 
+def file_difference(name, came, wanted):
+    """Says how a file differs from the one that is wanted. None is no file."""
+    if max(len(it or b"") for it in (came, wanted)) <= 200:
+        came, wanted = (it and it.hex(" ") for it in (came, wanted))
+        return f"  the file {name!r} is {came!r}, and {wanted!r} is wanted"
+    if came is None or wanted is None:
+        came, wanted = ("none" if it is None else f"one of {len(it)} bytes" for it in (came, wanted))
+        return f"  of the file {name!r} there is {came}, and {wanted} is wanted"
+    place = next((i for i, (a, b) in enumerate(zip(came, wanted)) if a != b), min(len(came), len(wanted)))
+    return f"  the file {name!r} has {len(came)} bytes, {len(wanted)} are wanted, and it differs from place {place} on"
+
+
+def changes(folder, wanted):
+    """Lists how the files in a folder differ from those that are wanted."""
+    came = {str(it.relative_to(folder)): it.read_bytes() for it in Path(folder).rglob("*") if it.is_file()}
+    names = sorted({*came, *wanted})
+    return [file_difference(it, came.get(it), wanted.get(it)) for it in names if came.get(it) != wanted.get(it)]
+
+
+def check_files_of(name, folder, words, output, status, files, **how):
+    """Checks a command in a folder, and which files are there then."""
+    ran = run_in(folder, [PROGRAM, *words], **{"input": b"", **how})
+    note(name, differences(ran, output, status) + changes(folder, files))
+
+
 def limited(blocks, *words):
     """A command of the program, run where no file may have more than so many blocks of 512 bytes.
 
