@@ -85,8 +85,10 @@ returns-in_err-secondary-clause-asks g c =
 
 pub returns-clause-asks : goal.returns-clause-asks
 returns-clause-asks g c =
-    lists_two (names_given c.names_on.result) (names_given c.names_on-2.result) (g.D.Disk.view c.args.disk.now)
-    (g.D.Disk.view c.names_on.new.disk) (g.D.Disk.view c.names_on-2.new.disk) c.names_on.ensures.asks c.names_on-2.ensures.asks
+    let old = g.D.Disk.view c.args.disk.now in
+    let mid = g.D.Disk.view c.names_on.new.disk in
+    let new = g.D.Disk.view c.names_on-2.new.disk in
+    lists_two (names_given c.names_on.result) (names_given c.names_on-2.result) old mid new c.names_on.ensures.asks c.names_on-2.ensures.asks
 
 pub returns-clause-lists : goal.returns-clause-lists
 returns-clause-lists g c =
