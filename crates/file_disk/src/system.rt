@@ -1,6 +1,7 @@
 //! The calls of the system. No clause can say what they do to a file.
 
-ghost use Rattle.std.specs.Prelude.{◌≡◌, ◌≤◌, length, drop, IfOk};
+ghost use Rattle.std.specs.Prelude.{◌≡◌, ◌≤◌, ◌<◌, length, take, drop, IfOk};
+ghost use Rattle.std.specs.Io.KnownBytes.{Consumes, IsAtEnd, ReadConsumes};
 ghost use Rattle.disk_face.specs.Listing.{IsAscending, AreSegmentNames};
 
 use crate::order::{insert_listed, names_of};
@@ -11,7 +12,7 @@ use std::fs::{DirEntry, File, OpenFile, OpenOptions};
 use std::io::{ErrorKind, Read, Seek, SeekFrom};
 use std::rt::Files;
 use std::{fs, io};
-use wal_base::Buf;
+use wal_base::{Buf, NoMemory};
 
 /// The last place that a file of the system can have.
 const LAST_PLACE: u64 = (1 << 63) - 1;
@@ -145,22 +146,23 @@ pub fn read<R: Files + AllocGlobal>(
         Err(error) => return Err(refusal(error)),
     };
     file.seek(SeekFrom::Start(at)).map_err(refusal)?;
-    let mut piece = Vec::new(rt.alloc());
-    fill(&mut file, &mut piece, buf).map_err(refusal)
+    let mut piece = vec![in rt.alloc(); 0; buf.len().min(PIECE)].map_err(|_| NoMemory)?;
+    fill(&mut file, piece.as_mut_slice(), buf).map_err(refusal)
 }
 
 /// Reads to the front of the buffer until it is full or the input ends. What is read stands in a piece of memory first:
 /// the system does not say what it leaves of a buffer after the bytes that it reads.
-fn fill<I: Read>(input: &mut I, piece: &mut Vec<u8>, buf: &mut [u8]) -> io::Result<usize>
+fn fill<I: Read>(input: &mut I, piece: &mut [u8], buf: &mut [u8]) -> io::Result<usize>
+    requires { 0 < length buf.old → 0 < length piece.old }
     ensures within { IfOk result (λ n. n ≤ length buf.new) }
     ensures beyond { IfOk result (λ n. drop n buf.new ≡ drop n buf.old) }
+    ensures read { IfOk result (λ n. Consumes (I.remaining input.old) (I.remaining input.new) (take n buf.new)) }
+    ensures end { IfOk result (λ n. n < length buf.new → IsAtEnd (I.remaining input.new)) }
 {
     let mut filled = 0;
     while filled < buf.len() {
-        piece.clear();
-        let room = (buf.len() - filled).min(PIECE);
-        input.by_ref().take(room as u64).read_to_end(piece)?;
-        let count = piece.len().min(room);
+        let room = (buf.len() - filled).min(piece.len());
+        let count = read_again(input, &mut piece[..room])?;
         if count == 0 {
             break;
         }
@@ -168,4 +170,18 @@ fn fill<I: Read>(input: &mut I, piece: &mut Vec<u8>, buf: &mut [u8]) -> io::Resu
         filled += count;
     }
     Ok(filled)
+}
+
+/// Reads once, and again where a signal interrupted it.
+fn read_again<I: Read>(input: &mut I, buf: &mut [u8]) -> io::Result<usize>
+    ensures within { IfOk result (λ n. n ≤ length buf.new) }
+    ensures passed { ReadConsumes (I.remaining input.old) (I.remaining input.new) result buf.new }
+{
+    for _ in 0..u64::MAX {
+        match input.read(buf) {
+            Err(error) if error.kind() == ErrorKind::Interrupted => {}
+            answer => return answer,
+        }
+    }
+    Err(ErrorKind::Interrupted.into())
 }

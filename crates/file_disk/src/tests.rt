@@ -10,6 +10,7 @@ use wal_base::NoMemory;
 use watched::{Call, Watch, Watched};
 
 mod locks;
+mod long;
 mod watched;
 
 /// Starts an operation on a disk of its own, and asks once how it stands.
