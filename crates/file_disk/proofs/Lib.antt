@@ -1,4 +1,5 @@
 mod Polls
-mod Inserts
+mod Once
 mod Filled
 mod Absent
+mod Sorts

@@ -4,3 +4,4 @@ pub mod Refusals
 pub mod Paths
 pub mod Held
 pub mod Locked
+pub mod Found

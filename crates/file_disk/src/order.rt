@@ -1,7 +1,9 @@
 //! Segments in ascending order.
 
-ghost use Rattle.std.specs.Prelude.{◌≡◌, ◌↔◌, IsTrue, IfOk};
-ghost use Rattle.disk_face.specs.Listing.{IsBefore, IsAscending, AreSegmentNames, IsSegmentName};
+ghost use Rattle.std.specs.Prelude.{◌≡◌, ◌↔◌, IsTrue, IfOk, OnOk};
+ghost use Rattle.std.specs.List.Sorted.{IsPermutation};
+ghost use Rattle.disk_face.specs.Listing.{IsBefore, IsAscending, AreSegmentNames};
+ghost use Rattle.file_disk.specs.Found.{NeverDescends, IsAfterLast, AddsIfLater, AreAmong, HasEachName};
 
 use disk_face::{Listed, Names, SegName};
 use std::alloc::Global;
@@ -13,34 +15,56 @@ fn is_before(a: SegName, b: SegName) -> bool
     a < b
 }
 
-/// Puts a segment at its place. One of a name that is there already is passed over.
-pub fn insert_listed(list: &mut Vec<Listed>, item: Listed) -> Result<(), NoMemory>
-    requires ascending { IsAscending list.old.items }
-    requires numbers { AreSegmentNames list.old.items }
-    requires number { IsSegmentName item.name }
-    ensures ascending { IsAscending list.new.items }
-    ensures numbers { AreSegmentNames list.new.items }
+/// Whether a name stands after the last one of a list.
+fn is_after_last(list: &[Listed], name: SegName) -> bool
+    ensures { IsTrue result ↔ IsAfterLast list.now name }
 {
-    let mut at = 0;
-    while at < list.len() && is_before(list[at].name, item.name) {
-        at += 1;
+    match list.last() {
+        Some(last) => is_before(last.name, name),
+        None => true,
     }
-    if at < list.len() && !is_before(item.name, list[at].name) {
-        return Ok(());
+}
+
+fn sort(found: &mut Vec<Listed>)
+    ensures moved { IsPermutation found.old.items found.new.items }
+    ensures sorted { NeverDescends found.new.items }
+{
+    found.sort_unstable_by_key(|item| item.name);
+}
+
+/// Adds a segment, where its name stands after the last one of the list.
+fn add_if_later(names: &mut Names, item: Listed) -> Result<(), NoMemory>
+    ensures { OnOk result (AddsIfLater names.old item names.new) }
+{
+    if is_after_last(names.as_slice(), item.name) && names.push(item).is_err() {
+        return Err(NoMemory);
     }
-    list.insert(at, item)?;
     Ok(())
 }
 
-/// The same segments as a list of names.
-pub fn names_of(alloc: Global, list: &[Listed]) -> Result<Names, NoMemory>
-    ensures { IfOk result (λ names. names ≡ list.now) }
+/// The segments of a list in order, each name once.
+fn each_once(alloc: Global, sorted: &[Listed]) -> Result<Names, NoMemory>
+    requires { NeverDescends sorted.now }
+    ensures ascending { IfOk result IsAscending }
+    ensures found { IfOk result (AreAmong sorted.now) }
+    ensures all { IfOk result (HasEachName sorted.now) }
 {
-    let mut names = Names::with_capacity(alloc, list.len())?;
-    for item in list {
-        if names.push(*item).is_err() {
-            return Err(NoMemory);
-        }
+    let mut names = Names::with_capacity(alloc, sorted.len())?;
+    for item in sorted {
+        add_if_later(&mut names, *item)?;
     }
     Ok(names)
+}
+
+/// The segments that were found, in ascending order. One of each name: a directory that changes while it is listed may
+/// tell a name twice.
+pub fn names_of(alloc: Global, mut found: Vec<Listed>) -> Result<Names, NoMemory>
+    requires { AreSegmentNames found.items }
+    ensures ascending { IfOk result IsAscending }
+    ensures numbers { IfOk result AreSegmentNames }
+    ensures found { IfOk result (AreAmong found.items) }
+    ensures all { IfOk result (HasEachName found.items) }
+{
+    sort(&mut found);
+    each_once(alloc, found.as_slice())
 }

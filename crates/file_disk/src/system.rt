@@ -4,7 +4,7 @@ ghost use Rattle.std.specs.Prelude.{◌≡◌, ◌≤◌, ◌<◌, length, take,
 ghost use Rattle.std.specs.Io.KnownBytes.{Consumes, IsAtEnd, ReadConsumes};
 ghost use Rattle.disk_face.specs.Listing.{IsAscending, AreSegmentNames};
 
-use crate::order::{insert_listed, names_of};
+use crate::order::names_of;
 use crate::paths::{directory_of, path_of};
 use disk_face::{DiskErr, Listed, Names, SegName, Side};
 use std::alloc::Global;
@@ -93,25 +93,23 @@ pub fn list<R: Files + AllocGlobal + Clone + Drop>(rt: &R, side: Side) -> Result
     let mut found = Vec::new(rt.alloc());
     for entry in entries {
         match entry {
-            Ok(entry) => insert_entry(rt, &mut found, &entry)?,
+            Ok(entry) => add_entry(rt, &mut found, &entry)?,
             // A name that is not text is no segment's.
             Err(error) if error.kind() == ErrorKind::InvalidFilename => {}
             Err(error) => return Err(refusal(error)),
         }
     }
-    Ok(names_of(rt.alloc(), found.as_slice())?)
+    Ok(names_of(rt.alloc(), found)?)
 }
 
-/// Puts an entry of a directory into the list, where it is a segment.
-fn insert_entry<R: Files + AllocGlobal + Clone + Drop>(
+/// Adds an entry of a directory to the list, where it is a segment.
+fn add_entry<R: Files + AllocGlobal + Clone + Drop>(
     rt: &R,
     list: &mut Vec<Listed>,
     entry: &DirEntry<R, Global>,
 ) -> Result<(), DiskErr>
-    requires ascending { IsAscending list.old.items }
-    requires numbers { AreSegmentNames list.old.items }
-    ensures ascending { IsAscending list.new.items }
-    ensures numbers { AreSegmentNames list.new.items }
+    requires { AreSegmentNames list.old.items }
+    ensures { AreSegmentNames list.new.items }
 {
     let Some(name) = SegName::parse(entry.file_name().as_bytes()) else {
         return Ok(());
@@ -119,7 +117,7 @@ fn insert_entry<R: Files + AllocGlobal + Clone + Drop>(
     let metadata = fs::metadata(rt, entry.path()).map_err(refusal)?;
     if metadata.is_file() {
         let len = metadata.len();
-        insert_listed(list, Listed { name, len })?;
+        list.push(Listed { name, len }).map_err(|_| NoMemory)?;
     }
     Ok(())
 }

@@ -1,10 +1,9 @@
-use Rattle.disk_face.specs.Listing.{IsAscending, AreSegmentNames}
+use Rattle.disk_face.specs.Listing.{AreSegmentNames}
 use Rattle.file_disk.proofs.system.list.Given as goal
 
 abbrev pub invariant-loop-entry : goal.invariant-loop-entry
 invariant-loop-entry g l = record {
   goes : (goal.iterator-loop-entry g).can_next l.entry-iterator;
   ends : (goal.iterator-loop-entry g).is_finite l.entry-iterator;
-  ascending : IsAscending l.found.items;
   numbers : AreSegmentNames l.found.items;
 }
