@@ -94,12 +94,16 @@ pub fn list<R: Files + AllocGlobal + Clone + Drop>(rt: &R, side: Side) -> Result
     for entry in entries {
         match entry {
             Ok(entry) => add_entry(rt, &mut found, &entry)?,
-            // A name that is not text is no segment's.
-            Err(error) if error.kind() == ErrorKind::InvalidFilename => {}
+            Err(error) if is_no_text(&error) => {}
             Err(error) => return Err(refusal(error)),
         }
     }
     Ok(names_of(rt.alloc(), found)?)
+}
+
+/// Whether this says of an entry that its name is not text, and so no segment's. An error of the system has a number.
+fn is_no_text(error: &io::Error) -> bool {
+    error.kind() == ErrorKind::InvalidFilename && error.raw_os_error().is_none()
 }
 
 /// Adds an entry of a directory to the list, where it is a segment.

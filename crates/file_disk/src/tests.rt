@@ -9,6 +9,7 @@ use std::{fs, io};
 use wal_base::NoMemory;
 use watched::{Call, Watch, Watched};
 
+mod listings;
 mod locks;
 mod long;
 mod watched;

@@ -18,6 +18,7 @@ pub enum Call {
     Write,
     OpenFolder,
     Lock,
+    Metadata,
 }
 
 /// What is seen, and which call is refused.
@@ -29,6 +30,10 @@ pub struct Watch {
     /// What stands in place of the folder of the program.
     pub folder: Cell<&'static str>,
     pub refused: Cell<Option<(Call, ErrorKind)>>,
+    /// Names that each directory tells first, each ended by a NUL.
+    pub first_names: Cell<&'static [u8]>,
+    /// The number of the error by which a directory fails after it told names.
+    pub names_end: Cell<Option<i32>>,
 }
 
 impl Watch {
@@ -39,6 +44,8 @@ impl Watch {
             locked: Cell::new(0),
             folder: Cell::new(PARENT),
             refused: Cell::new(None),
+            first_names: Cell::new(b""),
+            names_end: Cell::new(None),
         }
     }
 
@@ -122,10 +129,35 @@ impl OpenFile for WatchedFile<'_> {
     }
 }
 
+/// A directory under a watch.
+#[derive(Drop)]
+pub struct WatchedDir<'a> {
+    names: <HostRuntime as Files>::Dir,
+    first_names: &'static [u8],
+    is_begun: bool,
+    watch: &'a Watch,
+}
+
+impl Read for WatchedDir<'_> {
+    fn read(&mut self, buf: &mut [u8]) -> io::Result<usize> {
+        if !self.first_names.is_empty() {
+            let count = self.first_names.read(buf)?;
+            return Ok(count);
+        }
+        match self.watch.names_end.get() {
+            Some(number) if self.is_begun => Err(io::Error::from_raw_os_error(number)),
+            _ => {
+                self.is_begun = true;
+                self.names.read(buf)
+            }
+        }
+    }
+}
+
 impl<'a> Files for Watched<'a> {
     type File = WatchedFile<'a>;
 
-    type Dir = <HostRuntime as Files>::Dir;
+    type Dir = WatchedDir<'a>;
 
     fn open_file(&self, how: &OpenOptions, path: &str) -> io::Result<WatchedFile<'a>> {
         let sync = match path {
@@ -150,10 +182,18 @@ impl<'a> Files for Watched<'a> {
     }
 
     fn open_dir(&self, path: &str) -> io::Result<Self::Dir> {
-        self.system.open_dir(path)
+        Ok(WatchedDir {
+            names: self.system.open_dir(path)?,
+            first_names: self.watch.first_names.get(),
+            is_begun: false,
+            watch: self.watch,
+        })
     }
 
     fn metadata(&self, path: &str) -> io::Result<Metadata> {
+        if path.ends_with(".log") {
+            self.watch.ask(Call::Metadata)?;
+        }
         self.system.metadata(path)
     }
 
