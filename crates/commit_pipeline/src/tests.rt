@@ -4,6 +4,8 @@ ghost use Rattle.batch_repr.specs.declared.limits.TheConstants.{NUMBER_FIRST, SE
 ghost use Rattle.commit_pipeline.specs.Openings.{opening_on};
 ghost use Rattle.failover_writer.specs.State.{len};
 
+mod deaths;
+mod fresh;
 mod full_queue;
 mod in_flight;
 mod stops;

@@ -1,13 +1,12 @@
 //! Sessions that number and publish while an operation of the journal is in flight.
-ghost use Rattle.std.specs.Prelude.{◌≡◌, None};
+ghost use Rattle.std.specs.Prelude.{◌≡◌};
 ghost use Rattle.batch_repr.specs.declared.limits.TheConstants.{NUMBER_FIRST};
-ghost use Rattle.disk_face.specs.View.{Place, files, NothingInFlight};
 ghost use Rattle.failover_writer.specs.State.{len};
 
+use super::fresh::Fresh;
 use super::{Act, CommitsOne, TURNS, one_set, run};
 use crate::locking::lock_soon;
 use crate::{Gate, GatePoint, PipeName, Pipeline, Session};
-use batch_repr::NUMBER_FIRST;
 use disk_face::{Disk, Side};
 use failover_writer::Journal;
 use mem_disk::MemDisk;
@@ -21,39 +20,14 @@ use std::thread;
 /// For so many polls the first operation is in flight: more than the commits of a test make without a wait.
 const POLLS: u32 = 200;
 
-/// A disk on which nothing stands and nothing is in flight.
-#[derive(Drop)]
-struct Fresh {
-    disk: MemDisk,
-    ghost idle: { NothingInFlight (⟦<MemDisk as Disk>⟧.view disk) },
-    ghost empty: { (p : Place) → files (⟦<MemDisk as Disk>⟧.view disk) p ≡ None },
-}
-
-impl Fresh {
-    fn new(rt: &impl Abort, alloc: Global) -> Fresh {
-        let disk = MemDisk::new(alloc).expect(rt, "memory");
-        Fresh { disk }
-    }
-
-    /// The operation of that number is to fail.
-    fn fail_op(&mut self, rt: &impl Abort, number: u64) {
-        self.disk.fail_op(number).expect(rt, "memory");
-    }
-
-    /// A journal of no record over the disk, whose first operation will be in flight for long, and which stays with it.
-    fn stalled(self, rt: &impl Abort, alloc: Global) -> Journal<MemDisk>
-        ensures empty { len result.state ≡ 0 }
-        ensures next { result.state.next ≡ NUMBER_FIRST }
-    {
-        let Fresh { disk } = self;
-        match Journal::start(alloc, disk, 1, NUMBER_FIRST, 1_000) {
-            Ok(mut journal) => {
-                journal.stall(Side::Primary, POLLS);
-                journal
-            }
-            Err(_) => panic!(rt; "memory"),
-        }
-    }
+/// A journal of no record over the disk, whose first operation will be in flight for long.
+fn stalled(rt: &impl Abort, alloc: Global, fresh: Fresh) -> Journal<MemDisk>
+    ensures empty { len result.state ≡ 0 }
+    ensures next { result.state.next ≡ NUMBER_FIRST }
+{
+    let mut journal = fresh.journal(rt, alloc, 1_000);
+    journal.stall(Side::Primary, POLLS);
+    journal
 }
 
 /// Waits until so many are counted, for so many turns at most. Answers whether they were.
@@ -142,7 +116,7 @@ impl<'a> Act<InFlight> for CommitsInFlight<'a> {
 fn sessions_number_and_publish_while_an_operation_is_in_flight(rt: HostRuntime) {
     let alloc = rt.alloc();
     for sessions in [2u64, 8, 64] {
-        let journal = Fresh::new(&rt, alloc).stalled(&rt, alloc);
+        let journal = stalled(&rt, alloc, Fresh::new(&rt, alloc));
         let gate = InFlight::new(sessions - 1);
         let act = CommitsInFlight { gate: &gate };
         let batches = run(&rt, alloc, &gate, journal, sessions as usize, &act);
@@ -187,7 +161,7 @@ fn one_write_and_one_sync_are_for_all_that_wait(rt: HostRuntime) {
             published: AtomicU64::new(0),
             late: AtomicBool::new(false),
         };
-        let journal = fresh.stalled(&rt, alloc);
+        let journal = stalled(&rt, alloc, fresh);
         let batches = run(
             &rt,
             alloc,

@@ -1,0 +1,127 @@
+//! What a session is told of a journal that dies, though it met no other session.
+ghost use Rattle.std.specs.Prelude.{◌≡◌, true};
+
+use super::fresh::Fresh;
+use super::{Play, one_set, play_out};
+use crate::{CommitFault, Committed, NoGate, PipeName, Pipeline, Session, Sessions};
+use disk_face::{Side, StallDisk};
+use std::alloc::Global;
+use std::process::Abort;
+use std::sync::Wait;
+use std::sync::ledger::Ledger;
+
+/// The journal has given up its ten segments.
+const DEAD: CommitFault = CommitFault::Dead {
+    side: Side::Secondary,
+    faults: 10,
+};
+
+/// Commits a batch of one entry.
+fn commit<D: StallDisk, N: PipeName, M: Ledger, R: Wait + Abort>(
+    rt: &R,
+    alloc: Global,
+    pipe: &Pipeline<'_, D, NoGate, N, M>,
+    session: &mut Session<N, M>,
+    sync: bool,
+) -> Result<Committed, CommitFault> {
+    pipe.commit(rt, session, one_set(rt, alloc, b'a', b'1'), sync)
+}
+
+/// The first session commits with a sync that cannot be had, after so many polls were left to stall: where it is none,
+/// its own write meets the death, and else its wait. The others commit then, the second one with a sync and the third
+/// one without, and no two sessions meet.
+#[derive(Drop)]
+struct DiesForAll {
+    polls: u32,
+}
+
+impl Play for DiesForAll {
+    fn play<D: StallDisk, N: PipeName, M: Ledger, R: Wait + Abort>(
+        &mut self,
+        rt: &R,
+        alloc: Global,
+        pipe: &Pipeline<'_, D, NoGate, N, M>,
+        sessions: Sessions<N, M>,
+    )
+        requires may_stall { N.opening.may_stall ≡ true }
+    {
+        let mut sessions = sessions;
+        pipe.stall(rt, Side::Primary, self.polls);
+        for session in sessions.iter_mut() {
+            let (sync, wanted) = match session.number {
+                0 => (
+                    true,
+                    CommitFault::Unsynced {
+                        first: 10,
+                        count: 1,
+                        side: Side::Secondary,
+                        faults: 10,
+                    },
+                ),
+                1 => (true, DEAD),
+                _ => (false, DEAD),
+            };
+            assert_eq!(rt; commit(rt, alloc, pipe, session, sync), Err(wanted));
+        }
+    }
+}
+
+#[test]
+fn a_death_is_seen_by_sessions_that_were_not_told(rt: HostRuntime) {
+    let alloc = rt.alloc();
+    for polls in [0u32, 1] {
+        let mut fresh = Fresh::new(&rt, alloc);
+        // The sync of each segment.
+        for index in 0..10 {
+            fresh.fail_op(&rt, 2 + 3 * index);
+        }
+        let journal = fresh.journal(&rt, alloc, 3);
+        let journal = play_out(&rt, alloc, journal, 3, &mut DiesForAll { polls });
+        assert_eq!(&rt; (journal.len(), journal.acked()), (1, 0));
+    }
+}
+
+/// A session commits without a sync, and its own write finds the journal dead: its batch is numbered. It commits again
+/// then, with a sync or without.
+#[derive(Drop)]
+struct DiesAsItWrites {
+    sync: bool,
+}
+
+impl Play for DiesAsItWrites {
+    fn play<D: StallDisk, N: PipeName, M: Ledger, R: Wait + Abort>(
+        &mut self,
+        rt: &R,
+        alloc: Global,
+        pipe: &Pipeline<'_, D, NoGate, N, M>,
+        sessions: Sessions<N, M>,
+    )
+        requires may_stall { N.opening.may_stall ≡ true }
+    {
+        let mut sessions = sessions;
+        for session in sessions.iter_mut() {
+            let numbered = Committed {
+                first: 10,
+                count: 1,
+                synced: false,
+            };
+            assert_eq!(rt; commit(rt, alloc, pipe, session, false), Ok(numbered));
+            assert_eq!(rt; commit(rt, alloc, pipe, session, self.sync), Err(DEAD));
+        }
+    }
+}
+
+#[test]
+fn a_death_that_the_own_write_met_is_told_to_the_next_commit(rt: HostRuntime) {
+    let alloc = rt.alloc();
+    for sync in [false, true] {
+        let mut fresh = Fresh::new(&rt, alloc);
+        // The creation of each segment.
+        for number in 0..10 {
+            fresh.fail_op(&rt, number);
+        }
+        let journal = fresh.journal(&rt, alloc, 3);
+        let journal = play_out(&rt, alloc, journal, 1, &mut DiesAsItWrites { sync });
+        assert_eq!(&rt; (journal.len(), journal.segments()), (1, 10));
+    }
+}
