@@ -1,6 +1,7 @@
 //! What is behind the flush lock, where the log is written. Nothing here is handed the commit lock.
-ghost use Rattle.std.specs.Prelude.{◌≡◌, ◌↔◌, ◌+◌, true, IsTrue, None, IsSome, IfErr, IfSome};
+ghost use Rattle.std.specs.Prelude.{◌≡◌, ◌↔◌, ◌+◌, ◌≤◌, true, IsTrue, None, IsSome, IfErr, IfSome};
 ghost use Rattle.disk_face.specs.Calls.{Stalls};
+ghost use Rattle.failover_writer.specs.State.{acked};
 ghost use Rattle.record_flow.specs.Passes.{flow_id, flush_queue, take_view, send_queue, send_view};
 ghost use Rattle.record_flow.specs.Flows.{WasEmpty, HasEnded, TookAll};
 ghost use Rattle.commit_queue.specs.Tables.{table_id_of};
@@ -128,8 +129,8 @@ impl<D: Disk, N: PipeName, M: Ledger> FlushSide<D, N, M> {
         table.raise_acked(&mut self.flush, self.journal.acked());
     }
 
-    /// Moves the records found, and steps the journal once, which the acked word follows. A fault counts
-    /// where the batch of this place is not synced then.
+    /// Moves the records found, and steps the journal once, which the acked word follows. A fault is told,
+    /// and a death counts, only where the batch of this place is not synced then.
     pub(crate) fn step_for<R: Wait>(
         &mut self,
         rt: &R,
@@ -146,13 +147,15 @@ impl<D: Disk, N: PipeName, M: Ledger> FlushSide<D, N, M> {
         ensures dead { Raises desk.old.dead (deaths_stepped result) desk.new.dead }
         ensures met { desk.new.told ≡ desk.old.told }
         ensures steps { StepsFor D.tells D.view index self.old self.new result }
+        ensures unacked { IfErr result (λ fault. acked self.new.journal.state ≤ index) }
         ensures fault { IfErr result TellsFault }
     {
         self.take_in(rt, flow);
         self.step_once(table, desk, index)
     }
 
-    /// Steps the journal once, which the acked word follows.
+    /// Steps the journal once, which the acked word follows. A sync that ends in the step in which the journal
+    /// is found dead is not lost.
     fn step_once(
         &mut self,
         table: &PipeTable,
@@ -166,6 +169,7 @@ impl<D: Disk, N: PipeName, M: Ledger> FlushSide<D, N, M> {
         ensures dead { Raises desk.old.dead (deaths_stepped result) desk.new.dead }
         ensures met { desk.new.told ≡ desk.old.told }
         ensures falls { FallsUnlessAcked D.view index self.old.journal self.new.journal result }
+        ensures unacked { IfErr result (λ fault. acked self.new.journal.state ≤ index) }
         ensures acks { AcksSynced self.old self.new }
         ensures flow { self.new.flow ≡ self.old.flow }
         ensures fault { IfErr result TellsFault }

@@ -8,6 +8,7 @@ mod deaths;
 mod fresh;
 mod full_queue;
 mod in_flight;
+mod late;
 mod stops;
 
 use crate::{Gate, GatePoint, NoGate, Parts, PipeName, Pipeline, Session, Sessions};
