@@ -1,6 +1,6 @@
 //! What sessions do beside one another, by examples.
 ghost use Rattle.std.specs.Prelude.{◌≡◌, ◌+◌, ◌≤◌, length, true};
-ghost use Rattle.batch_repr.specs.declared.limits.TheConstants.{NUMBER_FIRST, SESSIONS_MAX};
+ghost use Rattle.batch_repr.specs.declared.limits.TheConstants.{NUMBER_FIRST, NUMBER_MAX, SESSIONS_MAX};
 ghost use Rattle.commit_pipeline.specs.Openings.{opening_on};
 ghost use Rattle.failover_writer.specs.State.{len};
 
@@ -9,6 +9,7 @@ mod fresh;
 mod full_queue;
 mod in_flight;
 mod late;
+mod numbers;
 mod stops;
 
 use crate::{Gate, GatePoint, NoGate, Parts, PipeName, Pipeline, Session, Sessions};
@@ -45,8 +46,16 @@ fn new_journal(rt: &impl Abort, alloc: Global) -> Journal<MemDisk>
     ensures empty { len result.state ≡ 0 }
     ensures next { result.state.next ≡ NUMBER_FIRST }
 {
+    journal_from(rt, alloc, NUMBER_FIRST)
+}
+
+/// The same, where this number is the next one.
+fn journal_from(rt: &impl Abort, alloc: Global, next: u64) -> Journal<MemDisk>
+    ensures empty { len result.state ≡ 0 }
+    ensures next { result.state.next ≡ next }
+{
     let disk = MemDisk::new(alloc).expect(rt, "memory");
-    match Journal::start(alloc, disk, 1, NUMBER_FIRST, 3) {
+    match Journal::start(alloc, disk, 1, next, 3) {
         Ok(journal) => journal,
         Err(_) => panic!(rt; "memory"),
     }
@@ -296,10 +305,10 @@ fn play_out<D: StallDisk + Drop, P: Play, R: Wait + Abort>(
 ) -> Journal<D>
     requires sessions { (1 ≤ sessions) × (sessions ≤ SESSIONS_MAX) }
     requires empty { len journal.state ≡ 0 }
-    requires next { journal.state.next ≡ NUMBER_FIRST }
+    requires within { journal.state.next ≤ NUMBER_MAX }
 {
     let base = Batches::new(alloc);
-    let parts = Parts::new(alloc, &base, NUMBER_FIRST, sessions).expect(rt, "memory");
+    let parts = Parts::new(alloc, &base, journal.next(), sessions).expect(rt, "memory");
     played_table::<D, Brand, P, R>(rt, alloc, parts, journal, play)
 }
 

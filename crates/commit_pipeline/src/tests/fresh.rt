@@ -3,7 +3,6 @@ ghost use Rattle.std.specs.Prelude.{◌≡◌, ◌≤◌, None};
 ghost use Rattle.batch_repr.specs.declared.limits.TheConstants.{NUMBER_FIRST};
 ghost use Rattle.disk_face.specs.View.{Place, files, NothingInFlight};
 ghost use Rattle.failover_writer.specs.State.{len};
-ghost use Rattle.stall_monitor.specs.declared.verdict.TheConstants.{THRESHOLD_MAX};
 
 use batch_repr::NUMBER_FIRST;
 use disk_face::Disk;
@@ -33,7 +32,7 @@ impl Fresh {
 
     /// A journal of no record over the disk, which stays with it. From so many pending polls on a segment hangs.
     pub(crate) fn journal(self, rt: &impl Abort, alloc: Global, threshold: u32) -> Journal<MemDisk>
-        requires threshold { (1 ≤ threshold) × (threshold ≤ THRESHOLD_MAX) }
+        requires threshold { (1 ≤ threshold) × (threshold ≤ 1000) }
         ensures empty { len result.state ≡ 0 }
         ensures next { result.state.next ≡ NUMBER_FIRST }
     {

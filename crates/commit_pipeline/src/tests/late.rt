@@ -22,18 +22,18 @@ const SYNC: u64 = 2;
 
 /// A disk that answers so many polls of the first segment's sync pending.
 #[derive(Drop)]
-struct Late {
-    inner: MemDisk,
+struct Late<D: Disk> {
+    inner: D,
     polls: u64,
     log: CallLog,
 }
 
-impl Disk for Late {
+impl<D: Disk> Disk for Late<D> {
     ghost use Rattle.disk_face.specs.Script.{stalled};
 
-    ghost tells = { ⟦<MemDisk as Disk>⟧.tells };
+    ghost tells = { D.tells };
 
-    ghost view = { λ d. stalled (⟦<MemDisk as Disk>⟧.view d.inner) d.polls 0 d.log.calls };
+    ghost view = { λ d. stalled (D.view d.inner) d.polls 0 d.log.calls };
 
     fn list(&mut self, side: Side) -> Result<Names, DiskErr> {
         let answer = self.inner.list(side);
@@ -70,13 +70,13 @@ impl Disk for Late {
         }
     }
 
-    ghost finite = { λ d k told le. ⟦<MemDisk as Disk>⟧.finite d.inner k told le };
+    ghost finite = { λ d k told le. D.finite d.inner k told le };
 
-    ghost sound = { λ d p f told is. ⟦<MemDisk as Disk>⟧.sound d.inner p f told is };
+    ghost sound = { λ d p f told is. D.sound d.inner p f told is };
 }
 
 /// A journal of no record over a disk that is late by so many polls.
-fn late_journal(rt: &impl Abort, alloc: Global, fresh: Fresh, polls: u64) -> Journal<Late>
+fn late_journal(rt: &impl Abort, alloc: Global, fresh: Fresh, polls: u64) -> Journal<Late<MemDisk>>
     ensures empty { len result.state ≡ 0 }
     ensures next { result.state.next ≡ NUMBER_FIRST }
 {

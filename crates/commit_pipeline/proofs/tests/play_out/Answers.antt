@@ -5,4 +5,5 @@ use Rattle.commit_pipeline.proofs.EndsBefore.{no_base}
 use Rattle.commit_pipeline.proofs.tests.play_out.Goals as goal
 
 pub new-requires-clause-base : goal.new-requires-clause-base
-new-requires-clause-base g c = subst (λ (base : List Batch). EndsBefore base 10) (sym c.new-base.ensures) (no_base 10)
+new-requires-clause-base g c =
+    subst (λ (base : List Batch). EndsBefore base c.next.result) (sym c.new-base.ensures) (no_base c.next.result)

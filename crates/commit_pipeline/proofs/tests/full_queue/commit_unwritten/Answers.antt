@@ -1,7 +1,6 @@
 -- It is a session still, though nothing was written.
 use Rattle.std.proofs.Common.{rules, ◌≡◌, ap, subst, ◌∙◌}
 use Rattle.std.specs.Prelude.{None}
-use Rattle.std.specs.declared.sync.ledger.Share.{Share}
 use Rattle.commit_queue.specs.Seats.{session_table, session_view}
 use Rattle.commit_queue.specs.declared.seats.SessionSeat.{SessionSeat}
 use Rattle.commit_pipeline.specs.Numbering.{HoldsNumbered, numbered}
