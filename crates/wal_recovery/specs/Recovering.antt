@@ -1,6 +1,6 @@
 -- What the directories recover to (docs/FORMATS.md, "Recovery").
 use Rattle.batch_repr.specs.declared.limits.TheConstants.{NUMBER_FIRST}
-use Rattle.std.specs.Prelude.{◌≡◌, ℕ, ◌%◌, ◌^◌, Bool, List, [], ◌∷◌, ◌++◌, nat_lt}
+use Rattle.std.specs.Prelude.{◌≡◌, ℕ, Bool, List, [], ◌∷◌, ◌++◌, nat_lt}
 use Rattle.std.specs.List.{filter, AllZip}
 use Rattle.disk_face.specs.Image.{log_number}
 use Rattle.batch_repr.specs.declared.batch.Batch.{Batch}
