@@ -6,6 +6,7 @@ ghost use Rattle.commit_queue.specs.Calls.{AwaitsBatch, HoldsAdmitted, HoldsUnap
 ghost use Rattle.commit_queue.specs.Tables.{IsOfTable};
 ghost use Rattle.commit_queue.specs.Seats.{producer_table, producer_view, HoldsNothing};
 ghost use Rattle.commit_queue.specs.Seats.{session_table, session_view};
+ghost use Rattle.shard_gate.specs.Gates.{gate_table};
 
 use crate::{PieceBusy, ReadBusy, ShardGate};
 use batch_repr::{BATCHES_MAX, BatchBuilder, NUMBER_MAX, Unnumbered};
@@ -149,6 +150,84 @@ impl Rig {
         let visible = self.table.visible(&mut self.one);
         ShardGate::over(self.alloc, &self.table).try_newest(&mut self.one, key, visible)
     }
+}
+
+/// A table whose first number is 10, with the producer's seat and one session.
+fn with_one_session(rt: &impl Abort, alloc: Global) -> (PipeTable, ProducerSeat, SessionSeat)
+    ensures producer { IsOfTable result.0 (producer_table result.1) }
+    ensures session { IsOfTable result.0 (session_table result.2) }
+    ensures awaits { AwaitsBatch (producer_view result.1) FIRST 0 }
+    ensures idle { HoldsNothing (session_view result.2) }
+    ensures none { (session_view result.2).pieces ≡ [] }
+{
+    let made = PipeTable::new(alloc, 1, FIRST, eight(rt, alloc));
+    let Ok((table, producer, _flush, mut sessions)) = made else {
+        panic!(rt; "memory");
+    };
+    let Some(session) = sessions.pop() else {
+        panic!(rt; "a session");
+    };
+    (table, producer, session)
+}
+
+/// Applies the one piece of the batch that the session holds, and marks the batch.
+fn apply_and_mark(
+    rt: &impl Abort,
+    gate: &ShardGate<'_>,
+    session: &mut SessionSeat,
+    mut pieces: Pieces,
+)
+    requires table { session_table session.old ≡ gate_table gate.now }
+    requires no_turn { (session_view session.old).seat.turn ≡ None }
+    requires holds { HoldsUnapplied (session_view session.old) pieces }
+    ensures same { session_table session.new ≡ session_table session.old }
+    ensures no_turn { (session_view session.new).seat.turn ≡ None }
+{
+    let Some((shard, piece)) = pieces.take() else {
+        panic!(rt; "a piece");
+    };
+    let Ok(()) = gate.try_apply(session, shard, piece) else {
+        panic!(rt; "a free shard");
+    };
+    let None = pieces.take() else {
+        panic!(rt; "one piece");
+    };
+    gate.table.mark(session);
+}
+
+/// What an attempt to publish tells that found these ends, and this word at the front.
+fn not_ready(head: u32, tail: u32, word: u64) -> Published {
+    Published::NotReady { head, tail, word }
+}
+
+#[test]
+fn one_session_publishes_a_batch_step_by_step_and_reads_it(rt: HostRuntime) {
+    let alloc = rt.alloc();
+    let (table, mut producer, mut session) = with_one_session(&rt, alloc);
+    assert_eq!(rt; table.try_publish(&mut session), not_ready(0, 0, 0));
+    let Ready { batch, mut pieces } = one_entry(&rt, alloc, b"a", Some(b"1"));
+    if !table.slot_free(&mut producer) {
+        panic!(rt; "a free slot");
+    }
+    pieces.number(FIRST);
+    table.place(&mut producer, &batch.number(FIRST));
+    assert_eq!(rt; table.admit(&mut producer), 0);
+    let Ok(note) = table.hand(&mut producer) else {
+        panic!(rt; "memory");
+    };
+    table.adopt(&mut session, note);
+    assert_eq!(rt; table.try_publish(&mut session), not_ready(1, 0, 22));
+    let gate = ShardGate::over(alloc, &table);
+    apply_and_mark(&rt, &gate, &mut session, pieces);
+    let Published::Raised { index, visible } = table.try_publish(&mut session) else {
+        panic!(rt; "a batch at the front");
+    };
+    assert_eq!(rt; (index, visible), (0, 11));
+    let value = gate
+        .try_newest(&mut session, b"a", visible)
+        .expect(&rt, "a free shard");
+    let value = value.expect(&rt, "a value");
+    assert_eq!(rt; value.as_slice(), b"1".as_slice());
 }
 
 #[test]
