@@ -3,10 +3,11 @@ use super::{
 };
 use crate::{NoGate, Ran, Status, run};
 use disk_face::{CallLog, Disk, DiskErr, DiskOp, Names, OpId, Progress, SegName, Side};
-use mem_disk::MemDisk;
 use std::alloc::{AllocError, Global};
 use std::process::Abort;
+use std::sync::Wait;
 use std::test::Fail;
+use std::thread::Threads;
 use wal_base::{Blob, MemSink, MemSource, NoMemory};
 
 #[test]
@@ -198,47 +199,49 @@ impl<D: Disk> Disk for Late<D> {
     ghost sound = { λ d p f told is. D.sound d.inner p f told is };
 }
 
-/// A disk on which the sync of segment 0 hangs. The nine creations after it fail, and in the step that finds the last of
-/// them failed the sync is done at its twelfth poll.
-fn late_sync(rt: &impl Abort, alloc: Global) -> Result<Late<MemDisk>, NoMemory> {
+/// Asserts what a replay of a script of one commit writes where a late sync covers it as the journal dies.
+fn check_late<R: Threads + Wait + Sync + Abort>(
+    rt: &R,
+    alloc: Global,
+    script: &[u8],
+    text: &str,
+) -> Result<(), Fail> {
     let mut rig = Rig::new(alloc)?;
+    // The sync of segment 0 hangs. The nine creations after it fail, and in the step that finds the last of them failed
+    // the sync is done at its twelfth poll.
     for number in 3..12 {
         rig.fail_op(rt, number);
     }
-    Ok(Late {
+    let late = Late {
         inner: rig.disk,
         op: 2,
         polls: 11,
         log: CallLog::new(),
-    })
+    };
+    let words = words_of(alloc, &["replay"])?;
+    let mut source = MemSource::new(Blob::copy_of(alloc, script)?);
+    let mut sink = MemSink::new(alloc)?;
+    let Ran { status, disk } = run(rt, alloc, &words, &mut source, &mut sink, late, &NoGate);
+    assert!(rt; sink.written() == text.as_bytes());
+    assert_eq!(rt; status, Status::Disk);
+    let rig = Rig::after_crash(rt, alloc, disk.inner);
+    let store = "a = 1\nend batches 1 next 11\n";
+    check_command(rt, alloc, rig, &["recover"], b"", Status::Done, store)?;
+    Ok(())
 }
 
 #[test]
 fn a_late_sync_is_told_by_a_dead_run(rt: HostRuntime) -> Result<(), Fail> {
-    let alloc = rt.alloc();
-    // The journal dies as it is closed, or as the commit waits for its sync.
-    for (script, text) in [
-        (
-            b"commit 0 nosync set a 1\n".as_slice(),
-            "s0 commit 10 1\nend visible 11 batches 1 acked 1 segments 10 dead\n",
-        ),
-        (
-            b"commit 0 sync set a 1\n".as_slice(),
-            "s0 commit 10 1 synced\nend visible 11 batches 1 acked 1 segments 10 dead\n",
-        ),
-    ] {
-        let words = words_of(alloc, &["replay"])?;
-        let mut source = MemSource::new(Blob::copy_of(alloc, script)?);
-        let mut sink = MemSink::new(alloc)?;
-        let late = late_sync(&rt, alloc)?;
-        let Ran { status, disk } = run(&rt, alloc, &words, &mut source, &mut sink, late, &NoGate);
-        assert!(rt; sink.written() == text.as_bytes());
-        assert_eq!(rt; status, Status::Disk);
-        let rig = Rig::after_crash(&rt, alloc, disk.inner);
-        let store = "a = 1\nend batches 1 next 11\n";
-        check_command(&rt, alloc, rig, &["recover"], b"", Status::Done, store)?;
-    }
-    Ok(())
+    let script = b"commit 0 nosync set a 1\n";
+    let text = "s0 commit 10 1\nend visible 11 batches 1 acked 1 segments 10 dead\n";
+    check_late(&rt, rt.alloc(), script, text)
+}
+
+#[test]
+fn a_commit_is_synced_by_a_late_sync_though_the_journal_dies(rt: HostRuntime) -> Result<(), Fail> {
+    let script = b"commit 0 sync set a 1\n";
+    let text = "s0 commit 10 1 synced\nend visible 11 batches 1 acked 1 segments 10 dead\n";
+    check_late(&rt, rt.alloc(), script, text)
 }
 
 #[test]
