@@ -83,28 +83,34 @@ fn count_in(alloc: Global, log: u32, bytes: &[u8]) -> Result<u64, LogError> {
     Ok(count)
 }
 
-fn run(rt: &HostRuntime) -> Result<(), LogError> {
-    let alloc = rt.alloc();
-    let mut disk = FileDisk::new(rt)?;
-    let found = recover(alloc, &mut disk, Mode::Strict)?;
+/// Recovers the directories, says what they hold, and answers the WAL and the number that come next.
+fn find<D: Disk>(rt: &HostRuntime, disk: &mut D) -> Result<(u64, u64), LogError>
+    requires { NothingInFlight (D.view disk.old) }
+    ensures { NothingInFlight (D.view disk.new) }
+{
+    let found = recover(rt.alloc(), disk, Mode::Strict)?;
     println!(rt;
         "found {} batches, next {}",
         found.batches.len(),
         found.next
     )?;
-    if found.next_wal > WAL_MAX {
+    Ok((found.next_wal, found.next))
+}
+
+fn run(rt: &HostRuntime) -> Result<(), LogError> {
+    let mut disk = FileDisk::new(rt)?;
+    let (wal, next) = find(rt, &mut disk)?;
+    if wal > WAL_MAX {
         return Err(LogError::Full);
     }
-    let (end, mut disk) = append(alloc, disk, found.next_wal, found.next)?;
+    let (end, mut disk) = append(rt.alloc(), disk, wal, next)?;
     println!(rt; "wrote up to {end}")?;
-    let again = recover(alloc, &mut disk, Mode::Strict)?;
-    println!(rt;
-        "found {} batches, next {}",
-        again.batches.len(),
-        again.next
-    )?;
+    find(rt, &mut disk)?;
     let bytes = fs::read(rt, "wal/000001.log")?;
-    println!(rt; "read {} entries", count_in(alloc, 1, bytes.as_slice())?)?;
+    println!(rt;
+        "read {} entries",
+        count_in(rt.alloc(), 1, bytes.as_slice())?
+    )?;
     Ok(())
 }
 
