@@ -1,8 +1,9 @@
-use crate::FileDisk;
 use crate::directory::Directory;
+use crate::{FileDisk, LockFiles};
 use disk_face::{Disk, DiskErr, DiskOp, Names, Progress, SegName, Side};
 use std::io::ErrorKind;
 use std::os::unix::fs::symlink;
+use std::process::Abort;
 use std::rt::Files;
 use std::test::Fail;
 use std::{fs, io};
@@ -42,6 +43,20 @@ fn are_listed(names: &Names, wanted: &[(u64, u32, u64)]) -> bool {
         && listed.iter().zip(wanted.iter()).all(|(item, (wal, index, len))| {
             item.name.wal == *wal && item.name.index == *index && item.len == *len
         })
+}
+
+/// How many segments a listing has, or `None` where it was refused. With it a test that has several disks makes no early
+/// return, at which each of them would be let go.
+fn count_listed<R: LockFiles + AllocGlobal + Clone + Drop>(
+    rt: &impl Abort,
+    disk: &mut FileDisk<R>,
+    side: Side,
+) -> Option<usize> {
+    match disk.list(side) {
+        Ok(names) => Some(names.len()),
+        Err(DiskErr::Failed) => None,
+        Err(DiskErr::NoMemory) => panic!(rt; "memory"),
+    }
 }
 
 #[test]

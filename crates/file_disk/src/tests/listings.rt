@@ -1,7 +1,7 @@
 //! Directories that fail, and that tell odd names. Each answer `Failed` was counted, as `list` ensures.
 
 use super::watched::{Call, Watch, Watched};
-use super::{are_listed, clear, create, has_failed, run};
+use super::{are_listed, clear, count_listed, create, run};
 use crate::FileDisk;
 use disk_face::{Disk, Side};
 use std::fs;
@@ -26,19 +26,27 @@ fn a_listing_that_fails_in_its_middle_is_a_fault(rt: HostRuntime) -> Result<(), 
         system: &rt,
         watch: &watch,
     };
-    let mut disk = FileDisk::new(&system)?;
+    let mut disk = FileDisk::new(&system).expect(&rt, "memory");
     for number in [ENOENT, EIO, ENAMETOOLONG] {
         watch.names_end.set(Some(number));
-        assert!(rt; has_failed(disk.list(Side::Primary)), "at {number}");
+        assert_eq!(rt;
+            count_listed(&rt, &mut disk, Side::Primary),
+            None,
+            "at {number}"
+        );
     }
     watch.names_end.set(None);
     // A segment that is gone when its length is asked for.
     for kind in [ErrorKind::NotFound, ErrorKind::InvalidFilename] {
         watch.refused.set(Some((Call::Metadata, kind)));
-        assert!(rt; has_failed(disk.list(Side::Primary)), "at {kind:?}");
+        assert_eq!(rt;
+            count_listed(&rt, &mut disk, Side::Primary),
+            None,
+            "at {kind:?}"
+        );
     }
     watch.refused.set(None);
-    assert!(rt; are_listed(&disk.list(Side::Primary)?, &[(1, 0, 0), (1, 1, 0)]));
+    assert_eq!(rt; count_listed(&rt, &mut disk, Side::Primary), Some(2));
     Ok(())
 }
 
