@@ -1,9 +1,9 @@
 //! Directories that fail, and that tell odd names. Each answer `Failed` was counted, as `list` ensures.
 
 use super::watched::{Call, Watch, Watched};
-use super::{are_listed, clear, count_listed, create, run};
+use super::{clear, close, count_listed, create, lists, run};
 use crate::FileDisk;
-use disk_face::{Disk, Side};
+use disk_face::Side;
 use std::fs;
 use std::io::ErrorKind;
 use std::test::Fail;
@@ -47,6 +47,7 @@ fn a_listing_that_fails_in_its_middle_is_a_fault(rt: HostRuntime) -> Result<(), 
     }
     watch.refused.set(None);
     assert_eq!(rt; count_listed(&rt, &mut disk, Side::Primary), Some(2));
+    close(disk);
     Ok(())
 }
 
@@ -66,8 +67,7 @@ fn a_listing_has_each_segment_once(rt: HostRuntime) -> Result<(), Fail> {
     watch
         .first_names
         .set(b"000001-002.log\0\xff.log\x00000001.log\0");
-    let mut disk = FileDisk::new(&system)?;
-    let listed = disk.list(Side::Primary)?;
-    assert!(rt; are_listed(&listed, &[(1, 0, 0), (1, 1, 0), (1, 2, 3), (1, 3, 0)]));
+    let listed = [(1, 0, 0), (1, 1, 0), (1, 2, 3), (1, 3, 0)];
+    assert!(rt; lists(&system, Side::Primary, &listed)?);
     Ok(())
 }

@@ -1,7 +1,7 @@
 //! Two disks in one folder, which are two runs to the system. Each answer `Failed` was counted, as `list` ensures.
 
 use super::watched::{Call, Watch, Watched};
-use super::{clear, count_listed, create, run};
+use super::{clear, close, count_listed, create, run};
 use crate::FileDisk;
 use disk_face::Side;
 use std::fs;
@@ -29,6 +29,8 @@ fn a_second_disk_is_kept_out(rt: HostRuntime) -> Result<(), Fail> {
     assert_eq!(rt; count_listed(&rt, &mut second, Side::Primary), Some(1));
     let mut third = FileDisk::new(&rt).expect(&rt, "memory");
     assert_eq!(rt; count_listed(&rt, &mut third, Side::Secondary), None);
+    drop(second);
+    drop(third);
     Ok(())
 }
 
@@ -49,6 +51,7 @@ fn folders_with_links_to_one_directory_exclude_each_other(rt: HostRuntime) -> Re
     assert_eq!(rt; count_listed(&rt, &mut second, Side::Primary), None);
     drop(first);
     assert_eq!(rt; count_listed(&rt, &mut second, Side::Primary), Some(0));
+    close(second);
     Ok(())
 }
 
@@ -74,6 +77,7 @@ fn a_lock_is_taken_once(rt: HostRuntime) -> Result<(), Fail> {
     fs::create_dir(&rt, "./wal_secondary").expect(&rt, "a directory");
     assert_eq!(rt; count_listed(&rt, &mut disk, Side::Secondary), Some(0));
     assert_eq!(rt; watch.locked.get(), 3);
+    close(disk);
     Ok(())
 }
 
@@ -101,6 +105,7 @@ fn a_folder_without_locks_is_listed(rt: HostRuntime) -> Result<(), Fail> {
                 "at {kind:?}"
             );
         }
+        close(disk);
     }
     Ok(())
 }

@@ -1,9 +1,10 @@
 //! A segment that is longer than what is read of it at once.
 
-use super::{are_listed, clear, seg};
+use super::{clear, has_listed, seg};
 use crate::FileDisk;
 use disk_face::{Disk, Side};
 use std::fs;
+use std::process::Abort;
 use std::test::Fail;
 
 const LEN: usize = (3 << 20) + 5;
@@ -22,10 +23,18 @@ fn a_long_segment_is_listed_and_read(rt: HostRuntime) -> Result<(), Fail> {
     }
     fs::create_dir(&rt, "./wal")?;
     fs::write(&rt, "./wal/000001.log", bytes.as_slice())?;
-    let (side, name) = (Side::Primary, seg(1, 0));
     let mut disk = FileDisk::new(&rt)?;
-    assert!(rt; are_listed(&disk.list(side)?, &[(1, 0, LEN as u64)]));
+    let read = read_pieces(&rt, &mut disk, bytes.as_slice());
+    drop(disk);
+    read
+}
 
+fn read_pieces(
+    rt: &(impl Abort + AllocGlobal),
+    disk: &mut FileDisk<HostRuntime>,
+    bytes: &[u8],
+) -> Result<(), Fail> {
+    assert!(rt; has_listed(disk, Side::Primary, &[(1, 0, LEN as u64)])?);
     // The whole, with room for more; from behind a mebibyte on; over several pieces; and the last bytes.
     for (at, room) in [
         (0, LEN + 9),
@@ -36,13 +45,10 @@ fn a_long_segment_is_listed_and_read(rt: HostRuntime) -> Result<(), Fail> {
         (LEN, 9),
     ] {
         let mut buf = vec![in rt.alloc(); 0xee; room]?;
-        let count = disk.read(side, name, at as u64, buf.as_mut_slice())?;
+        let count = disk.read(Side::Primary, seg(1, 0), at as u64, buf.as_mut_slice())?;
         assert_eq!(rt; count, room.min(LEN - at), "at {at}");
         let (read, rest) = buf.as_slice().split_at(count);
-        assert!(rt;
-            bytes.as_slice().get(at..at + count) == Some(read),
-            "at {at}"
-        );
+        assert!(rt; bytes.get(at..at + count) == Some(read), "at {at}");
         assert!(rt; rest.iter().all(|byte| *byte == 0xee), "at {at}");
     }
     Ok(())
