@@ -2,6 +2,7 @@
 use Rattle.std.proofs.Common.{◌≡◌, Bool, ℕ, ◌+◌, ◌<◌, ◌≤◌, List, [], ◌∷◌, ◌++◌, length, Option, Some, ap, sym, ◌∙◌, subst, arith}
 use Rattle.std.proofs.lemmas.List.{length-map}
 use Rattle.atomic_table.specs.Seated.{TableId}
+use Rattle.record_flow.specs.Passes.{FlowId}
 use Rattle.batch_repr.specs.declared.batch.Batch.{Batch}
 use Rattle.batch_repr.specs.declared.limits.TheConstants.{NUMBER_MAX, BATCHES_MAX}
 use Rattle.batch_repr.specs.Batches.{count_of, end_of}
@@ -18,7 +19,7 @@ use Rattle.commit_pipeline.specs.Openings.{Opening}
 use Rattle.commit_pipeline.specs.Numbering.{Appends}
 use Rattle.commit_pipeline.specs.Ties.{Enrols}
 
-module _ {table queue : TableId} {opening : Opening} {seat : TableId} {v : View} {sends : TableId} {flow : FlowView} {next placed counted : ℕ}
+module _ {table : TableId} {queue : FlowId} {opening : Opening} {seat : TableId} {v : View} {sends : FlowId} {flow : FlowView} {next placed counted : ℕ}
     (e : Enrols table queue opening seat v sends flow next placed counted) where
   -- the producer's seat read the slot at head
   pub enrols_read : (seat' : TableId) (v' : View) (free : Bool) → seat' ≡ seat → ReadsHeadSlot v free v'
@@ -40,7 +41,7 @@ module _ {table queue : TableId} {opening : Opening} {seat : TableId} {v : View}
   }
 
   -- a batch was entered, and its record sent
-  pub enrols_entered : (f : Filled) (seat' : TableId) (v' : View) (sends' : TableId) (flow' : FlowView) (counted' : ℕ) → seat' ≡ seat
+  pub enrols_entered : (f : Filled) (seat' : TableId) (v' : View) (sends' : FlowId) (flow' : FlowView) (counted' : ℕ) → seat' ≡ seat
       → AwaitsBatch v' (end_of f.rec) (placed + 1) → Appends f.rec v v' → sends' ≡ sends → flow' ≡ sent_on flow f
       → end_of f.rec ≤ NUMBER_MAX → placed < BATCHES_MAX → counted' ≡ counted + 1
       → Enrols table queue opening seat' v' sends' flow' (end_of f.rec) (placed + 1) counted'

@@ -1,6 +1,7 @@
 -- What holds behind the lock, once all seats have come back and the shares are audited, is what the end of a pipeline tells.
 use Rattle.std.proofs.Common.{◌≡◌, ℕ, ◌+◌, ◌<◌, ◌≤◌, ⊎_elim, Bool, List, [], ◌∷◌, ◌++◌, length, append-nil, Contains, refl, sym, subst, ap, ◌∙◌, arith}
 use Rattle.atomic_table.specs.Seated.{TableId}
+use Rattle.record_flow.specs.Passes.{FlowId}
 use Rattle.disk_face.specs.View.{DiskView}
 use Rattle.batch_repr.specs.declared.batch.Batch.{Batch}
 use Rattle.failover_writer.specs.State.{State}
@@ -30,8 +31,8 @@ numbers_of : (fs : List Filled) → views.first_numbers fs ≡ numbers_in_order 
 numbers_of [] = refl
 numbers_of (x ∷ fs) = ap (λ (l : List ℕ). x.rec.first ∷ l) (numbers_of fs)
 
-module _ (tells : Bool) (table queue : TableId) (opening : Opening) (state : State) (v : DiskView) (producer : TableId) (p p' p'' : View)
-    (sends : TableId) (sent : FlowView) (next placed counted : ℕ) (flush : TableId) (f : View) (pops : TableId) (taken : FlowView) (answers : ℕ)
+module _ (tells : Bool) (table : TableId) (queue : FlowId) (opening : Opening) (state : State) (v : DiskView) (producer : TableId) (p p' p'' : View)
+    (sends : FlowId) (sent : FlowView) (next placed counted : ℕ) (flush : TableId) (f : View) (pops : FlowId) (taken : FlowView) (answers : ℕ)
     (ss : List Standing) (enrols : Enrols table queue opening producer p sends sent next placed counted)
     (flushes : Flushes tells table queue opening state v flush f pops taken answers) (all_taken : taken.taken ≡ sent.sent) where
   -- What was taken is what the producer's seat has placed.

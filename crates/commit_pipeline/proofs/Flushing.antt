@@ -3,6 +3,7 @@ use Rattle.std.proofs.Common.{◌≡◌, ◌⊎◌, inl, Bool, ℕ, ◌≤◌, L
 use Rattle.std.proofs.lemmas.List.{append-nil}
 use Rattle.std.specs.Prelude.{◌≢◌, true, IfErr}
 use Rattle.atomic_table.specs.Seated.{TableId}
+use Rattle.record_flow.specs.Passes.{FlowId}
 use Rattle.batch_repr.specs.declared.batch.Batch.{Batch}
 use Rattle.batch_repr.specs.Batches.{end_after}
 use Rattle.batch_repr.proofs.Laws.{end_push}
@@ -121,8 +122,8 @@ module _ {Disk : Type 0} (tells : Bool) (view : Disk → DiskView) where
 
 -- ---- what holds behind the lock
 
-module _ {tells : Bool} {table queue : TableId} {opening : Opening} where
-  module _ {state : State} {v : DiskView} {seat : TableId} {f : View} {pops : TableId} {flow : FlowView} {answers : ℕ}
+module _ {tells : Bool} {table : TableId} {queue : FlowId} {opening : Opening} where
+  module _ {state : State} {v : DiskView} {seat : TableId} {f : View} {pops : FlowId} {flow : FlowView} {answers : ℕ}
       (flushes : Flushes tells table queue opening state v seat f pops flow answers) where
     -- the book was audited
     pub flushes_audited : (answers' : ℕ) → answers' ≡ answers → Flushes tells table queue opening state v seat f pops flow answers'
@@ -181,7 +182,7 @@ module _ {tells : Bool} {table queue : TableId} {opening : Opening} where
     }
 
     -- the pass took in the one that sent
-    pub flushes_ended : (sender flow' : FlowView) (pops' : TableId) → pops' ≡ pops → flow' ≡ ended_view sender flow
+    pub flushes_ended : (sender flow' : FlowView) (pops' : FlowId) → pops' ≡ pops → flow' ≡ ended_view sender flow
         → Flushes tells table queue opening state v seat f pops' flow' answers
     flushes_ended sender flow' pops' same ended = subst (λ (x : FlowView). Flushes tells table queue opening state v seat f pops' x answers)
         (sym ended) record {
@@ -198,8 +199,8 @@ module _ {tells : Bool} {table queue : TableId} {opening : Opening} where
         }
 
 -- Records were taken and pushed.
-pub flushes_moved : {tells : Bool} {table queue : TableId} {opening : Opening} {Disk : Type 0} (view : Disk → DiskView)
-    {old new : JournalView Disk} {seat : TableId} {f : View} {pops pops' : TableId} {flow flow' : FlowView} {answers : ℕ}
+pub flushes_moved : {tells : Bool} {table : TableId} {queue : FlowId} {opening : Opening} {Disk : Type 0} (view : Disk → DiskView)
+    {old new : JournalView Disk} {seat : TableId} {f : View} {pops pops' : FlowId} {flow flow' : FlowView} {answers : ℕ}
     → pops' ≡ pops → IsNextTo flow' new.state → MovesNodes tells view flow old flow' new
     → Flushes tells table queue opening old.state (view old.disk) seat f pops flow answers
     → Flushes tells table queue opening new.state (view new.disk) seat f pops' flow' answers
@@ -221,8 +222,8 @@ flushes_moved {tells} {table} {queue} {opening} {Disk} view {old} {new} {flow = 
 }
 
 -- Polls were left to stall, which the opening allows.
-pub flushes_stalled : {tells : Bool} {table queue : TableId} {opening : Opening} {Disk : Type 0} (view : Disk → DiskView)
-    {old new : JournalView Disk} {seat : TableId} {f : View} {pops : TableId} {flow : FlowView} {answers : ℕ} (side : Side) (polls : ℕ)
+pub flushes_stalled : {tells : Bool} {table : TableId} {queue : FlowId} {opening : Opening} {Disk : Type 0} (view : Disk → DiskView)
+    {old new : JournalView Disk} {seat : TableId} {f : View} {pops : FlowId} {flow : FlowView} {answers : ℕ} (side : Side) (polls : ℕ)
     → opening.may_stall ≡ true → new.state ≡ old.state → Stalls side polls (view old.disk) (view new.disk)
     → KeepsRecords tells view old new → KeepsBases tells view old new
     → Flushes tells table queue opening old.state (view old.disk) seat f pops flow answers
@@ -238,8 +239,8 @@ flushes_stalled {tells} {table} {queue} {opening} {Disk} view {old} {new} {seat}
     (λ base was. subst (λ (s : State). KeepsBase tells base s (view new.disk)) same (keeps_base base was)) flushes.keeps))
 
 -- The journal stepped.
-pub flushes_stepped : {tells : Bool} {table queue : TableId} {opening : Opening} {Disk : Type 0} {view : Disk → DiskView}
-    {old new : JournalView Disk} {seat : TableId} {f : View} {pops : TableId} {flow : FlowView} {answers : ℕ}
+pub flushes_stepped : {tells : Bool} {table : TableId} {queue : FlowId} {opening : Opening} {Disk : Type 0} {view : Disk → DiskView}
+    {old new : JournalView Disk} {seat : TableId} {f : View} {pops : FlowId} {flow : FlowView} {answers : ℕ}
     → Lasts tells view old new → KeepsBases tells view old new → ((old.state.dead ≢ None) ⊎ IsIdle old.state → new ≡ old)
     → Flushes tells table queue opening old.state (view old.disk) seat f pops flow answers
     → Flushes tells table queue opening new.state (view new.disk) seat f pops flow answers
@@ -248,8 +249,8 @@ flushes_stepped {tells} {table} {queue} {opening} {Disk} {view} {old} {new} {flo
     (kept_further tells opening view (records_of flow.taken) old new lasts keeps_base flushes.keeps)
 
 -- It did, and the acked word followed it.
-pub flushes_driven : {tells : Bool} {table queue : TableId} {opening : Opening} {Disk : Type 0} {view : Disk → DiskView}
-    {old new : JournalView Disk} {seat seat' : TableId} {f f' : View} {pops : TableId} {flow : FlowView} {answers : ℕ}
+pub flushes_driven : {tells : Bool} {table : TableId} {queue : FlowId} {opening : Opening} {Disk : Type 0} {view : Disk → DiskView}
+    {old new : JournalView Disk} {seat seat' : TableId} {f f' : View} {pops : FlowId} {flow : FlowView} {answers : ℕ}
     → Lasts tells view old new → KeepsBases tells view old new → ((old.state.dead ≢ None) ⊎ IsIdle old.state → new ≡ old) → seat' ≡ seat
     → (n r : ℕ) → RaisesAcked f n r f' → n ≡ acked new.state
     → Flushes tells table queue opening old.state (view old.disk) seat f pops flow answers

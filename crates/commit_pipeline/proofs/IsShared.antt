@@ -9,6 +9,8 @@ use Rattle.std.specs.declared.sync.ledger.Ledger as ledger
 use Rattle.std.proofs.sync.ledger.Book.TheSendSync as book
 use Rattle.std.proofs.sync.ledger.Share.TheSendSync as share
 use Rattle.std.proofs.sync.atomic.AtomicBool.TheSendSync as flag
+use Rattle.crossbeam_utils.proofs.cache_padded.CachePadded.TheSendSync as padded
+use Rattle.crossbeam_utils.proofs.sync.event_count.EventCount.TheSendSync as event
 use Rattle.disk_face.specs.declared.disk.Disk as disk
 use Rattle.record_flow.proofs.Laws.{nodes_sent, send_pass_field_sent, flush_pass_field_sent, flow_field_shared}
 use Rattle.commit_queue.proofs.pipe_table.PipeTable.TheSendSync as table
@@ -66,7 +68,19 @@ log_shared : (D N M : RattleType) (d : disk.Ghosts D.Denot) (n : name.Ghosts N.D
 log_shared D N M d n b a sent =
     let t = log.the_type D N M d n b a in
     let behind = flushes_sent D N M d n b a sent in
-    struct_sync (shape t) (flow_field_shared, (search (sendable, crosses, behind), (search (sendable, flag.the_field_sync), tt)))
+    struct_sync (shape t) (
+      flow_field_shared,
+      (
+        search (sendable, crosses, padded.the_field_sync, behind),
+        (
+          search (sendable, flag.the_field_sync),
+          (
+            search (sendable, padded.the_field_sync, flag.the_sync),
+            (search (sendable, padded.the_field_sync, event.the_sync), tt),
+          ),
+        ),
+      ),
+    )
 
 -- A pipeline may be shared.
 pub pipeline_shared : (κ : NamedLft) (D G N M : RattleType) (d : disk.Ghosts D.Denot) (n : name.Ghosts N.Denot) (b : ledger.Ghosts N.Denot)
@@ -77,5 +91,5 @@ pipeline_shared κ D G N M d n b a sent shared =
     let t = pipeline.the_type κ D G N M d n b a in
     recorded_sync (Struct (shape t)) _ _ t.to_one (struct_sync (shape t) (
       search (sendable, crosses),
-      (search (sendable, table.the_field_sync), (search (sendable, crosses, c), (l, (search (sendable, shared), tt)))),
+      (search (sendable, table.the_field_sync), (search (sendable, crosses, padded.the_field_sync, c), (l, (search (sendable, shared), tt)))),
     ))

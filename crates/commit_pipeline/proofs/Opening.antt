@@ -1,6 +1,7 @@
 -- What the sides of a new pipeline are.
 use Rattle.std.proofs.Common.{◌≡◌, ◌∙◌, ℕ, ◌≤◌, Bool, List, [], ap, sym, subst, refl, arith}
 use Rattle.atomic_table.specs.Seated.{TableId}
+use Rattle.record_flow.specs.Passes.{FlowId}
 use Rattle.batch_repr.specs.declared.batch.Batch.{Batch}
 use Rattle.batch_repr.specs.declared.limits.TheConstants.{NUMBER_MAX}
 use Rattle.batch_repr.specs.Batches.{end_after}
@@ -32,7 +33,7 @@ use Rattle.commit_pipeline.specs.Parts.{PartsView, FitTogether}
 use Rattle.commit_pipeline.specs.Ties.{Enrols, IsNextTo, Flushes}
 
 -- The producer's seat of a new table has placed nothing, and nothing was sent.
-enrols_none : (table queue : TableId) (opening : Opening) (shards : List (List Version)) (v : View) (flow : FlowView) (next counted : ℕ)
+enrols_none : (table : TableId) (queue : FlowId) (opening : Opening) (shards : List (List Version)) (v : View) (flow : FlowView) (next counted : ℕ)
     → AreShardsOf shards opening.base → opening.journal.next ≤ NUMBER_MAX → next ≡ opening.journal.next → v ≡ opened_view opening.journal.next shards
     → flow ≡ send_opened next → counted ≡ 0 → Enrols table queue opening table v queue flow next 0 counted
 enrols_none table queue opening shards v flow next counted are within next_is is sends count =
@@ -75,7 +76,7 @@ next_to_none tells opening state flow opened same none is = subst (λ (x : FlowV
     ends = refl
 
 -- The flush seat of a new table has raised nothing, and nothing was taken.
-flushes_none : (tells : Bool) (table queue : TableId) (opening : Opening) (shards : List (List Version)) (state : State) (v : DiskView)
+flushes_none : (tells : Bool) (table : TableId) (queue : FlowId) (opening : Opening) (shards : List (List Version)) (state : State) (v : DiskView)
     (f : View) (flow : FlowView) (next answers : ℕ) → IsOpened tells opening → KeepsJournal tells opening [] state v → state ≡ opening.journal
     → len state ≡ 0 → f ≡ flush_view (first_view next shards) → flow ≡ flush_opened opening.journal.next → answers ≡ 0
     → Flushes tells table queue opening state v table f queue flow answers
@@ -94,7 +95,7 @@ flushes_none tells table queue opening shards state v f flow next answers opened
     }
 
 -- The parts fit together, and this is what they open over the journal.
-pub record FitJournal {Disk : Type 0} (view : Disk → DiskView) (journal : JournalView Disk) (opening : Opening) (id queue : TableId) (base : List Batch)
+pub record FitJournal {Disk : Type 0} (view : Disk → DiskView) (journal : JournalView Disk) (opening : Opening) (id : TableId) (queue : FlowId) (base : List Batch)
     (next sessions : ℕ) (table : PipeTable) (producer : ProducerSeat) (flush : FlushSeat) (seats : List SessionSeat) (flow : RecordFlow) (sends : SendPass)
     (pops : FlushPass) : Type 0 where
   pub fit : FitTogether base journal.state.next sessions table producer flush seats
@@ -105,7 +106,7 @@ pub record FitJournal {Disk : Type 0} (view : Disk → DiskView) (journal : Jour
   pub is : opening ≡ opening_on view base journal opening.may_stall
 
 -- What a call of `Pipeline::new` asks of its parts makes them so.
-pub fits_journal : {Disk : Type 0} (view : Disk → DiskView) (journal : JournalView Disk) (opening : Opening) (id queue : TableId) (base : List Batch)
+pub fits_journal : {Disk : Type 0} (view : Disk → DiskView) (journal : JournalView Disk) (opening : Opening) (id : TableId) (queue : FlowId) (base : List Batch)
     (next sessions batches answers : ℕ) (table : PipeTable) (producer : ProducerSeat) (flush : FlushSeat) (seats : List SessionSeat) (flow : RecordFlow)
     (sends : SendPass) (pops : FlushPass) (parts : PartsView) → FitTogether base next sessions table producer flush seats
     → passes.OpensFlow next flow sends pops
@@ -125,7 +126,7 @@ fits_journal view journal opening id queue base next sessions batches answers ta
     same : next ≡ journal.state.next
     same = ap (λ (p : PartsView). p.next) are ∙ sym next_is
 
-module _ {Disk : Type 0} (tells : Bool) (view : Disk → DiskView) (journal : JournalView Disk) (opening : Opening) (id queue : TableId)
+module _ {Disk : Type 0} (tells : Bool) (view : Disk → DiskView) (journal : JournalView Disk) (opening : Opening) (id : TableId) (queue : FlowId)
     (base : List Batch) (next sessions : ℕ) (table : PipeTable) (producer : ProducerSeat) (flush : FlushSeat) (seats : List SessionSeat) (flow : RecordFlow)
     (sends : SendPass) (pops : FlushPass)
     (fits : FitJournal view journal opening id queue base next sessions table producer flush seats flow sends pops) where
@@ -140,7 +141,7 @@ module _ {Disk : Type 0} (tells : Bool) (view : Disk → DiskView) (journal : Jo
       (sym fits.is)
       (subst (λ (t : TableId). Enrols id queue at t (producer_view producer) (passes.send_queue sends) (passes.send_view sends) next 0 batches)
       (sym (fits.fit.producer_is.0 ∙ fits.named))
-      (subst (λ (q : TableId). Enrols id queue at id (producer_view producer) q (passes.send_view sends) next 0 batches)
+      (subst (λ (q : FlowId). Enrols id queue at id (producer_view producer) q (passes.send_view sends) next 0 batches)
       (sym (fits.opens.sends_into ∙ fits.queued))
       (enrols_none id queue at fits.fit.shards (producer_view producer) (passes.send_view sends) next batches fits.fit.of_base fits.fit.within fits.next_is
       fits.fit.producer_is.1 fits.opens.sender none)))
@@ -156,7 +157,7 @@ module _ {Disk : Type 0} (tells : Bool) (view : Disk → DiskView) (journal : Jo
       (passes.flush_queue pops) (passes.take_view pops) answers) (sym fits.is)
       (subst (λ (t : TableId). Flushes tells id queue at journal.state (view journal.disk) t (flush_seat_view flush)
       (passes.flush_queue pops) (passes.take_view pops) answers) (sym (fits.fit.flush_is.0 ∙ fits.named))
-      (subst (λ (q : TableId). Flushes tells id queue at journal.state (view journal.disk) id (flush_seat_view flush)
+      (subst (λ (q : FlowId). Flushes tells id queue at journal.state (view journal.disk) id (flush_seat_view flush)
       q (passes.take_view pops) answers) (sym (fits.opens.takes_from ∙ fits.queued))
       (flushes_none tells id queue at fits.fit.shards journal.state (view journal.disk) (flush_seat_view flush) (passes.take_view pops) journal.state.next
       answers opened (kept_opened tells at opened sound.least) refl empty fits.fit.flush_is.1 (fits.opens.taker ∙ ap flush_opened fits.next_is) untold)))

@@ -1,8 +1,7 @@
 -- What a session commits with, and what the calls behind the lock leave of it. Nothing of it is seen from outside.
-use Rattle.std.specs.Prelude.{◌≡◌, ℕ, ◌+◌, ◌≤◌, [], length, Result, Err}
+use Rattle.std.specs.Prelude.{◌≡◌, ℕ, ◌+◌, ◌≤◌, [], length, Option, None, Some, Result, Err}
 use Rattle.std.specs.declared.sync.ledger.Share.{Share}
 use Rattle.atomic_table.specs.Seated.{TableId}
-use Rattle.failover_writer.specs.declared.fault.Step.{Step}
 use Rattle.failover_writer.specs.declared.fault.JournalFault.{JournalFault}
 use Rattle.failover_writer.specs.declared.fault.JournalFault.TheVariants as faults
 use Rattle.commit_queue.specs.declared.view.View.{View}
@@ -40,7 +39,17 @@ abbrev pub TellsFault : JournalFault → Type 0
 TellsFault (faults.Dead side count) = TellsDeath side count
 TellsFault faults.NoMemory = Unit {0}
 
--- so many answers more told of a death
-abbrev pub deaths_stepped : Result Step JournalFault → ℕ
-deaths_stepped (Err (faults.Dead side count)) = 1
+-- so many answers more told of a death, where a step ended with this fault
+abbrev pub deaths_by : JournalFault → ℕ
+deaths_by (faults.Dead side count) = 1
+deaths_by faults.NoMemory = 0
+
+-- where it ended so
+abbrev pub deaths_stepped : {A : Type 0} → Result A JournalFault → ℕ
+deaths_stepped (Err fault) = deaths_by fault
 deaths_stepped _ = 0
+
+-- so many, where the lock was taken at all
+abbrev pub deaths_led : Option (Result (Unit {0}) JournalFault) → ℕ
+deaths_led None = 0
+deaths_led (Some led) = deaths_stepped led

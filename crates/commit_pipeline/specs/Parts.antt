@@ -1,6 +1,7 @@
 -- What the parts of a pipeline are, and the sessions of a new one.
 use Rattle.std.specs.Prelude.{◌≡◌, ℕ, ◌≤◌, List, [], ◌∷◌, ◌++◌, All, length}
 use Rattle.atomic_table.specs.Seated.{TableId}
+use Rattle.record_flow.specs.Passes.{FlowId}
 use Rattle.batch_repr.specs.declared.batch.Batch.{Batch}
 use Rattle.batch_repr.specs.declared.limits.TheConstants.{NUMBER_MAX, SESSIONS_MAX}
 use Rattle.batch_repr.specs.Batches.{IsContiguous, end_after}
@@ -24,7 +25,7 @@ pub record PartsView : Type 0 where
   pub next : ℕ
   pub sessions : ℕ
   pub table : TableId
-  pub queue : TableId
+  pub queue : FlowId
   pub batches : ℕ
   pub answers : ℕ
 

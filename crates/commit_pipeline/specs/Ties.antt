@@ -2,6 +2,7 @@
 use Rattle.std.specs.Prelude.{◌≡◌, ℕ, ◌≤◌, Bool, true, [], None, length}
 use Rattle.std.specs.declared.sync.ledger.Share.{Share}
 use Rattle.atomic_table.specs.Seated.{TableId}
+use Rattle.record_flow.specs.Passes.{FlowId}
 use Rattle.batch_repr.specs.declared.limits.TheConstants.{NUMBER_MAX, BATCHES_MAX}
 use Rattle.batch_repr.specs.Batches.{end_after}
 use Rattle.disk_face.specs.View.{DiskView}
@@ -16,7 +17,7 @@ use Rattle.commit_pipeline.specs.Openings.{Opening, IsOpened, KeepsJournal}
 
 -- Behind the commit lock: the producer's seat has placed so many batches, this number comes next, the book counts them, and each
 -- was sent on its way to the journal.
-pub record Enrols (table queue : TableId) (opening : Opening) (seat : TableId) (v : View) (sends : TableId) (flow : FlowView)
+pub record Enrols (table : TableId) (queue : FlowId) (opening : Opening) (seat : TableId) (v : View) (sends : FlowId) (flow : FlowView)
     (next placed counted : ℕ) : Type 0 where
   pub of_table : seat ≡ table
   pub base : v.base ≡ opening.journal.next
@@ -40,8 +41,8 @@ pub record IsNextTo (flow : FlowView) (state : State) : Type 0 where
 
 -- Behind the flush lock: the journal holds since the opening the batches that were taken, the acked word was raised no further than
 -- it has synced, and no answer has told of a death unless it is dead.
-pub record Flushes (tells : Bool) (table queue : TableId) (opening : Opening) (state : State) (v : DiskView) (seat : TableId) (f : View)
-    (pops : TableId) (flow : FlowView) (answers : ℕ) : Type 0 where
+pub record Flushes (tells : Bool) (table : TableId) (queue : FlowId) (opening : Opening) (state : State) (v : DiskView) (seat : TableId) (f : View)
+    (pops : FlowId) (flow : FlowView) (answers : ℕ) : Type 0 where
   pub opened : IsOpened tells opening
   pub keeps : KeepsJournal tells opening (records_of flow.taken) state v
   pub of_table : seat ≡ table

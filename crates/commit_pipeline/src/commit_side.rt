@@ -113,7 +113,7 @@ impl<N: PipeName> CommitSide<N> {
             sync,
         );
         self.placed = index + 1;
-        log.send(rt, &mut self.sends, node);
+        log.send(rt, table, &mut self.sends, node);
         self.batches.add(&mut desk.own, 1);
         Numbering::Done { first: next, index }
     }

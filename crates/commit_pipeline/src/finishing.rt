@@ -49,13 +49,15 @@ impl<'a, D: Disk, G: Gate, N: PipeName, M: Ledger> Pipeline<'a, D, G, N, M> {
             sends,
             mut batches,
             mut own,
-        } = self.commits.into_inner();
+        } = self.commits.into_inner().into_inner();
         let LogSide {
             flow,
             lock,
             died: _died,
+            left: _left,
+            releases: _releases,
         } = self.log;
-        let mut log = lock.into_inner();
+        let mut log = lock.into_inner().into_inner();
         log.take_last(rt, &flow, sends);
         let FlushSide {
             journal,

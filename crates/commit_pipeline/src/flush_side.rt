@@ -1,5 +1,5 @@
 //! What is behind the flush lock, where the log is written. Nothing here is handed the commit lock.
-ghost use Rattle.std.specs.Prelude.{◌≡◌, ◌↔◌, ◌+◌, ◌≤◌, true, IsTrue, None, IsSome, IfErr, IfSome};
+ghost use Rattle.std.specs.Prelude.{◌≡◌, ◌↔◌, ◌+◌, ◌<◌, ◌≤◌, true, IsTrue, None, IsSome, OnOk, IfErr, IfSome};
 ghost use Rattle.disk_face.specs.Calls.{Stalls};
 ghost use Rattle.failover_writer.specs.State.{acked};
 ghost use Rattle.record_flow.specs.Passes.{flow_id, flush_queue, take_view, send_queue, send_view};
@@ -15,13 +15,16 @@ ghost use Rattle.commit_pipeline.specs.Ties.{IsNextTo};
 use crate::desk::{DeathCount, Desk};
 use crate::name::PipeName;
 use crate::session::Session;
-use commit_queue::{FlushSeat, PipeTable};
+use commit_queue::{FlushSeat, PipeTable, rest};
 use disk_face::{Disk, Side, StallDisk};
 use failover_writer::{DeadMark, Journal, JournalFault, Step, a_journal_at_hand};
 use record_flow::{FlushPass, RecordFlow, SendPass};
 use std::marker::{Model, PhantomData};
 use std::sync::Wait;
 use std::sync::ledger::{Book, Ledger, Share};
+
+/// So many steps that have to wait are made between two rests.
+const WAITS: u32 = 64;
 
 /// The journal with the seat that tells what is synced, the pass that takes records off their way, and the
 /// book of the other ledger.
@@ -190,6 +193,44 @@ impl<D: Disk, N: PipeName, M: Ledger> FlushSide<D, N, M> {
         }
     }
 
+    /// Does what the journal can do without waiting, and steps it until the batch of this place is synced. A step
+    /// that has to wait is made again, some times at once and then after a rest. A fault is told, and a death
+    /// counts, only where the batch is not synced then.
+    pub(crate) fn lead<R: Wait>(
+        &mut self,
+        rt: &R,
+        table: &PipeTable,
+        flow: &RecordFlow,
+        desk: &mut Desk<N, M>,
+        index: u64,
+    ) -> Result<(), JournalFault>
+        requires table { table_id_of table.now ≡ N.table }
+        requires queue { flow_id flow.now ≡ N.queue }
+        requires part { desk.old.dead.parts ≡ 1 }
+        ensures seat { desk.new.seat ≡ desk.old.seat }
+        ensures own { desk.new.own ≡ desk.old.own }
+        ensures dead { Raises desk.old.dead (deaths_stepped result) desk.new.dead }
+        ensures met { desk.new.told ≡ desk.old.told }
+        ensures acked { OnOk result (index < acked self.new.journal.state) }
+        ensures unacked { IfErr result (λ fault. acked self.new.journal.state ≤ index) }
+        ensures fault { IfErr result TellsFault }
+    {
+        self.drive(rt, table, flow);
+        let mut waits = 0u32;
+        for _ in rt.forever() {
+            if self.journal.acked() > index {
+                return Ok(());
+            }
+            if self.step_for(rt, table, flow, desk, index)? != Step::Moved {
+                waits = waits.wrapping_add(1);
+                if waits % WAITS == 0 {
+                    rest(rt);
+                }
+            }
+        }
+        unreachable!()
+    }
+
     /// Whether the journal is dead.
     pub(crate) fn is_dead(&self) -> bool
         ensures { IsTrue result ↔ IsSome self.now.journal.state.dead }
@@ -203,7 +244,7 @@ impl<D: Disk, N: PipeName, M: Ledger> FlushSide<D, N, M> {
         requires sends { send_queue sends ≡ N.queue }
         ensures all { self.new.flow.taken ≡ (send_view sends).sent }
     {
-        flow.end(&mut self.pops, sends);
+        flow.end(rt, &mut self.pops, sends);
         move_all(rt, flow, &mut self.pops, &mut self.journal);
     }
 

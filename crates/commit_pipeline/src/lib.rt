@@ -8,7 +8,7 @@
 //! its calls; and `finish` tells that the journal holds the batches of all sessions, each once, and
 //! that what each has seen is a prefix of them.
 //!
-//! The flush lock may be taken under the commit lock, where the queue is full, and never the other way
+//! The flush lock may be taken under the commit lock, where memory is short, and never the other way
 //! round: what is behind the flush lock (`log_side`, `flush_side`) is never handed the commit lock.
 //!
 //! What holds behind the commit lock: what was sent is what the producer's seat has placed, in their
@@ -23,7 +23,6 @@ mod fault;
 mod finishing;
 mod flush_side;
 mod gate;
-mod locking;
 mod log_side;
 mod meeting;
 mod name;

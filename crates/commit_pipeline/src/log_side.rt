@@ -1,5 +1,7 @@
 //! The way to the log: the queue of the records, and the journal behind its lock.
 //!
+//! Who finds the lock taken leaves what is to be done to whoever has it, who looks again once it is let go.
+//!
 //! A thread may take this lock while it has the commit lock, and never the other way round: nothing here is
 //! handed the commit lock.
 ghost use Rattle.std.specs.Prelude.{◌≡◌, None, IfErr, IfSome};
@@ -7,36 +9,51 @@ ghost use Rattle.record_flow.specs.Passes.{flow_id, send_queue, send_view};
 ghost use Rattle.record_flow.specs.Flows.{CanSend, SendsRecord};
 ghost use Rattle.commit_queue.specs.Tables.{table_id_of};
 ghost use Rattle.commit_pipeline.specs.Commits.{TellsDeath};
-ghost use Rattle.commit_pipeline.specs.Desks.{Raises, known, TellsFault, deaths_stepped};
+ghost use Rattle.commit_pipeline.specs.Desks.{Raises, known, TellsFault, deaths_led};
 ghost use Rattle.commit_pipeline.specs.Meeting.{deaths_heard};
 
 use crate::desk::Desk;
 use crate::flush_side::FlushSide;
-use crate::locking::lock_soon;
 use crate::name::PipeName;
-use commit_queue::PipeTable;
+use commit_queue::{PipeTable, Waiter, rest};
+use crossbeam_utils::CachePadded;
+use crossbeam_utils::sync::EventCount;
 use disk_face::Disk;
-use failover_writer::{DeadMark, JournalFault, Step};
+use failover_writer::{DeadMark, JournalFault};
 use record_flow::{RecordFlow, SendPass};
 use record_queue::RecordNode;
 use std::sync::atomic::{AtomicBool, Ordering};
 use std::sync::ledger::Ledger;
-use std::sync::{Mutex, Wait};
+use std::sync::{Mutex, MutexGuard, Wait};
+
+/// So often in a row a thread writes what others left to it.
+const TURNS: u32 = 8;
 
 /// The queue and what is behind the flush lock.
 #[derive(Drop)]
 pub(crate) struct LogSide<D: Disk, N: PipeName, M: Ledger> {
     pub(crate) flow: RecordFlow,
-    pub(crate) lock: Mutex<FlushSide<D, N, M>>,
+    pub(crate) lock: CachePadded<Mutex<FlushSide<D, N, M>>>,
     /// Whether the journal was found dead. It is set before the lock is let go.
     pub(crate) died: AtomicBool,
+    /// Whether a record was left to whoever has the lock.
+    pub(crate) left: CachePadded<AtomicBool>,
+    /// Tells those who wait that the lock was let go.
+    pub(crate) releases: CachePadded<EventCount>,
     ghost named: { flow_id flow ≡ N.queue },
 }
 
 impl<D: Disk, N: PipeName, M: Ledger> LogSide<D, N, M> {
-    /// Sends a record after all others. Where the queue is full, those on their way are moved into the
-    /// journal.
-    pub(crate) fn send<R: Wait>(&self, rt: &R, sends: &mut SendPass, node: RecordNode)
+    /// Sends a record after all others. Where there is no memory for its place, those on their way are moved into
+    /// the journal, which may give memory back.
+    pub(crate) fn send<R: Wait>(
+        &self,
+        rt: &R,
+        table: &PipeTable,
+        sends: &mut SendPass,
+        node: RecordNode,
+    )
+        requires table { table_id_of table.now ≡ N.table }
         requires queue { send_queue sends.old ≡ N.queue }
         requires next { CanSend (send_view sends.old) node }
         ensures queue { send_queue sends.new ≡ send_queue sends.old }
@@ -48,21 +65,24 @@ impl<D: Disk, N: PipeName, M: Ledger> LogSide<D, N, M> {
                 Ok(()) => return,
                 Err(back) => node = back,
             }
-            lock_soon(rt, &self.lock).take_in(rt, &self.flow);
+            let mut side = self.lock.lock(rt);
+            side.take_in(rt, &self.flow);
+            self.release(rt, table, side);
+            rest(rt);
         }
         unreachable!()
     }
 
     /// The mark of a journal that is dead, which the session then knows of. `None` where it lives, or where
-    /// none knows yet that it does not: then the session knew of no death. A commit with a sync does not
-    /// take the lock where no death is known: numbered while another one's sync is under way, it shares
-    /// the next sync with all that are.
+    /// none knows yet that it does not: then the session knew of no death. Where no death is known the lock is
+    /// not taken.
     pub(crate) fn refuses<R: Wait>(
         &self,
         rt: &R,
+        table: &PipeTable,
         desk: &mut Desk<N, M>,
-        sync: bool,
     ) -> Option<DeadMark>
+        requires table { table_id_of table.now ≡ N.table }
         requires part { desk.old.dead.parts ≡ 1 }
         ensures told { IfSome result (λ mark. TellsDeath mark.side mark.faults) }
         ensures seat { desk.new.seat ≡ desk.old.seat }
@@ -71,48 +91,91 @@ impl<D: Disk, N: PipeName, M: Ledger> LogSide<D, N, M> {
         ensures met { Raises desk.old.told 0 desk.new.told }
         ensures lives { result ≡ None → known desk.old ≡ 0 }
     {
-        if sync && !self.died.load(Ordering::SeqCst) && !desk.knows_death() {
+        if !self.died.load(Ordering::SeqCst) && !desk.knows_death() {
             return None;
         }
-        lock_soon(rt, &self.lock).refuses(desk)
+        let mut side = self.lock.lock(rt);
+        let mark = side.refuses(desk);
+        self.release(rt, table, side);
+        mark
     }
 
-    /// Moves the records found, and does what the journal can do without waiting.
+    /// Moves the records found, and does what the journal can do without waiting. Where another thread has the
+    /// lock, that one does it.
     pub(crate) fn drive<R: Wait>(&self, rt: &R, table: &PipeTable)
         requires table { table_id_of table.now ≡ N.table }
     {
-        let mut side = lock_soon(rt, &self.lock);
-        side.drive(rt, table, &self.flow);
-        self.note_death(side.is_dead());
+        if !self.left.load(Ordering::SeqCst) {
+            self.left.store(true, Ordering::SeqCst);
+        }
+        self.drive_left(rt, table);
     }
 
-    /// Moves the records found, and steps the journal once. A fault counts where the batch of this place is
-    /// not synced then.
-    pub(crate) fn step_for<R: Wait>(
+    /// Does what was left to whoever has the lock, where no other thread has it by now. After some turns it is left
+    /// to the sessions that go on committing, so that this one is not kept for them.
+    fn drive_left<R: Wait>(&self, rt: &R, table: &PipeTable)
+        requires table { table_id_of table.now ≡ N.table }
+    {
+        for _ in 0..TURNS {
+            if !self.left.load(Ordering::SeqCst) {
+                return;
+            }
+            let Some(mut side) = self.lock.try_lock() else {
+                return;
+            };
+            self.left.store(false, Ordering::SeqCst);
+            side.drive(rt, table, &self.flow);
+            self.let_go(side);
+        }
+    }
+
+    /// Steps the journal until the batch of this place is synced, for all whose batches are. `None` where another
+    /// thread has the lock. A fault counts where the batch is not synced then.
+    pub(crate) fn lead<R: Wait>(
         &self,
         rt: &R,
         table: &PipeTable,
         desk: &mut Desk<N, M>,
         index: u64,
-    ) -> Result<Step, JournalFault>
+    ) -> Option<Result<(), JournalFault>>
         requires table { table_id_of table.now ≡ N.table }
         requires part { desk.old.dead.parts ≡ 1 }
         ensures seat { desk.new.seat ≡ desk.old.seat }
         ensures own { desk.new.own ≡ desk.old.own }
-        ensures dead { Raises desk.old.dead (deaths_stepped result) desk.new.dead }
+        ensures dead { Raises desk.old.dead (deaths_led result) desk.new.dead }
         ensures met { desk.new.told ≡ desk.old.told }
-        ensures fault { IfErr result TellsFault }
+        ensures fault { IfSome result (λ led. IfErr led TellsFault) }
     {
-        let mut side = lock_soon(rt, &self.lock);
-        let stepped = side.step_for(rt, table, &self.flow, desk, index);
-        self.note_death(side.is_dead());
-        stepped
+        let mut side = self.lock.try_lock()?;
+        let led = side.lead(rt, table, &self.flow, desk, index);
+        self.release(rt, table, side);
+        Some(led)
     }
 
-    /// Sets the word where the journal is dead, behind the lock still.
-    fn note_death(&self, is_dead: bool) {
-        if is_dead {
+    /// How a thread waits for the lock to be let go, and so for what is synced meanwhile.
+    pub(crate) fn await_release(&self) -> Waiter<'_> {
+        Waiter::on(&self.releases)
+    }
+
+    /// Lets the lock go, and does what was left to this thread meanwhile.
+    pub(crate) fn release<R: Wait>(
+        &self,
+        rt: &R,
+        table: &PipeTable,
+        side: MutexGuard<'_, FlushSide<D, N, M>>,
+    )
+        requires table { table_id_of table.now ≡ N.table }
+    {
+        self.let_go(side);
+        self.drive_left(rt, table);
+    }
+
+    /// Lets the lock go, and tells those who wait for it. Where the journal is dead, the word is set before.
+    fn let_go(&self, side: MutexGuard<'_, FlushSide<D, N, M>>) {
+        if side.is_dead() {
             self.died.store(true, Ordering::SeqCst);
         }
+        drop(side);
+        self.releases.notify_all();
     }
 }

@@ -19,7 +19,9 @@ impl<'a, D: Disk, G: Gate, N: PipeName, M: Ledger> Pipeline<'a, D, G, N, M> {
         ensures err { OnErr result (StayOn sessions.old.items sessions.new.items) }
     {
         self.share_seen(sessions)?;
-        self.log.lock.lock(rt).tell_deaths(sessions.as_mut_slice());
+        let mut log = self.log.lock.lock(rt);
+        log.tell_deaths(sessions.as_mut_slice());
+        self.log.release(rt, &self.table, log);
         Ok(())
     }
 

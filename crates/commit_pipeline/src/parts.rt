@@ -19,6 +19,8 @@ use crate::pipeline::Pipeline;
 use crate::session::{Session, Sessions};
 use batch_repr::{Batch, Batches};
 use commit_queue::{FlushSeat, PipeTable, ProducerSeat, SessionSeats, Shards};
+use crossbeam_utils::CachePadded;
+use crossbeam_utils::sync::EventCount;
 use disk_face::Disk;
 use failover_writer::Journal;
 use memtable_shards::{SHARDS, Shard, split_entries};
@@ -176,22 +178,22 @@ impl<'a, D: Disk, G: Gate, N: PipeName, M: Ledger> Pipeline<'a, D, G, N, M> {
         let Ok(sessions) = seated(alloc, seats, &mut own, &mut dead) else {
             return Err(journal);
         };
-        let commits = Mutex::new(CommitSide::<N> {
+        let commits = CachePadded::new(Mutex::new(CommitSide::<N> {
             next,
             placed: 0,
             producer,
             sends,
             batches,
             own,
-        });
-        let lock = Mutex::new(FlushSide::<D, N, M> {
+        }));
+        let lock = CachePadded::new(Mutex::new(FlushSide::<D, N, M> {
             journal,
             flush,
             pops,
             answers,
             dead,
             name: PhantomData,
-        });
+        }));
         let pipeline = Pipeline {
             alloc,
             table,
@@ -200,6 +202,8 @@ impl<'a, D: Disk, G: Gate, N: PipeName, M: Ledger> Pipeline<'a, D, G, N, M> {
                 flow,
                 lock,
                 died: AtomicBool::new(false),
+                left: CachePadded::new(AtomicBool::new(false)),
+                releases: CachePadded::new(EventCount::new()),
             },
             gate,
         };

@@ -5,7 +5,7 @@ ghost use Rattle.commit_queue.specs.Calls.{HoldsUnapplied};
 ghost use Rattle.commit_queue.specs.Seats.{session_table, session_view};
 ghost use Rattle.commit_pipeline.specs.Commits.{TellsCommit};
 ghost use Rattle.commit_pipeline.specs.Desks.{IsDeskIdle, Raises, TellsFault, known};
-ghost use Rattle.commit_pipeline.specs.Desks.{deaths_stepped};
+ghost use Rattle.commit_pipeline.specs.Desks.{deaths_by};
 ghost use Rattle.commit_pipeline.specs.Ending.{StillKeeps};
 ghost use Rattle.commit_pipeline.specs.Waits.{GetsNumber, StartsCommit, IsHeldEnd, PublishesHeld};
 ghost use Rattle.commit_pipeline.specs.Waits.{WaitsFor, IsUnsynced};
@@ -16,21 +16,20 @@ use crate::commit_side::{CommitSide, Numbering};
 use crate::desk::Desk;
 use crate::fault::{CommitFault, Committed};
 use crate::gate::{Gate, GatePoint};
-use crate::locking::lock_soon;
 use crate::log_side::LogSide;
 use crate::name::PipeName;
 use crate::session::Session;
 use batch_repr::{BATCHES_MAX, Unnumbered};
 use commit_queue::PipeTable;
+use crossbeam_utils::CachePadded;
 use disk_face::{Disk, Side, StallDisk};
-use failover_writer::{Journal, JournalFault, Step};
+use failover_writer::{Journal, JournalFault};
 use memtable_shards::{Pieces, split};
 use record_queue::RecordNode;
 use shard_gate::ShardGate;
 use std::alloc::Global;
 use std::sync::ledger::Ledger;
 use std::sync::{Mutex, Wait};
-use std::thread;
 
 /// Why a batch got no number.
 #[derive(Drop)]
@@ -46,7 +45,7 @@ pub(crate) enum Refusal {
 pub struct Pipeline<'a, D: Disk, G: Gate, N: PipeName, M: Ledger> {
     pub(crate) alloc: Global,
     pub(crate) table: PipeTable,
-    pub(crate) commits: Mutex<CommitSide<N>>,
+    pub(crate) commits: CachePadded<Mutex<CommitSide<N>>>,
     pub(crate) log: LogSide<D, N, M>,
     pub(crate) gate: &'a G,
     ghost named: { table_id_of table ≡ N.table },
@@ -80,6 +79,8 @@ impl<'a, D: Disk, G: Gate, N: PipeName, M: Ledger> Pipeline<'a, D, G, N, M> {
                 index,
             };
             self.wait_acked(rt, desk, numbers)?;
+        } else {
+            self.log.drive(rt, &self.table);
         }
         Ok(Committed {
             first,
@@ -88,8 +89,7 @@ impl<'a, D: Disk, G: Gate, N: PipeName, M: Ledger> Pipeline<'a, D, G, N, M> {
         })
     }
 
-    /// Numbers the batch, and writes of the log what can be written without waiting; or tells why not. A
-    /// limit is told once all that made it is published.
+    /// Numbers the batch and sends its record, or tells why not. A limit is told once all that made it is published.
     fn start<R: Wait>(
         &self,
         rt: &R,
@@ -107,17 +107,14 @@ impl<'a, D: Disk, G: Gate, N: PipeName, M: Ledger> Pipeline<'a, D, G, N, M> {
         ensures met { Raises desk.old.told 0 desk.new.told }
         ensures lives { StartsLiving (known desk.old) result }
     {
-        if let Some(mark) = self.log.refuses(rt, desk, sync) {
+        if let Some(mark) = self.log.refuses(rt, &self.table, desk) {
             return Err(CommitFault::Dead {
                 side: mark.side,
                 faults: mark.faults,
             });
         }
         match self.take_number(rt, desk, batch, node, sync) {
-            Ok(numbers) => {
-                self.log.drive(rt, &self.table);
-                Ok(numbers)
-            }
+            Ok(numbers) => Ok(numbers),
             Err(Refusal::TooMany { next }) => {
                 self.table.publish_until(rt, &mut desk.seat, next);
                 Err(CommitFault::TooManyBatches { count: BATCHES_MAX })
@@ -148,16 +145,12 @@ impl<'a, D: Disk, G: Gate, N: PipeName, M: Ledger> Pipeline<'a, D, G, N, M> {
     {
         let mut batch = batch;
         let mut node = node;
+        let mut waiter = self.table.await_published();
         for _ in rt.forever() {
-            let numbering = lock_soon(rt, &self.commits).number(
-                rt,
-                &self.table,
-                &self.log,
-                desk,
-                batch,
-                node,
-                sync,
-            );
+            let numbering = self
+                .commits
+                .lock(rt)
+                .number(rt, &self.table, &self.log, desk, batch, node, sync);
             match numbering {
                 Numbering::Done { first, index } => return Ok((first, index)),
                 Numbering::Busy {
@@ -170,7 +163,7 @@ impl<'a, D: Disk, G: Gate, N: PipeName, M: Ledger> Pipeline<'a, D, G, N, M> {
                 Numbering::TooMany { next } => return Err(Refusal::TooMany { next }),
                 Numbering::Exhausted { next } => return Err(Refusal::Exhausted { next }),
             }
-            thread::yield_now();
+            waiter.wait(rt);
         }
         unreachable!()
     }
@@ -203,7 +196,8 @@ impl<'a, D: Disk, G: Gate, N: PipeName, M: Ledger> Pipeline<'a, D, G, N, M> {
         self.gate.pass(session, GatePoint::Published);
     }
 
-    /// Steps the journal until the batch is synced, or tells why it is not.
+    /// Waits until the batch is synced, or tells why it is not. Whoever finds the flush lock free steps the journal
+    /// until its own batch is synced, and the others sleep meanwhile.
     fn wait_acked<R: Wait>(
         &self,
         rt: &R,
@@ -217,15 +211,15 @@ impl<'a, D: Disk, G: Gate, N: PipeName, M: Ledger> Pipeline<'a, D, G, N, M> {
         ensures dead { Raises desk.old.dead (deaths_waited result) desk.new.dead }
         ensures met { desk.new.told ≡ desk.old.told }
     {
+        let mut waiter = self.log.await_release();
         for _ in rt.forever() {
             if self.table.acked(&mut desk.seat) > numbers.index {
                 return Ok(());
             }
-            let stepped = self.log.step_for(rt, &self.table, desk, numbers.index);
-            match stepped {
-                Ok(Step::Moved) => {}
-                Ok(_) => thread::yield_now(),
-                Err(fault) => return Err(numbers.unsynced(fault)),
+            match self.log.lead(rt, &self.table, desk, numbers.index) {
+                Some(Ok(())) => {}
+                Some(Err(fault)) => return Err(numbers.unsynced(fault)),
+                None => waiter.wait(rt),
             }
         }
         unreachable!()
@@ -239,8 +233,10 @@ impl<'a, D: Disk, G: Gate, N: PipeName, M: Ledger> Pipeline<'a, D, G, N, M> {
             flow: _flow,
             lock,
             died: _died,
+            left: _left,
+            releases: _releases,
         } = self.log;
-        lock.into_inner().journal
+        lock.into_inner().into_inner().journal
     }
 }
 
@@ -257,7 +253,7 @@ impl Numbers {
     fn unsynced(self, fault: JournalFault) -> CommitFault
         requires { TellsFault fault }
         ensures told { IsUnsynced self result }
-        ensures deaths { deaths_waited (Err result) ≡ deaths_stepped (Err fault) }
+        ensures deaths { deaths_waited (Err result) ≡ deaths_by fault }
     {
         match fault {
             JournalFault::Dead { side, faults } => CommitFault::Unsynced {
@@ -279,6 +275,8 @@ impl<'a, D: StallDisk, G: Gate, N: PipeName, M: Ledger> Pipeline<'a, D, G, N, M>
     pub fn stall<R: Wait>(&self, rt: &R, side: Side, polls: u32)
         requires { N.opening.may_stall ≡ true }
     {
-        self.log.lock.lock(rt).stall(side, polls);
+        let mut log = self.log.lock.lock(rt);
+        log.stall(side, polls);
+        self.log.release(rt, &self.table, log);
     }
 }

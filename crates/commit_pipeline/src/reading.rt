@@ -11,7 +11,6 @@ use disk_face::Disk;
 use shard_gate::{ReadBusy, ShardGate};
 use std::sync::Wait;
 use std::sync::ledger::Ledger;
-use std::thread;
 use wal_base::NoMemory;
 
 impl<'a, D: Disk, G: Gate, N: PipeName, M: Ledger> Pipeline<'a, D, G, N, M> {
@@ -28,10 +27,11 @@ impl<'a, D: Disk, G: Gate, N: PipeName, M: Ledger> Pipeline<'a, D, G, N, M> {
         let seat = &mut session.desk.seat;
         let visible = self.table.visible(seat);
         let shards = ShardGate::over(self.alloc, &self.table);
+        let mut waiter = self.table.await_shard();
         for _ in rt.forever() {
             match shards.try_newest(seat, key, visible) {
                 Ok(value) => return Ok(Reply { visible, value }),
-                Err(ReadBusy::Busy) => thread::yield_now(),
+                Err(ReadBusy::Busy) => waiter.wait(rt),
                 Err(ReadBusy::NoMemory) => return Err(NoMemory),
             }
         }

@@ -6,10 +6,11 @@ ghost use Rattle.failover_writer.specs.State.{len};
 
 mod deaths;
 mod fresh;
-mod full_queue;
+mod groups;
 mod in_flight;
 mod late;
 mod numbers;
+mod on_the_way;
 mod stops;
 
 use crate::{Gate, GatePoint, NoGate, Parts, PipeName, Pipeline, Session, Sessions};
@@ -28,6 +29,17 @@ use std::thread::Threads;
 
 /// The turns for which a gate holds a session at most.
 const TURNS: u64 = 1_000_000;
+
+/// Waits until so many are counted, for so many turns at most. Answers whether they were.
+fn counted(count: &AtomicU64, least: u64) -> bool {
+    for _ in 0..TURNS {
+        if count.load(Ordering::SeqCst) >= least {
+            return true;
+        }
+        thread::yield_now();
+    }
+    false
+}
 
 /// A batch that sets a key of one byte to a value of one byte.
 fn one_set(rt: &impl Abort, alloc: Global, key: u8, value: u8) -> Unnumbered {

@@ -33,6 +33,7 @@ pub use published::Published;
 pub use retiring::Retired;
 pub use seats::{FlushSeat, Handed, ProducerSeat, SessionSeat, SessionSeats};
 pub use view::{AckedKnown, View};
+pub use waiting::{Waiter, rest};
 
 #[cfg(test)]
 mod tests;

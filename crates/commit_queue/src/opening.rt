@@ -11,6 +11,8 @@ use crate::pipe_table::{AtomicTable, PipeTable, Shards, TableOpening, TableSeat}
 use crate::seats::{FlushSeat, ProducerSeat, SessionSeat, SessionSeats};
 use crate::steps::{SeatFlush, SeatSession};
 use atomic_table::Table;
+use crossbeam_utils::CachePadded;
+use crossbeam_utils::sync::EventCount;
 use memtable_shards::Shard;
 use std::alloc::Global;
 use std::snapshot::Snapshot;
@@ -67,7 +69,12 @@ impl PipeTable {
             end: 0,
             turn: None,
         };
-        Ok((PipeTable { table }, p))
+        let table = PipeTable {
+            table,
+            published: CachePadded::new(EventCount::new()),
+            returned: CachePadded::new(EventCount::new()),
+        };
+        Ok((table, p))
     }
 
     /// The flush seat, which is made before any session's.

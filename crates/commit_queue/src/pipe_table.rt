@@ -7,6 +7,8 @@ ghost use Rattle.std.specs.Prelude.{◌≡◌};
 
 use crate::view::View;
 use atomic_table::{Seat, Table, TableRule};
+use crossbeam_utils::CachePadded;
+use crossbeam_utils::sync::EventCount;
 use memtable_shards::Shard;
 use std::alloc::Global;
 use std::snapshot::Snapshot;
@@ -44,6 +46,10 @@ pub(crate) type TableSeat = Seat<Option<Shard>, View>;
 #[derive(Drop)]
 pub struct PipeTable {
     pub(crate) table: AtomicTable,
+    /// Tells those who wait that batches were published.
+    pub(crate) published: CachePadded<EventCount>,
+    /// Tells those who wait that a shard was given back.
+    pub(crate) returned: CachePadded<EventCount>,
     ghost words: { table.shared.table_id.words ≡ 75 },
     ghost slots: { table.shared.table_id.slots ≡ 8 },
 }

@@ -341,16 +341,17 @@ fn a_table_is_shared_by_threads_and_seats_go_to_them(rt: HostRuntime) {
 }
 
 #[test]
-fn a_session_publishes_until_its_batch_is_visible(rt: HostRuntime) {
+fn a_session_publishes_until_its_batch_is_visible_and_what_is_ready(rt: HostRuntime) {
     let mut rig = Rig::open(&rt, rt.alloc());
     for index in 0..3u64 {
         assert_eq!(rt; rig.send_next(&rt), Some(index));
     }
-    for at in [2, 1, 0] {
+    for at in [1, 0] {
         rig.mark(&rt, at);
     }
-    rig.publish_until(&rt, 12);
+    rig.publish_until(&rt, 11);
     assert_eq!(rt; rig.other_visible(), 12);
+    rig.mark(&rt, 0);
     rig.publish_until(&rt, 13);
     assert_eq!(rt; rig.other_visible(), 13);
 }

@@ -74,10 +74,10 @@ sends n port v x may can nodes views _ h at =
     )
 
 -- a pass that pushes goes on to push
-pub still_pushes : (K : Type 0) (v w : FlowView) (x : Option Filled) (r : Result (Unit {0}) (Option Filled)) → v.pushes ≡ true → CanSend v x
-    → MatchResult r (λ _. (f : Filled) → x ≡ Some f → w ≡ sent_on v f) (λ y. (y ≡ x) × (w ≡ v) × K) → w.pushes ≡ true
-still_pushes K v w x (Ok u) may can told = ap (λ (y : FlowView). y.pushes) (told can.0 can.1) ∙ may
-still_pushes K v w x (Err e) may can told = ap (λ (y : FlowView). y.pushes) told.1 ∙ may
+pub still_pushes : (I K : Type 0) (v w : FlowView) (x : Option Filled) (r : Result (Unit {0}) (Option Filled)) → v.pushes ≡ true → CanSend v x
+    → MatchResult r (λ _. ((f : Filled) → x ≡ Some f → w ≡ sent_on v f) × I) (λ y. (y ≡ x) × (w ≡ v) × K) → w.pushes ≡ true
+still_pushes I K v w x (Ok u) may can told = ap (λ (y : FlowView). y.pushes) (told.0 can.0 can.1) ∙ may
+still_pushes I K v w x (Err e) may can told = ap (λ (y : FlowView). y.pushes) told.1 ∙ may
 
 pub takes : (port : ℕ) (v : FlowView) → v.pops ≡ true → Pops Flows port v (λ x w. (f : Filled) × (x ≡ Some f) × (w ≡ taken_on v f) × ComesNext v.first v.taken f)
 takes port v may x nodes views h at =

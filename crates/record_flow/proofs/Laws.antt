@@ -3,4 +3,4 @@ pub use Rattle.record_flow.proofs.ComesNext.{end_is_next, first_is_next, one_mor
 pub use Rattle.record_flow.proofs.IsSent.{nodes_sent, node_sent}
 pub use Rattle.record_flow.proofs.IsSent.{send_pass_sent, send_pass_field_sent, flush_pass_sent, flush_pass_field_sent}
 pub use Rattle.record_flow.proofs.IsSent.{flow_sent, flow_field_sent, flow_shared, flow_field_shared}
-pub use Rattle.record_flow.proofs.OnTheWay.{full_sent, taken_is_prefix}
+pub use Rattle.record_flow.proofs.OnTheWay.{taken_is_prefix}

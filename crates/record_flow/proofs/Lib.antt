@@ -1,6 +1,5 @@
 mod ComesNext
 mod Flows
 mod OnTheWay
-mod Limits
 mod IsSent
 pub mod Laws

@@ -1,13 +1,13 @@
 -- What a pass learns of the nodes that are on their way.
-use Rattle.std.proofs.Common.{◌≡◌, ℕ, suc, List, [], ◌∷◌, ◌++◌, length, map, Option, Some, sym, refl, ap, ◌∙◌, subst, arith, length-append}
+use Rattle.std.proofs.Common.{◌≡◌, ℕ, List, [], ◌∷◌, ◌++◌, map, Option, Some, None, MatchOption, IfNone, sym, refl, ap, ◌∙◌, subst}
 use Rattle.std.proofs.lemmas.List.{append-nil}
 use Rattle.crossbeam_queue.specs.Fifo.{Learns}
 use Rattle.batch_repr.specs.Batches.{IsContiguous}
 use Rattle.record_queue.specs.declared.node.Filled.{Filled}
 use Rattle.record_flow.specs.declared.rule.FlowView.{FlowView}
 use Rattle.record_flow.specs.Views.{first_numbers, records_of}
-use Rattle.record_flow.specs.Flows.{Flows, HasEnded, IsPrefixOf, OnTheWay, WasEmpty}
-use Rattle.record_flow.specs.Theorems.{TakenIsPrefixOfSent, FullFlowsWereSentAsMany}
+use Rattle.record_flow.specs.Flows.{Flows, HasEnded, IsPrefixOf, OnTheWay}
+use Rattle.record_flow.specs.Theorems.{TakenIsPrefixOfSent}
 
 pub learns : (port : ℕ) (v : FlowView) → Learns Flows port v (OnTheWay v)
 learns port v nodes views h at = let mine = h.each port v at in record {
@@ -21,32 +21,24 @@ learns port v nodes views h at = let mine = h.each port v at in record {
   by_taker = λ p. ((mine.pops p).1, (mine.pops p).2);
 }
 
-many : (xs : List Filled) → length (map {A = Filled} {B = Option Filled} Some xs) ≡ length xs
-many [] = refl
-many (x ∷ xs) = ap suc (many xs)
-
--- so many records are on their way as nodes
-as_many : (v : FlowView) (nodes : List (Option Filled)) (o : OnTheWay v nodes) → length o.rest ≡ length nodes
-as_many v nodes o = sym (ap length o.filled ∙ many o.rest)
-
--- a queue that was full was sent as many as it has room for
-pub full_sent : FullFlowsWereSentAsMany
-full_sent v may (nodes, n, o) =
-    let a = as_many v nodes o in let s : length v.sent ≡ length (o.taken ++ o.rest) = ap length ((o.by_sender may).0 ∙ o.whole) in let t = length-append o.taken o.rest in omega arith
-
 -- what was taken is a prefix of what was sent, where one pass knows both
 pub prefix_known : (v : FlowView) (nodes : List (Option Filled)) → HasEnded v → OnTheWay v nodes → IsPrefixOf v.taken v.sent
 prefix_known v nodes e o = (o.rest, (o.by_sender e.0).0 ∙ o.whole ∙ ap (λ (l : List Filled). l ++ o.rest) (sym (o.by_taker e.1).0))
 
-nothing : (xs : List Filled) → length xs ≡ 0 → xs ≡ []
-nothing [] n = refl
-nothing (x ∷ xs) n = absurd (omega (arith, n))
+nothing : (xs : List Filled) → [] ≡ map {A = Filled} {B = Option Filled} Some xs → xs ≡ []
+nothing [] e = refl
+nothing (x ∷ xs) e = absurd (cc e)
 
 -- nothing is left on its way, so all that was sent is taken
-pub all_taken : (v : FlowView) → WasEmpty v → HasEnded v → v.sent ≡ v.taken
-all_taken v (nodes, n, o) e =
-    let none : o.rest ≡ [] = nothing o.rest (as_many v nodes o ∙ n) in
+all_taken : (v : FlowView) → OnTheWay v [] → HasEnded v → v.sent ≡ v.taken
+all_taken v o e =
+    let none : o.rest ≡ [] = nothing o.rest o.filled in
     (o.by_sender e.0).0 ∙ o.whole ∙ ap (λ (l : List Filled). o.taken ++ l) none ∙ append-nil o.taken ∙ sym (o.by_taker e.1).0
+
+-- a pass that found nothing on its way, and knows that nothing more is sent
+pub none_left : (K : Type 0) (F : Option Filled → Type 0) (v : FlowView) (r : Option (Option Filled)) → MatchOption r (K × OnTheWay v []) F → IfNone r (HasEnded v → v.sent ≡ v.taken)
+none_left K F v None told = λ e. all_taken v told.1 e
+none_left K F v (Some x) told = tt
 
 numbers_append : (xs ys : List Filled) → first_numbers (xs ++ ys) ≡ first_numbers xs ++ first_numbers ys
 numbers_append [] ys = refl

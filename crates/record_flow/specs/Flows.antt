@@ -7,7 +7,6 @@ use Rattle.batch_repr.specs.Batches.{count_of, end_after, IsContiguous}
 use Rattle.batch_repr.specs.declared.limits.TheConstants.{BATCHES_MAX}
 use Rattle.record_queue.specs.declared.node.Filled.{Filled}
 use Rattle.record_flow.specs.declared.rule.FlowView.{FlowView}
-use Rattle.record_flow.specs.declared.flow.TheConstants.{CAPACITY}
 use Rattle.record_flow.specs.Views.{records_of, sent_on, taken_on}
 
 -- The list begins with these.
@@ -74,10 +73,6 @@ pub record OnTheWay (v : FlowView) (nodes : List (Option Filled)) : Type 0 where
   pub whole : sent ≡ taken ++ rest
   pub by_sender : v.pushes ≡ true → (v.sent ≡ sent) × (v.first ≡ first)
   pub by_taker : v.pops ≡ true → (v.taken ≡ taken) × (v.first ≡ first)
-
--- At one moment as many nodes were on their way as the queue has room for.
-abbrev pub WasFull : FlowView → Type 0
-WasFull v = Held CAPACITY (OnTheWay v)
 
 -- At one moment no node was on its way.
 abbrev pub WasEmpty : FlowView → Type 0

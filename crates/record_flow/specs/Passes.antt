@@ -1,32 +1,35 @@
 -- Which queue a pass is of, and what it knows.
 use Rattle.std.specs.Prelude.{◌≡◌, ℕ, List}
-use Rattle.atomic_table.specs.Seated.{TableId}
-use Rattle.crossbeam_queue.specs.Passes.{view}
+use Rattle.atomic_blocks.specs.Laid.{WebId}
 use Rattle.record_flow.specs.declared.rule.FlowView.{FlowView}
 use Rattle.record_flow.specs.declared.flow.RecordFlow.{RecordFlow}
 use Rattle.record_flow.specs.declared.passes.SendPass.{SendPass}
 use Rattle.record_flow.specs.declared.passes.FlushPass.{FlushPass}
 use Rattle.record_flow.specs.Views.{first_numbers, send_opened, flush_opened}
 
+-- how a queue is told from all others
+abbrev pub FlowId : Type 0
+FlowId = WebId
+
 -- which queue it is
-abbrev pub flow_id : RecordFlow → TableId
-flow_id flow = flow.nodes.table.shared.table_id
+abbrev pub flow_id : RecordFlow → FlowId
+flow_id flow = flow.nodes.web
 
 -- the queue that the pass sends into
-abbrev pub send_queue : SendPass → TableId
-send_queue s = s.pass.table_id
+abbrev pub send_queue : SendPass → FlowId
+send_queue s = s.pass.web
 
 -- the queue that the pass takes out of
-abbrev pub flush_queue : FlushPass → TableId
-flush_queue p = p.pass.table_id
+abbrev pub flush_queue : FlushPass → FlowId
+flush_queue p = p.pass.web
 
 -- what the pass that sends knows
 abbrev pub send_view : SendPass → FlowView
-send_view s = view s.pass
+send_view s = s.pass.me.view.client
 
 -- what the pass that takes knows
 abbrev pub take_view : FlushPass → FlowView
-take_view p = view p.pass
+take_view p = p.pass.me.view.client
 
 -- the first numbers of the records taken with the pass, in their order
 abbrev pub taken_numbers : FlushPass → List ℕ

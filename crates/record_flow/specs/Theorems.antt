@@ -1,13 +1,12 @@
 -- What holds of the queue at any moment, in the words of its users.
-use Rattle.std.specs.Prelude.{◌≡◌, ℕ, ◌≤◌, true, List, length, Option}
+use Rattle.std.specs.Prelude.{◌≡◌, ℕ, true, List, Option}
 use mathlib.Core.Option.{some}
 use lib.ListN.{get_elem?}
 use Rattle.batch_repr.specs.Batches.{IsContiguous}
 use Rattle.record_queue.specs.declared.node.Filled.{Filled}
 use Rattle.record_flow.specs.declared.rule.FlowView.{FlowView}
-use Rattle.record_flow.specs.declared.flow.TheConstants.{CAPACITY}
 use Rattle.record_flow.specs.Views.{records_of, first_numbers}
-use Rattle.record_flow.specs.Flows.{Flows, IsPrefixOf, WasFull}
+use Rattle.record_flow.specs.Flows.{Flows, IsPrefixOf}
 
 -- what the sender and the taker know at one moment: what was taken is a prefix of what was sent, from one first number on
 pub record TakesPrefix (s p : FlowView) : Type 0 where
@@ -20,7 +19,3 @@ pub record TakesPrefix (s p : FlowView) : Type 0 where
 abbrev pub TakenIsPrefixOfSent : Type 0
 TakenIsPrefixOfSent = (nodes : List (Option Filled)) (views : List FlowView) (i j : ℕ) (s p : FlowView) → Flows nodes views
     → get_elem? views i ≡ some s → s.pushes ≡ true → get_elem? views j ≡ some p → p.pops ≡ true → TakesPrefix s p
-
--- A pass that finds the queue full has sent as many nodes as it has room for.
-abbrev pub FullFlowsWereSentAsMany : Type 0
-FullFlowsWereSentAsMany = (v : FlowView) → v.pushes ≡ true → WasFull v → CAPACITY ≤ length v.sent

@@ -1,21 +1,20 @@
 //! The queue between the two locks.
-ghost use Rattle.std.specs.Prelude.{◌≡◌};
-ghost use Rattle.crossbeam_queue.specs.Passes.{ruled_capacity};
-ghost use Rattle.record_flow.specs.declared.flow.TheConstants.{CAPACITY};
-
 use crate::rule::{FlowView, InOrder};
-use crossbeam_queue::RuledArrayQueue;
+use crossbeam_queue::RuledSegQueue;
 use record_queue::RecordNode;
 
-/// The most nodes that are on their way at a time.
-pub const CAPACITY: usize = 64;
-
 /// A queue of nodes under the rule.
-pub(crate) type Nodes = RuledArrayQueue<RecordNode, FlowView, InOrder>;
+pub(crate) type Nodes = RuledSegQueue<RecordNode, FlowView, InOrder>;
 
-/// The queue between the two locks. Both sides share it.
-#[derive(Drop)]
+/// The queue between the two locks. Both sides share it. It has room for as many nodes as there is memory for.
 pub struct RecordFlow {
     pub(crate) nodes: Nodes,
-    ghost capacity: { ruled_capacity nodes ≡ CAPACITY },
+}
+
+impl Drop for RecordFlow {
+    /// Drops the nodes that are still on their way, and frees the queue.
+    fn drop(self) {
+        let Self { nodes } = self;
+        nodes.destroy();
+    }
 }

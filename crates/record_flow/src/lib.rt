@@ -1,7 +1,8 @@
 //! The records on their way from the thread that numbers batches to whoever writes the log: a queue in which each is
-//! pushed behind the commit lock and popped behind the flush lock, in order, without a lock of its own.
+//! pushed behind the commit lock and popped behind the flush lock, in order, without a lock of its own. It has no
+//! bound, so who numbers batches never waits for who writes them.
 //!
-//! Stands on `crossbeam_queue` for a queue that keeps a rule of its caller's, and on `atomic_table` for which queue a
+//! Stands on `crossbeam_queue` for a queue that keeps a rule of its caller's, and on `atomic_blocks` for which queue a
 //! pass is of; on `record_queue` for the nodes that carry the records, on `batch_repr` for these, and on `wal_base` for
 //! `NoMemory`. The layer above uses one contract: what was popped is a prefix of what was pushed, so each record that
 //! comes out begins where the one before it ends.
@@ -18,10 +19,10 @@ mod passes;
 mod rule;
 mod theorems;
 
-pub use flow::{CAPACITY, RecordFlow};
+pub use flow::RecordFlow;
 pub use passes::{FlushPass, SendPass};
 pub use rule::FlowView;
-pub use theorems::{full_flows_were_sent_as_many, taken_is_a_prefix_of_sent};
+pub use theorems::taken_is_a_prefix_of_sent;
 
 #[cfg(test)]
 mod tests;

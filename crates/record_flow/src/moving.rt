@@ -2,7 +2,7 @@
 ghost use Rattle.std.specs.Prelude.{◌≡◌, IfErr, IfNone, IfSome, OnErr, OnOk};
 ghost use Rattle.record_queue.specs.Nodes.{IsFilledNode};
 ghost use Rattle.record_flow.specs.Views.{ended_view};
-ghost use Rattle.record_flow.specs.Flows.{CanSend, HasEnded, IsNextTaken, IsPrefixOf, SendsRecord, TakesRecord, TookAll, WasEmpty, WasFull};
+ghost use Rattle.record_flow.specs.Flows.{CanSend, HasEnded, IsNextTaken, IsPrefixOf, SendsRecord, TakesRecord, TookAll, WasEmpty};
 ghost use Rattle.record_flow.specs.Passes.{flow_id, flush_queue, take_view, send_queue, send_view};
 
 use crate::flow::RecordFlow;
@@ -12,9 +12,9 @@ use record_queue::RecordNode;
 use std::sync::Wait;
 
 impl RecordFlow {
-    /// Sends a filled node after all others. The node comes back only if the queue was full, with `CAPACITY` nodes on
-    /// their way, at one moment of the call; the pass then knows what it knew before. The call may spin while the
-    /// other side is in the midst of a pop.
+    /// Sends a filled node after all others, however many are on their way. The node comes back only if there was no
+    /// memory for a block of the queue, which one node in 31 needs; the pass then knows what it knew before, and the
+    /// node can be sent again. The call waits for nobody: takes do not meet it, and no other pass pushes.
     pub fn send<R: Wait>(
         &self,
         rt: &R,
@@ -27,7 +27,6 @@ impl RecordFlow {
         ensures sent { OnOk result (SendsRecord node (send_view pass.old) (send_view pass.new)) }
         ensures back { IfErr result (λ back. back ≡ node) }
         ensures same { OnErr result (send_view pass.new ≡ send_view pass.old) }
-        ensures full { OnErr result (WasFull (send_view pass.old)) }
     {
         self.nodes.push_as::<Push, R>(rt, &mut pass.pass, node)
     }
@@ -49,8 +48,8 @@ impl RecordFlow {
     }
 
     /// Nothing more is sent: the pass that pops takes in the one that pushed. What is on its way can still be taken,
-    /// and what was taken stays as it was.
-    pub fn end(&self, pass: &mut FlushPass, sends: SendPass)
+    /// and what was taken stays as it was. The call waits for nobody, since no pass pushes any more.
+    pub fn end<R: Wait>(&self, rt: &R, pass: &mut FlushPass, sends: SendPass)
         requires queue { flush_queue pass.old ≡ flow_id self.now }
         requires sends { send_queue sends ≡ flow_id self.now }
         ensures queue { flush_queue pass.new ≡ flush_queue pass.old }
@@ -59,6 +58,6 @@ impl RecordFlow {
     {
         let SendPass { pass: other } = sends;
         self.nodes.absorb::<Ending>(&mut pass.pass, other);
-        self.nodes.learn_as::<Pop>(&mut pass.pass);
+        self.nodes.len_as::<Pop, R>(rt, &mut pass.pass);
     }
 }

@@ -1,23 +1,27 @@
 //! The two passes, of which each knows what it moved.
-ghost use Rattle.std.specs.Prelude.{◌≡◌, true, []};
-ghost use Rattle.crossbeam_queue.specs.Passes.{view};
+ghost use Rattle.std.specs.Prelude.{◌≡◌, true, None};
 
 use crate::rule::FlowView;
-use crossbeam_queue::Pass;
+use crossbeam_queue::SegPass;
 use record_queue::RecordNode;
+
+/// A pass of the queue of nodes. Between two calls it carries neither a node nor a block.
+pub(crate) type NodePass = SegPass<RecordNode, FlowView>;
 
 /// The pass that pushes, and no other does. It lies behind the commit lock, which sends with it.
 #[derive(Drop)]
 pub struct SendPass {
-    pub(crate) pass: Pass<RecordNode, FlowView>,
-    ghost pushes: { (view pass).pushes ≡ true },
-    ghost free: { pass.me.1 ≡ [] },
+    pub(crate) pass: NodePass,
+    ghost pushes: { pass.me.view.client.pushes ≡ true },
+    ghost hand: { pass.me.hand ≡ None },
+    ghost spare: { pass.me.spare ≡ None },
 }
 
 /// The pass that pops, and no other does. It lies behind the flush lock, which takes with it.
 #[derive(Drop)]
 pub struct FlushPass {
-    pub(crate) pass: Pass<RecordNode, FlowView>,
-    ghost pops: { (view pass).pops ≡ true },
-    ghost free: { pass.me.1 ≡ [] },
+    pub(crate) pass: NodePass,
+    ghost pops: { pass.me.view.client.pops ≡ true },
+    ghost hand: { pass.me.hand ≡ None },
+    ghost spare: { pass.me.spare ≡ None },
 }

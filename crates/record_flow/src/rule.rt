@@ -67,10 +67,6 @@ impl Outcome<RecordNode, FlowView> for Push {
     ghost then = { λ v x w. SendsRecord x v w };
 }
 
-impl Lesson<RecordNode, FlowView> for Push {
-    ghost fact = { OnTheWay };
-}
-
 /// A pop: the record of the node is the last that was taken, and came next.
 pub(crate) struct Pop;
 

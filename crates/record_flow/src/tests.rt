@@ -1,12 +1,12 @@
-//! That records pass from thread to thread in order, that a full queue gives a node back, and that what is left at the
-//! end is taken.
+//! That records pass from thread to thread in order, that any number of them waits in the queue, and that what is left
+//! at the end is taken or dropped.
 ghost use Rattle.std.specs.Prelude.{◌≡◌, ◌<◌, ◌≤◌, length};
 ghost use Rattle.batch_repr.specs.Batches.{count_of};
 ghost use Rattle.record_flow.specs.Views.{send_opened};
 ghost use Rattle.record_flow.specs.Flows.{next_to_send};
 ghost use Rattle.record_flow.specs.Passes.{flow_id, flush_queue, send_queue, send_view};
 
-use crate::{CAPACITY, FlushPass, RecordFlow, SendPass};
+use crate::{FlushPass, RecordFlow, SendPass};
 use batch_repr::{BatchBuilder, Numbered};
 use record_queue::RecordNode;
 use std::alloc::Global;
@@ -20,6 +20,9 @@ const FIRST: u64 = 10;
 
 /// How many records go from thread to thread.
 const MANY: u64 = 4_000;
+
+/// How many records wait in the queue at a time: more than six of its blocks hold.
+const WAITING: u64 = 200;
 
 /// The batch of one Set that takes this number.
 fn numbered(rt: &impl Abort, alloc: Global, first: u64) -> Numbered
@@ -79,7 +82,7 @@ fn opened(rt: &impl Abort, alloc: Global) -> (RecordFlow, Sender, FlushPass)
     (flow, sender_of(alloc, sends), pops)
 }
 
-/// Sends the record of the next number. Answers whether there was room.
+/// Sends the record of the next number. Answers whether there was memory.
 fn send_next<R: Abort + Wait>(rt: &R, flow: &RecordFlow, sender: &mut Sender) -> bool
     requires { send_queue sender.old.pass ≡ flow_id flow.now }
     ensures { send_queue sender.new.pass ≡ flow_id flow.now }
@@ -102,14 +105,16 @@ fn send_next<R: Abort + Wait>(rt: &R, flow: &RecordFlow, sender: &mut Sender) ->
     }
 }
 
-/// Sends so many records, for which there is room.
-fn send_some<R: Abort + Wait>(rt: &R, flow: &RecordFlow, sender: &mut Sender, count: usize)
+/// Sends so many records. Where memory for one was lacking, it is sent again.
+fn send_some<R: Abort + Wait>(rt: &R, flow: &RecordFlow, sender: &mut Sender, count: u64)
     requires { send_queue sender.old.pass ≡ flow_id flow.now }
     ensures { send_queue sender.new.pass ≡ flow_id flow.now }
 {
     for _ in 0..count {
-        let sent = send_next(rt, flow, sender);
-        assert!(rt; sent, "there is room");
+        if !send_next(rt, flow, sender) {
+            let sent = send_next(rt, flow, sender);
+            assert!(rt; sent, "there is memory");
+        }
     }
 }
 
@@ -124,7 +129,17 @@ fn take_next<R: Abort + Wait>(rt: &R, flow: &RecordFlow, pass: &mut FlushPass, n
     assert_eq!(rt; first_of(&node), Some(number));
 }
 
-/// Sends many records with the pass of a new queue, and waits where the queue is full.
+/// Takes the records of the numbers from `first` on, short of `end`.
+fn take_some<R: Abort + Wait>(rt: &R, flow: &RecordFlow, pass: &mut FlushPass, first: u64, end: u64)
+    requires { flush_queue pass.old ≡ flow_id flow.now }
+    ensures { flush_queue pass.new ≡ flow_id flow.now }
+{
+    for number in first..end {
+        take_next(rt, flow, pass, number);
+    }
+}
+
+/// Sends many records with the pass of a new queue, and waits where memory is lacking.
 fn send_all<R: Abort + Wait>(rt: &R, flow: &RecordFlow, alloc: Global, pass: SendPass) -> SendPass
     requires queue { send_queue pass ≡ flow_id flow.now }
     requires new { send_view pass ≡ send_opened FIRST }
@@ -179,7 +194,7 @@ fn between_threads<R: Threads + Abort + Wait + Sync>(rt: &R, alloc: Global) {
             ensures { flush_queue result ≡ flow_id shared.entry.now }
         { take_all(rt, shared, pops) },
     );
-    flow.end(&mut pops, sends);
+    flow.end(rt, &mut pops, sends);
     assert!(rt; flow.take(rt, &mut pops).is_none());
 }
 
@@ -188,15 +203,15 @@ fn records_pass_between_two_threads_in_order(rt: HostRuntime) {
     between_threads(&rt, rt.alloc());
 }
 
+/// Nobody takes until the last one is sent.
 #[test]
-fn a_full_queue_gives_the_node_back(rt: HostRuntime) {
+fn any_number_of_records_waits_in_order(rt: HostRuntime) {
     let (flow, mut sender, mut pops) = opened(&rt, rt.alloc());
-    send_some(&rt, &flow, &mut sender, CAPACITY);
-    let sent = send_next(&rt, &flow, &mut sender);
-    assert!(rt; !sent, "the 65th finds no room");
-    take_next(&rt, &flow, &mut pops, FIRST);
-    let sent = send_next(&rt, &flow, &mut sender);
-    assert!(rt; sent, "there is room again");
+    send_some(&rt, &flow, &mut sender, WAITING);
+    take_some(&rt, &flow, &mut pops, FIRST, FIRST + WAITING);
+    assert!(rt; flow.take(&rt, &mut pops).is_none());
+    send_some(&rt, &flow, &mut sender, 1);
+    take_next(&rt, &flow, &mut pops, FIRST + WAITING);
 }
 
 #[test]
@@ -205,10 +220,19 @@ fn what_is_left_at_the_end_is_taken(rt: HostRuntime) {
     send_some(&rt, &flow, &mut sender, 3);
     take_next(&rt, &flow, &mut pops, FIRST);
     let Sender { pass, .. } = sender;
-    flow.end(&mut pops, pass);
+    flow.end(&rt, &mut pops, pass);
     take_next(&rt, &flow, &mut pops, FIRST + 1);
     take_next(&rt, &flow, &mut pops, FIRST + 2);
     assert!(rt; flow.take(&rt, &mut pops).is_none());
+}
+
+/// The records are left in several blocks, of which the first is taken in part.
+#[test]
+fn a_queue_may_be_dropped_with_records_left(rt: HostRuntime) {
+    let (flow, mut sender, mut pops) = opened(&rt, rt.alloc());
+    send_some(&rt, &flow, &mut sender, WAITING);
+    take_next(&rt, &flow, &mut pops, FIRST);
+    drop(flow);
 }
 
 /// An allocation is refused only where that is asked for, and then once: `rt try --test --fail-alloc N`.

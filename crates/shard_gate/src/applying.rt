@@ -11,7 +11,6 @@ use crate::gate::ShardGate;
 use commit_queue::Holder;
 use memtable_shards::{PieceNode, Pieces};
 use std::sync::Wait;
-use std::thread;
 
 /// The shard is with another seat. The piece comes back.
 #[derive(Drop)]
@@ -69,12 +68,13 @@ impl<'t> ShardGate<'t> {
         ensures applied { AppliesOne (H.view h.old) shard (H.view h.new) }
     {
         let mut piece = piece;
+        let mut waiter = self.table.await_shard();
         for _ in rt.forever() {
             match self.try_apply(h, shard, piece) {
                 Ok(()) => return,
                 Err(busy) => piece = busy.piece,
             }
-            thread::yield_now();
+            waiter.wait(rt);
         }
         unreachable!()
     }

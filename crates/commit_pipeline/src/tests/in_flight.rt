@@ -4,8 +4,7 @@ ghost use Rattle.batch_repr.specs.declared.limits.TheConstants.{NUMBER_FIRST};
 ghost use Rattle.failover_writer.specs.State.{len};
 
 use super::fresh::Fresh;
-use super::{Act, CommitsOne, TURNS, one_set, run};
-use crate::locking::lock_soon;
+use super::{Act, CommitsOne, counted, one_set, run};
 use crate::{Gate, GatePoint, PipeName, Pipeline, Session};
 use disk_face::{Disk, Side};
 use failover_writer::Journal;
@@ -15,7 +14,6 @@ use std::process::Abort;
 use std::sync::Wait;
 use std::sync::atomic::{AtomicBool, AtomicU64, Ordering};
 use std::sync::ledger::Ledger;
-use std::thread;
 
 /// For so many polls the first operation is in flight: more than the commits of a test make without a wait.
 const POLLS: u32 = 200;
@@ -28,17 +26,6 @@ fn stalled(rt: &impl Abort, alloc: Global, fresh: Fresh) -> Journal<MemDisk>
     let mut journal = fresh.journal(rt, alloc, 1_000);
     journal.stall(Side::Primary, POLLS);
     journal
-}
-
-/// Waits until so many are counted, for so many turns at most. Answers whether they were.
-fn counted(count: &AtomicU64, least: u64) -> bool {
-    for _ in 0..TURNS {
-        if count.load(Ordering::SeqCst) >= least {
-            return true;
-        }
-        thread::yield_now();
-    }
-    false
 }
 
 /// A gate that has all sessions but the first one begin once the operation for its batch is in flight, and holds the
@@ -107,7 +94,7 @@ impl<'a> Act<InFlight> for CommitsInFlight<'a> {
             .expect(rt, "a commit");
         let reply = pipe.get(rt, session, &[key]).expect(rt, "memory");
         assert!(rt; reply.value.is_some() && reply.visible > committed.first);
-        assert_eq!(rt; lock_soon(rt, &pipe.log.lock).journal.acked(), 0);
+        assert_eq!(rt; pipe.log.lock.lock(rt).journal.acked(), 0);
         self.gate.unsynced.fetch_add(1, Ordering::SeqCst);
     }
 }

@@ -5,7 +5,6 @@ ghost use Rattle.failover_writer.specs.State.{len};
 
 use super::fresh::Fresh;
 use super::{Act, one_set, run};
-use crate::locking::lock_soon;
 use crate::{CommitFault, Committed, NoGate, PipeName, Pipeline, Session};
 use batch_repr::NUMBER_FIRST;
 use disk_face::{CallLog, Disk, DiskErr, DiskOp, Names, OpId, Progress, SegName, Side};
@@ -110,7 +109,7 @@ impl Act<NoGate> for SyncsLate {
         let batch = one_set(rt, alloc, b'a', b'1');
         let answer = pipe.commit(rt, session, batch, true);
         assert_eq!(rt; answer, self.answer);
-        let log = lock_soon(rt, &pipe.log.lock);
+        let log = pipe.log.lock.lock(rt);
         assert!(rt; log.journal.dead().is_some());
         assert_eq!(rt; log.journal.acked(), self.acked);
     }

@@ -3,7 +3,6 @@ ghost use Rattle.std.specs.Prelude.{◌≡◌, true};
 
 use super::{Play, new_journal, one_set, play_out};
 use crate::desk::Desk;
-use crate::locking::lock_soon;
 use crate::{NoGate, PipeName, Pipeline, Session, Sessions};
 use batch_repr::{Batch, NUMBER_FIRST};
 use disk_face::{Disk, SegName, Side, StallDisk};
@@ -163,7 +162,7 @@ impl<N: PipeName, M: Ledger> Idle<N, M> {
         rt: &R,
         pipe: &Pipeline<'_, D, NoGate, N, M>,
     ) -> Step {
-        let mut log = lock_soon(rt, &pipe.log.lock);
+        let mut log = pipe.log.lock.lock(rt);
         match log.step_for(rt, &pipe.table, &pipe.log.flow, &mut self.desk, 0) {
             Ok(step) => step,
             Err(_) => panic!(rt; "a step"),
@@ -197,7 +196,7 @@ fn take_in<D: Disk, N: PipeName, M: Ledger, R: Wait>(
         return;
     }
     if played.call(calls) {
-        lock_soon(rt, &pipe.log.lock).take_in(rt, &pipe.log.flow);
+        pipe.log.lock.lock(rt).take_in(rt, &pipe.log.flow);
         played.on_way = 0;
     }
 }
@@ -212,7 +211,7 @@ fn step_until<D: Disk, N: PipeName, M: Ledger, R: Wait + Abort>(
 ) {
     for _ in 0..STEPS {
         if let Some(acked) = acked
-            && lock_soon(rt, &pipe.log.lock).journal.acked() >= acked
+            && pipe.log.lock.lock(rt).journal.acked() >= acked
         {
             return;
         }

@@ -1,5 +1,5 @@
 use Rattle.record_flow.proofs.Flows.{begins}
 use Rattle.record_flow.proofs.flow.RecordFlow.new.Goals as goal
 
-pub ruled-requires-clause-rule : goal.ruled-requires-clause-rule
-ruled-requires-clause-rule c = begins
+pub with_rule-requires : goal.with_rule-requires
+with_rule-requires c = begins

@@ -6,7 +6,7 @@ use Rattle.commit_queue.specs.declared.seats.SessionSeat.{SessionSeat}
 use Rattle.commit_pipeline.specs.Numbering.{HoldsNumbered, numbered}
 use Rattle.commit_pipeline.proofs.PublishesHeld.{numbered_end}
 use Rattle.commit_pipeline.proofs.TellsCommit.{HasPublished, has_published, has_not_waited, session_commits}
-use Rattle.commit_pipeline.proofs.tests.full_queue.commit_unwritten.Goals as goal
+use Rattle.commit_pipeline.proofs.tests.on_the_way.commit_unwritten.Goals as goal
 
 pub publish-requires-clause-end : goal.publish-requires-clause-end
 publish-requires-clause-end g c =

@@ -1,0 +1,10 @@
+-- Nothing stands on an empty disk, so nothing was sent to a segment.
+use Rattle.std.proofs.Common.{sym, subst}
+use Rattle.disk_face.specs.View.{segment}
+use Rattle.log_writer.specs.Fits.{IsUnsent}
+use Rattle.failover_writer.specs.Ranges.{side_at}
+use Rattle.commit_pipeline.proofs.tests.groups.counted_journal.Goals as goal
+
+pub start-requires-clause-absent : goal.start-requires-clause-absent
+start-requires-clause-absent g c told index low high = subst IsUnsent
+    (sym (c.new-disk.result.empty (segment (side_at index) (record { wal = 1; index = index })))) (tt, λ f is. cc)
