@@ -1,14 +1,16 @@
 -- Line by line, from the last one on, each session has its lines.
-use Rattle.std.specs.Prelude.{◌≡◌, ◌⊎◌, ℕ, zero, suc, ◌<◌, Bool, true, false, cond, List, [], ◌∷◌, ◌++◌, length, map, Some, slice_get, slice_set}
-use Rattle.std.proofs.Common.{inl, inr, refl, sym, ap, ◌∙◌, subst, append_assoc, ne_eqb}
-use Rattle.std.proofs.lemmas.List.{append-nil, length-set}
+use Rattle.std.specs.Prelude.{◌≡◌, ◌⊎◌, ℕ, zero, suc, ◌+◌, ◌<◌, ◌≤◌, Bool, true, false, cond, List, [], ◌∷◌, ◌++◌, length, map, take, Some, slice_get, slice_index, slice_index_or, slice_set}
+use Rattle.std.proofs.Common.{inl, inr, refl, sym, ap, ◌∙◌, subst, append_assoc, ne_eqb, arith, length-append, length-take, get_or-set_same, get_or-set_other}
+use Rattle.std.proofs.lemmas.List.{append-nil, length-set, take_more}
+use Rattle.std.proofs.lemmas.List.Elements.{filter-append}
+use Rattle.std.proofs.lemmas.List.Sums.{length-filter, count_by-le-length}
 use Rattle.std.proofs.lemmas.Bool.{eq-eqb}
 use Rattle.session_script.specs.Script.{LinesAreOfSome}
 use Rattle.session_script.specs.declared.script.Line.{Line}
 use Rattle.session_script.specs.Legal.{is_of, lines_of_session}
 use Rattle.commit_pipeline.specs.declared.standing.Standing.{Standing}
 use Rattle.session_rounds.specs.declared.course.Course.{Course}
-use Rattle.session_rounds.specs.Turns.{turn_with, beginning, with_line, AreDealt}
+use Rattle.session_rounds.specs.Turns.{turn_with, beginning, with_line, CountsLines, AreDealt}
 
 -- The turns as they begin are those of no line.
 beginning_at : (ss : List Standing) (i : ℕ) (s : Standing) → slice_get ss i ≡ Some s → slice_get (map beginning ss) i ≡ Some (turn_with s [])
@@ -117,3 +119,41 @@ one_more ss all old new line ts t t' so taken there is = record {
 pub all_dealt : (ss : List Standing) (all left : List Line) (ts : List Course) → DealtSoFar ss all left ts → left ≡ [] → AreDealt ss all ts
 all_dealt ss all left ts so none =
     subst (λ (l : List Line). AreDealt ss l ts) (ap (λ (l : List Line). l ++ so.rest) (sym none) ∙ so.is) so.dealt
+
+-- ---- how many each session has
+
+-- A line at a place is of one of the sessions.
+pub is_of_some : (n : ℕ) (lines : List Line) (k : ℕ) (line : Line) → LinesAreOfSome n lines → k < length lines
+    → (slice_index_or lines k line).session < n
+is_of_some n [] k line all below = absurd (omega (arith, below))
+is_of_some n (l ∷ lines) zero line all below = all.0
+is_of_some n (l ∷ lines) (suc k) line all below = is_of_some n lines k line all.1 (omega (arith, below))
+
+-- No session has more of the first lines than there are.
+pub counts_within : (lines : List Line) (k i : ℕ) (counts : List ℕ) → CountsLines (take k lines) counts → slice_index counts i ≤ k
+counts_within lines k i counts so =
+    omega (arith, so i, length-filter (is_of i) (take k lines), count_by-le-length (is_of i) (take k lines), length-take k lines)
+
+-- One more line is counted.
+pub one_counted : (lines : List Line) (k : ℕ) (line : Line) (counts : List ℕ) (was : ℕ) → k < length lines → line ≡ slice_index_or lines k line
+    → line.session < length counts → was ≡ slice_index counts line.session → CountsLines (take k lines) counts
+    → CountsLines (take (k + 1) lines) (slice_set counts line.session (was + 1))
+one_counted lines k line counts was below is named here so i =
+    let more : take (k + 1) lines ≡ take k lines ++ line ∷ [] =
+    take_more lines k line below ∙ ap (λ (l : Line). take k lines ++ l ∷ []) (sym is) in
+    let grown : length (lines_of_session i (take (k + 1) lines))
+    ≡ length (lines_of_session i (take k lines)) + length (lines_of_session i (line ∷ [])) =
+    ap (λ (l : List Line). length (lines_of_session i l)) more ∙ ap length (filter-append (is_of i) (take k lines) (line ∷ []))
+    ∙ length-append (lines_of_session i (take k lines)) (lines_of_session i (line ∷ [])) in
+    elim (same_or line.session i) [
+      | inl same ↦
+          let own : length (lines_of_session i (line ∷ [])) ≡ 1 = ap length (own_line i line [] true (eq-eqb line.session i same)) in
+          let now : slice_index (slice_set counts line.session (was + 1)) i ≡ was + 1 =
+          ap (slice_index (slice_set counts line.session (was + 1))) (sym same) ∙ get_or-set_same counts line.session (was + 1) 0 named in
+          omega (arith, grown, now, own, so i, here, ap (slice_index counts) same)
+      | inr apart ↦
+          let own : length (lines_of_session i (line ∷ [])) ≡ 0 = ap length (own_line i line [] false (ne_eqb line.session i apart)) in
+          let now : slice_index (slice_set counts line.session (was + 1)) i ≡ slice_index counts i =
+          get_or-set_other counts line.session i (was + 1) 0 (λ same. apart (sym same)) in
+          omega (arith, grown, now, own, so i)
+    ]

@@ -14,3 +14,4 @@ mod DeathLasts
 mod PlaysTurn
 mod AreDealt
 mod Played
+mod EachIsLeft

@@ -2,3 +2,4 @@ pub mod Acts
 pub mod Playing
 pub mod Turns
 pub mod Legality
+pub mod Threads

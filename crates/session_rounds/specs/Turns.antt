@@ -1,5 +1,5 @@
 -- The turns of the sessions in a round: the session, its lines that are still to do, and what was answered so far.
-use Rattle.std.specs.Prelude.{◌≡◌, ℕ, ◌<◌, false, List, [], ◌∷◌, ◌++◌, length, map, Some, slice_get, slice_index_or}
+use Rattle.std.specs.Prelude.{◌≡◌, ℕ, ◌<◌, Bool, false, ltb, List, [], ◌∷◌, ◌++◌, length, map, Some, slice_get, slice_index, slice_index_or}
 use Rattle.std.specs.List.{AllByRecursion}
 use Rattle.session_script.specs.declared.script.Line.{Line}
 use Rattle.session_script.specs.Legal.{Replied, lines_of_session}
@@ -13,6 +13,10 @@ use Rattle.session_rounds.specs.Playing.{answers_of}
 -- the turn of a session with these lines, before it is played
 abbrev pub turn_with : Standing → List Line → Course
 turn_with s lines = record { session = s; lines = lines; answers = []; starved = false }
+
+-- whether a session has a line that is still to do
+abbrev pub has_line : Course → Bool
+has_line t = ltb 0 (length t.lines)
 
 -- the turn of a session with no line
 abbrev pub beginning : Standing → Course
@@ -29,6 +33,10 @@ session_of t = t.session
 -- the answers of a turn
 abbrev pub answers_in : Course → List Answer
 answers_in t = t.answers
+
+-- The lines are counted session by session.
+abbrev pub CountsLines : List Line → List ℕ → Type 0
+CountsLines lines counts = (i : ℕ) → slice_index counts i ≡ length (lines_of_session i lines)
 
 -- Each session has its lines of the round.
 pub record AreDealt (ss : List Standing) (lines : List Line) (ts : List Course) : Type 0 where

@@ -1,5 +1,6 @@
-//! The rounds of a run, played by sessions beside one another: each session does its lines of a
-//! round on a thread of its own, and between two rounds all sessions meet.
+//! The rounds of a run, played by sessions beside one another: the sessions that have lines in a
+//! round do them on threads of their own, and between two rounds all sessions meet. A session
+//! without a line starts no thread, and a single session with lines plays in place.
 //!
 //! Stands on `commit_pipeline` for commits and reads, and on `session_script` for lines, replies and
 //! what is legal. The layer above uses one contract and three laws: `play_round` tells what each session
@@ -11,6 +12,7 @@ mod answers;
 mod course;
 mod playing;
 mod theorems;
+mod threads;
 mod turns;
 
 pub use answers::{Answer, Answers};

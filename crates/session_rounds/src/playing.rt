@@ -4,26 +4,23 @@ ghost use Rattle.std.specs.Prelude.{◌≡◌, ◌++◌, length, map, IfOk, OnOk
 ghost use Rattle.std.specs.List.{flat_map};
 ghost use Rattle.session_script.specs.Script.{LinesAreOfSome};
 ghost use Rattle.session_rounds.specs.Playing.{AnswersPlayed};
-ghost use Rattle.session_rounds.specs.Turns.{beginning, session_of, answers_in, AreDealt, NoneStarved, PlayAll};
+ghost use Rattle.session_rounds.specs.Turns.{beginning, session_of, answers_in, CountsLines, AreDealt, NoneStarved};
 
 use crate::answers::Answers;
+use crate::threads::play_all;
 use crate::turns::Turn;
 use commit_pipeline::{Gate, PipeName, Pipeline, Sessions};
 use disk_face::Disk;
-use session_script::Lines;
+use session_script::{Line, Lines};
 use std::alloc::Global;
 use std::sync::Wait;
 use std::sync::ledger::Ledger;
-use std::thread;
 use std::thread::Threads;
 use wal_base::NoMemory;
 
-/// How many threads play a round at most.
-const THREADS: usize = 64;
-
-/// Plays a round: each session does its lines in their order, on a thread beside those of the others.
-/// The answers stand session by session. A session that runs out of memory stops, the others go on,
-/// and then `Err` is answered.
+/// Plays a round: each session that has lines does them in their order, on a thread beside those
+/// of the others. A session without a line costs no thread. The answers stand session by session.
+/// A session that runs out of memory stops, the others go on, and then `Err` is answered.
 pub fn play_round<
     D: Disk + Send,
     G: Gate + Sync,
@@ -46,7 +43,7 @@ pub fn play_round<
 }
 
 /// Gives each session its lines, in their order.
-fn deal<N: PipeName, M: Ledger>(
+pub(crate) fn deal<N: PipeName, M: Ledger>(
     alloc: Global,
     sessions: Sessions<N, M>,
     lines: Lines,
@@ -54,9 +51,8 @@ fn deal<N: PipeName, M: Ledger>(
     requires { LinesAreOfSome (length sessions.items) lines }
     ensures { IfOk result (λ turns. AreDealt sessions.items lines turns.items) }
 {
-    // Where the sessions have as many lines each, none is moved as more come.
-    let room = lines.len() / sessions.len().max(1) + 1;
-    let mut turns = begin_all(alloc, sessions, room)?;
+    let rooms = count_lines(alloc, sessions.len(), lines.as_slice())?;
+    let mut turns = begin_all(alloc, sessions, rooms.as_slice())?;
     let mut left = lines;
     while let Some(line) = left.pop() {
         let session = line.session as usize;
@@ -65,41 +61,40 @@ fn deal<N: PipeName, M: Ledger>(
     Ok(turns)
 }
 
-/// A turn for each session, with no line yet.
+/// How many lines each session has. Where there are none at all, nothing is allocated.
+fn count_lines(alloc: Global, sessions: usize, lines: &[Line]) -> Result<Vec<usize>, NoMemory>
+    requires { LinesAreOfSome sessions lines.now }
+    ensures { IfOk result (λ counts. CountsLines lines.now counts.items) }
+{
+    if lines.is_empty() {
+        return Ok(Vec::new(alloc));
+    }
+    let mut counts = vec![in alloc; 0usize; sessions]?;
+    for line in lines {
+        counts[line.session as usize] += 1;
+    }
+    Ok(counts)
+}
+
+/// A turn for each session, with no line yet, and room for as many as it is to have: then none is
+/// moved as more come, and a session without a line allocates nothing.
 fn begin_all<N: PipeName, M: Ledger>(
     alloc: Global,
     sessions: Sessions<N, M>,
-    room: usize,
+    rooms: &[usize],
 ) -> Result<Vec<Turn<N, M>>, NoMemory>
     ensures { IfOk result (λ turns. turns.items ≡ map beginning sessions.items) }
 {
     let mut turns = Vec::with_capacity(alloc, sessions.len())?;
     for session in sessions {
+        let room = rooms.get(turns.len()).copied().unwrap_or(0);
         turns.push(Turn::of(alloc, session, room)?)?;
     }
     Ok(turns)
 }
 
-/// Each session does its lines, on a thread beside those of the others.
-fn play_all<
-    D: Disk + Send,
-    G: Gate + Sync,
-    N: PipeName + Send + Sync,
-    M: Ledger + Send + Sync,
-    R: Threads + Wait + Sync,
->(rt: &R, alloc: Global, pipe: &Pipeline<'_, D, G, N, M>, turns: &mut [Turn<N, M>])
-    ensures { PlayAll N.opening turns.old turns.new }
-{
-    thread::for_each_mut(
-        rt,
-        turns,
-        THREADS,
-        &|_, turn: &mut Turn<N, M>| turn.play(rt, alloc, pipe),
-    );
-}
-
 /// Takes the sessions and their answers out of their turns, unless one ran out of memory.
-fn gather<N: PipeName, M: Ledger>(
+pub(crate) fn gather<N: PipeName, M: Ledger>(
     alloc: Global,
     turns: Vec<Turn<N, M>>,
 ) -> Result<(Sessions<N, M>, Answers), NoMemory>

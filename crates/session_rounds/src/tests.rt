@@ -1,13 +1,15 @@
 //! What a round comes to, by examples.
-ghost use Rattle.std.specs.Prelude.{◌≡◌, ◌+◌, ◌≤◌};
+ghost use Rattle.std.specs.Prelude.{◌≡◌, ◌+◌, ◌≤◌, length};
 ghost use Rattle.batch_repr.specs.declared.limits.TheConstants.{NUMBER_FIRST, SESSIONS_MAX};
 ghost use Rattle.session_script.specs.Script.{LinesAreOfSome};
 ghost use Rattle.commit_pipeline.specs.Openings.{opening_on};
 ghost use Rattle.failover_writer.specs.State.{len};
 
+use crate::playing::{deal, gather};
+use crate::threads::middle;
 use crate::{Answer, Answers, play_round};
 use batch_repr::{Batches, NUMBER_FIRST, Unwritten};
-use commit_pipeline::{NoGate, Parts, PipeName, Pipeline};
+use commit_pipeline::{NoGate, Parts, PipeName, Pipeline, Sessions};
 use disk_face::Disk;
 use failover_writer::Journal;
 use mem_disk::MemDisk;
@@ -54,17 +56,38 @@ fn get_line(rt: &impl Abort, alloc: Global, session: u32) -> Line
     }
 }
 
-/// The lines of a round: each session, the last one first, sets its key, and then each reads it.
-fn lines_of(rt: &impl Abort, alloc: Global, sessions: u32) -> Lines
-    ensures { LinesAreOfSome sessions result }
+/// Of so many sessions these have lines: so many from a first one on.
+#[derive(Clone, Copy)]
+struct Row {
+    sessions: u32,
+    first: u32,
+    count: u32,
+}
+
+/// The row of these numbers.
+fn chosen(sessions: u32, first: u32, count: u32) -> Row
+    ensures { (result.sessions ≡ sessions) × (result.first ≡ first) × (result.count ≡ count) }
+{
+    Row {
+        sessions,
+        first,
+        count,
+    }
+}
+
+/// The lines of a round: each session that has some, the last one first, sets its key, and then
+/// each reads it.
+fn lines_of(rt: &impl Abort, alloc: Global, row: Row) -> Lines
+    requires { row.first + row.count ≤ row.sessions }
+    ensures { LinesAreOfSome row.sessions result }
 {
     let mut lines = Lines::new(alloc);
-    for k in 0..sessions {
-        let line = set_line(rt, alloc, sessions - 1 - k, 7);
+    for k in 0..row.count {
+        let line = set_line(rt, alloc, row.first + (row.count - 1 - k), 7);
         assert!(rt; lines.push(line).is_ok());
     }
-    for session in 0..sessions {
-        assert!(rt; lines.push(get_line(rt, alloc, session)).is_ok());
+    for place in 0..row.count {
+        assert!(rt; lines.push(get_line(rt, alloc, row.first + place)).is_ok());
     }
     lines
 }
@@ -81,21 +104,22 @@ fn new_journal(rt: &impl Abort, alloc: Global) -> Journal<MemDisk>
     }
 }
 
-/// Plays a round of so many new sessions over a journal of no record.
+/// Plays a round of new sessions over a journal of no record.
 fn played<D: Disk + Drop + Send, R: Threads + Wait + Abort + Sync>(
     rt: &R,
     alloc: Global,
     journal: Journal<D>,
-    sessions: u32,
+    row: Row,
+    split: Option<usize>,
 ) -> Answers
-    requires sessions { (1 ≤ sessions) × (sessions ≤ SESSIONS_MAX) }
+    requires sessions { (1 ≤ row.sessions) × (row.sessions ≤ SESSIONS_MAX) }
+    requires row { row.first + row.count ≤ row.sessions }
     requires empty { len journal.state ≡ 0 }
     requires next { journal.state.next ≡ NUMBER_FIRST }
 {
     let base = Batches::new(alloc);
-    let parts = Parts::new(alloc, &base, NUMBER_FIRST, sessions as usize).expect(rt, "memory");
-    let lines = lines_of(rt, alloc, sessions);
-    with_table::<D, Brand, R>(rt, alloc, parts, journal, lines)
+    let parts = Parts::new(alloc, &base, NUMBER_FIRST, row.sessions as usize).expect(rt, "memory");
+    with_table::<D, Brand, R>(rt, alloc, parts, journal, row, split)
 }
 
 /// The name of the table is picked.
@@ -104,7 +128,8 @@ fn with_table<D: Disk + Drop + Send, N: PipeName + Send + Sync, R: Threads + Wai
     alloc: Global,
     parts: Parts,
     journal: Journal<D>,
-    lines: Lines,
+    row: Row,
+    split: Option<usize>,
 ) -> Answers
     requires opening { N.opening ≡ opening_on D.view parts.base journal N.opening.may_stall }
     requires table { parts.table ≡ N.table }
@@ -112,9 +137,9 @@ fn with_table<D: Disk + Drop + Send, N: PipeName + Send + Sync, R: Threads + Wai
     requires batches { (parts.batches ≡ N.name) × (parts.sessions ≡ N.parts) }
     requires empty { len journal.state ≡ 0 }
     requires next { journal.state.next ≡ parts.next }
-    requires lines { LinesAreOfSome parts.sessions lines }
+    requires row { (row.first + row.count ≤ row.sessions) × (row.sessions ≡ parts.sessions) }
 {
-    with_names::<D, N, Brand, R>(rt, alloc, parts, journal, lines)
+    with_names::<D, N, Brand, R>(rt, alloc, parts, journal, row, split)
 }
 
 /// All names are picked.
@@ -123,7 +148,14 @@ fn with_names<
     N: PipeName + Send + Sync,
     M: Ledger + Send + Sync,
     R: Threads + Wait + Abort + Sync,
->(rt: &R, alloc: Global, parts: Parts, journal: Journal<D>, lines: Lines) -> Answers
+>(
+    rt: &R,
+    alloc: Global,
+    parts: Parts,
+    journal: Journal<D>,
+    row: Row,
+    split: Option<usize>,
+) -> Answers
     requires opening { N.opening ≡ opening_on D.view parts.base journal N.opening.may_stall }
     requires table { parts.table ≡ N.table }
     requires queue { parts.queue ≡ N.queue }
@@ -131,16 +163,35 @@ fn with_names<
     requires answers { (parts.answers ≡ M.name) × (parts.sessions + parts.sessions ≡ M.parts) }
     requires empty { len journal.state ≡ 0 }
     requires next { journal.state.next ≡ parts.next }
-    requires lines { LinesAreOfSome parts.sessions lines }
+    requires row { (row.first + row.count ≤ row.sessions) × (row.sessions ≡ parts.sessions) }
 {
     let made = Pipeline::<D, NoGate, N, M>::new(journal, parts, &NoGate);
     let Ok((pipe, sessions)) = made else {
         panic!(rt; "memory");
     };
-    let count = sessions.len();
+    let sessions = split_there(rt, alloc, sessions, row, split);
+    let lines = lines_of(rt, alloc, row);
     let (sessions, answers) = play_round(rt, alloc, &pipe, sessions, lines).expect(rt, "memory");
-    assert_eq!(rt; sessions.len(), count);
+    assert_eq!(rt; sessions.len(), row.sessions as usize);
     answers
+}
+
+/// Asserts where the turns of the round are split in two parts, and answers the sessions.
+fn split_there<N: PipeName, M: Ledger>(
+    rt: &impl Abort,
+    alloc: Global,
+    sessions: Sessions<N, M>,
+    row: Row,
+    split: Option<usize>,
+) -> Sessions<N, M>
+    requires row { (row.first + row.count ≤ row.sessions) × (row.sessions ≡ length sessions.items) }
+    ensures { length result.items ≡ row.sessions }
+{
+    let turns = deal(alloc, sessions, lines_of(rt, alloc, row)).expect(rt, "memory");
+    assert_eq!(rt; middle(turns.as_slice()), split);
+    let (sessions, _answers) = gather(alloc, turns).expect(rt, "memory");
+    assert_eq!(rt; sessions.len(), row.sessions as usize);
+    sessions
 }
 
 /// Asserts that it is the reply to the commit of the session's one entry, within so many numbers, and
@@ -179,17 +230,34 @@ fn has_read(rt: &impl Abort, answer: &Answer, session: u32, first: u64) {
     }
 }
 
+/// Plays a round, and asserts where it is split and that the answers stand session by session.
+fn plays<R: Threads + Wait + Abort + Sync>(rt: &R, alloc: Global, row: Row, split: Option<usize>)
+    requires sessions { (1 ≤ row.sessions) × (row.sessions ≤ SESSIONS_MAX) }
+    requires row { row.first + row.count ≤ row.sessions }
+{
+    let journal = new_journal(rt, alloc);
+    let answers = played(rt, alloc, journal, row, split);
+    let answers = answers.as_slice();
+    assert_eq!(rt; answers.len(), 2 * row.count as usize);
+    for k in 0..row.count {
+        let at = 2 * k as usize;
+        let session = row.first + k;
+        let number = committed(rt, &answers[at], session, row.count);
+        has_read(rt, &answers[at + 1], session, number);
+    }
+}
+
 #[test]
 fn each_session_reads_what_it_wrote(rt: HostRuntime) {
-    for sessions in [1u32, 2, 64] {
-        let journal = new_journal(&rt, rt.alloc());
-        let answers = played(&rt, rt.alloc(), journal, sessions);
-        let answers = answers.as_slice();
-        assert_eq!(rt; answers.len(), 2 * sessions as usize);
-        for session in 0..sessions {
-            let at = 2 * session as usize;
-            let first = committed(&rt, &answers[at], session, sessions);
-            has_read(&rt, &answers[at + 1], session, first);
-        }
-    }
+    plays(&rt, rt.alloc(), chosen(1, 0, 1), None);
+    plays(&rt, rt.alloc(), chosen(2, 0, 2), Some(1));
+    plays(&rt, rt.alloc(), chosen(64, 0, 64), Some(32));
+}
+
+#[test]
+fn sessions_without_a_line_answer_nothing(rt: HostRuntime) {
+    plays(&rt, rt.alloc(), chosen(64, 0, 0), None);
+    plays(&rt, rt.alloc(), chosen(64, 0, 1), None);
+    plays(&rt, rt.alloc(), chosen(64, 63, 1), None);
+    plays(&rt, rt.alloc(), chosen(64, 40, 3), Some(41));
 }

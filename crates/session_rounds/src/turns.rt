@@ -3,9 +3,10 @@
 ghost use Rattle.std.specs.Prelude.{◌≡◌, false, IfOk, OnOk};
 ghost use Rattle.session_script.specs.declared.script.Act.TheVariants.{Commit};
 ghost use Rattle.session_rounds.specs.Acts.{Does};
-ghost use Rattle.session_rounds.specs.Turns.{beginning, with_line, PlaysTurn};
+ghost use Rattle.session_rounds.specs.Turns.{has_line, beginning, with_line, PlaysTurn};
 
 use crate::answers::{Answer, Answers};
+use crate::threads::Work;
 use batch_repr::Unnumbered;
 use commit_pipeline::{CommitFault, Gate, PipeName, Pipeline, Session};
 use disk_face::Disk;
@@ -35,8 +36,16 @@ impl<N: PipeName, M: Ledger> Model for Turn<N, M> {
     ghost view = { λ t. record { session = t.session; lines = reverse t.lines; answers = t.answers; starved = t.starved } };
 }
 
+impl<N: PipeName, M: Ledger> Work for Turn<N, M> {
+    ghost has_work = { has_line };
+
+    fn is_at_work(&self) -> bool {
+        !self.lines.is_empty()
+    }
+}
+
 impl<N: PipeName, M: Ledger> Turn<N, M> {
-    /// A session with no line, and room for so many.
+    /// A session with no line, and room for so many and their answers.
     pub(crate) fn of(
         alloc: Global,
         session: Session<N, M>,
@@ -47,7 +56,7 @@ impl<N: PipeName, M: Ledger> Turn<N, M> {
         Ok(Turn {
             session,
             lines: Lines::with_capacity(alloc, room)?,
-            answers: Answers::new(alloc),
+            answers: Answers::with_capacity(alloc, room)?,
             starved: false,
         })
     }

@@ -6,10 +6,10 @@ use denote.Param.Send.{IsSync, sendable, given_sync}
 use Rattle.std.proofs.Crossing.{crosses}
 use Rattle.commit_pipeline.specs.contracts.pipeline.Pipeline as pipeline
 use Rattle.commit_pipeline.proofs.Laws.{pipeline_shared}
-use Rattle.session_rounds.proofs.playing.play_all.Goals as goal
+use Rattle.session_rounds.proofs.threads.play_all.Goals as goal
 
-pub for_each_mut-requires-sync-F : goal.for_each_mut-requires-sync-F
-for_each_mut-requires-sync-F g c κs within =
+pub share_out-requires-sync-F : goal.share_out-requires-sync-F
+share_out-requires-sync-F g c κs within =
     let shared : (ℓ : Lifetime) (κ : Lft) → IsSync (pipeline.the_row (record { mir = ℓ; lft = κ }) (param 0 g.row.D) (param 1 g.row.G)
     (param 2 g.row.N) (param 3 g.row.M) g.D.Disk g.N.PipeName g.N.Ledger g.M.Ledger) =
     λ ℓ κ. pipeline_shared (record { mir = ℓ; lft = κ }) (param 0 g.row.D) (param 1 g.row.G) (param 2 g.row.N) (param 3 g.row.M) g.D.Disk
