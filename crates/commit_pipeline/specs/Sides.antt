@@ -56,6 +56,10 @@ pub record MovesIn {Disk : Type 0} (tells : Bool) (view : Disk → DiskView) (ol
 abbrev pub AcksSynced : {Disk : Type 0} → FlushView Disk → FlushView Disk → Type 0
 AcksSynced old new = (raised : ℕ) × RaisesAcked old.seat (acked new.journal.state) raised new.seat
 
+-- It was raised so when it was raised last, whatever was done before.
+abbrev pub HasAckedSynced : {Disk : Type 0} → FlushView Disk → Type 0
+HasAckedSynced {Disk} new = (before : FlushView Disk) × AcksSynced before new
+
 -- They were moved until none was found, and then the journal was stepped as long as a step moved, which the acked word followed.
 pub record DrivesJournal {Disk : Type 0} (tells : Bool) (view : Disk → DiskView) (old new : FlushView Disk) : Type 0 where
   pub mid : FlushView Disk

@@ -55,7 +55,7 @@ impl<'a, D: Disk, G: Gate, N: PipeName, M: Ledger> Pipeline<'a, D, G, N, M> {
             lock,
             died: _died,
             left: _left,
-            releases: _releases,
+            bells: _bells,
         } = self.log;
         let mut log = lock.into_inner().into_inner();
         log.take_last(rt, &flow, sends);

@@ -8,7 +8,8 @@ ghost use Rattle.commit_queue.specs.Tables.{table_id_of};
 ghost use Rattle.commit_pipeline.specs.Desks.{Raises, known, TellsFault, deaths_stepped};
 ghost use Rattle.commit_pipeline.specs.Meeting.{HearDeaths, deaths_heard};
 ghost use Rattle.commit_pipeline.specs.Openings.{IsDeadBy};
-ghost use Rattle.commit_pipeline.specs.Sides.{MovesNodes, MovesIn, AcksSynced, DrivesJournal, StepsFor};
+ghost use Rattle.commit_pipeline.specs.Sides.{MovesNodes, MovesIn, AcksSynced, HasAckedSynced};
+ghost use Rattle.commit_pipeline.specs.Sides.{DrivesJournal, StepsFor};
 ghost use Rattle.commit_pipeline.specs.Logging.{SettlesJournal, FallsUnlessAcked};
 ghost use Rattle.commit_pipeline.specs.Ties.{IsNextTo};
 
@@ -212,6 +213,7 @@ impl<D: Disk, N: PipeName, M: Ledger> FlushSide<D, N, M> {
         ensures dead { Raises desk.old.dead (deaths_stepped result) desk.new.dead }
         ensures met { desk.new.told ≡ desk.old.told }
         ensures acked { OnOk result (index < acked self.new.journal.state) }
+        ensures acks { HasAckedSynced self.new }
         ensures unacked { IfErr result (λ fault. acked self.new.journal.state ≤ index) }
         ensures fault { IfErr result TellsFault }
     {

@@ -16,6 +16,7 @@
 //! book counts the answers that told of a death.
 #![tactic(auto)]
 
+mod bells;
 mod commit_side;
 mod desk;
 mod entering;

@@ -12,12 +12,12 @@ ghost use Rattle.commit_pipeline.specs.Commits.{TellsDeath};
 ghost use Rattle.commit_pipeline.specs.Desks.{Raises, known, TellsFault, deaths_led};
 ghost use Rattle.commit_pipeline.specs.Meeting.{deaths_heard};
 
+use crate::bells::Bells;
 use crate::desk::Desk;
 use crate::flush_side::FlushSide;
 use crate::name::PipeName;
-use commit_queue::{PipeTable, Waiter, rest};
+use commit_queue::{PipeTable, rest};
 use crossbeam_utils::CachePadded;
-use crossbeam_utils::sync::EventCount;
 use disk_face::Disk;
 use failover_writer::{DeadMark, JournalFault};
 use record_flow::{RecordFlow, SendPass};
@@ -38,8 +38,8 @@ pub(crate) struct LogSide<D: Disk, N: PipeName, M: Ledger> {
     pub(crate) died: AtomicBool,
     /// Whether a record was left to whoever has the lock.
     pub(crate) left: CachePadded<AtomicBool>,
-    /// Tells those who wait that the lock was let go.
-    pub(crate) releases: CachePadded<EventCount>,
+    /// Where sessions sleep until their batches are synced.
+    pub(crate) bells: Bells,
     ghost named: { flow_id flow ≡ N.queue },
 }
 
@@ -135,6 +135,7 @@ impl<D: Disk, N: PipeName, M: Ledger> LogSide<D, N, M> {
         &self,
         rt: &R,
         table: &PipeTable,
+        session: u32,
         desk: &mut Desk<N, M>,
         index: u64,
     ) -> Option<Result<(), JournalFault>>
@@ -147,14 +148,10 @@ impl<D: Disk, N: PipeName, M: Ledger> LogSide<D, N, M> {
         ensures fault { IfSome result (λ led. IfErr led TellsFault) }
     {
         let mut side = self.lock.try_lock()?;
+        self.bells.leave(session);
         let led = side.lead(rt, table, &self.flow, desk, index);
         self.release(rt, table, side);
         Some(led)
-    }
-
-    /// How a thread waits for the lock to be let go, and so for what is synced meanwhile.
-    pub(crate) fn await_release(&self) -> Waiter<'_> {
-        Waiter::on(&self.releases)
     }
 
     /// Lets the lock go, and does what was left to this thread meanwhile.
@@ -170,12 +167,14 @@ impl<D: Disk, N: PipeName, M: Ledger> LogSide<D, N, M> {
         self.drive_left(rt, table);
     }
 
-    /// Lets the lock go, and tells those who wait for it. Where the journal is dead, the word is set before.
+    /// Lets the lock go, and wakes those who have something to do then. Where the journal is dead, the word is set
+    /// before.
     fn let_go(&self, side: MutexGuard<'_, FlushSide<D, N, M>>) {
         if side.is_dead() {
             self.died.store(true, Ordering::SeqCst);
         }
+        let synced = side.journal.acked();
         drop(side);
-        self.releases.notify_all();
+        self.bells.ring(synced);
     }
 }

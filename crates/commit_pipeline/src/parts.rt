@@ -9,6 +9,7 @@ ghost use Rattle.commit_pipeline.specs.Openings.{EndsBefore, opening_on};
 ghost use Rattle.commit_pipeline.specs.Parts.{ArePartsOf, AreNew, AreSeatsOf, HaveReached, GainBatch};
 ghost use Rattle.commit_pipeline.specs.Ties.{IsSpare};
 
+use crate::bells::Bells;
 use crate::commit_side::CommitSide;
 use crate::desk::{DeathCount, Desk};
 use crate::flush_side::FlushSide;
@@ -20,7 +21,6 @@ use crate::session::{Session, Sessions};
 use batch_repr::{Batch, Batches};
 use commit_queue::{FlushSeat, PipeTable, ProducerSeat, SessionSeats, Shards};
 use crossbeam_utils::CachePadded;
-use crossbeam_utils::sync::EventCount;
 use disk_face::Disk;
 use failover_writer::Journal;
 use memtable_shards::{SHARDS, Shard, split_entries};
@@ -203,7 +203,7 @@ impl<'a, D: Disk, G: Gate, N: PipeName, M: Ledger> Pipeline<'a, D, G, N, M> {
                 lock,
                 died: AtomicBool::new(false),
                 left: CachePadded::new(AtomicBool::new(false)),
-                releases: CachePadded::new(EventCount::new()),
+                bells: Bells::new(),
             },
             gate,
         };

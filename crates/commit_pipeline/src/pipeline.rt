@@ -78,7 +78,7 @@ impl<'a, D: Disk, G: Gate, N: PipeName, M: Ledger> Pipeline<'a, D, G, N, M> {
                 count,
                 index,
             };
-            self.wait_acked(rt, desk, numbers)?;
+            self.wait_acked(rt, session.number, desk, numbers)?;
         } else {
             self.log.drive(rt, &self.table);
         }
@@ -201,6 +201,7 @@ impl<'a, D: Disk, G: Gate, N: PipeName, M: Ledger> Pipeline<'a, D, G, N, M> {
     fn wait_acked<R: Wait>(
         &self,
         rt: &R,
+        session: u32,
         desk: &mut Desk<N, M>,
         numbers: Numbers,
     ) -> Result<(), CommitFault>
@@ -211,15 +212,23 @@ impl<'a, D: Disk, G: Gate, N: PipeName, M: Ledger> Pipeline<'a, D, G, N, M> {
         ensures dead { Raises desk.old.dead (deaths_waited result) desk.new.dead }
         ensures met { desk.new.told ≡ desk.old.told }
     {
-        let mut waiter = self.log.await_release();
+        let bells = &self.log.bells;
+        let mut waiter = bells.waiter(session);
         for _ in rt.forever() {
             if self.table.acked(&mut desk.seat) > numbers.index {
+                bells.leave(session);
                 return Ok(());
             }
-            match self.log.lead(rt, &self.table, desk, numbers.index) {
+            let led = self
+                .log
+                .lead(rt, &self.table, session, desk, numbers.index);
+            match led {
                 Some(Ok(())) => {}
                 Some(Err(fault)) => return Err(numbers.unsynced(fault)),
-                None => waiter.wait(rt),
+                None => {
+                    bells.wait_for(session, numbers.index.saturating_add(1));
+                    waiter.wait(rt);
+                }
             }
         }
         unreachable!()
@@ -234,7 +243,7 @@ impl<'a, D: Disk, G: Gate, N: PipeName, M: Ledger> Pipeline<'a, D, G, N, M> {
             lock,
             died: _died,
             left: _left,
-            releases: _releases,
+            bells: _bells,
         } = self.log;
         lock.into_inner().into_inner().journal
     }

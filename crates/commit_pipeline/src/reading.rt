@@ -8,6 +8,7 @@ use crate::name::PipeName;
 use crate::pipeline::Pipeline;
 use crate::session::Session;
 use disk_face::Disk;
+use memtable_shards::shard_index;
 use shard_gate::{ReadBusy, ShardGate};
 use std::sync::Wait;
 use std::sync::ledger::Ledger;
@@ -27,7 +28,7 @@ impl<'a, D: Disk, G: Gate, N: PipeName, M: Ledger> Pipeline<'a, D, G, N, M> {
         let seat = &mut session.desk.seat;
         let visible = self.table.visible(seat);
         let shards = ShardGate::over(self.alloc, &self.table);
-        let mut waiter = self.table.await_shard();
+        let mut waiter = self.table.await_shard(shard_index(key));
         for _ in rt.forever() {
             match shards.try_newest(seat, key, visible) {
                 Ok(value) => return Ok(Reply { visible, value }),

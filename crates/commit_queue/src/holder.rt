@@ -180,6 +180,5 @@ impl PipeTable {
         ensures ended { EndsTurn (H.view h.old) applied (H.view h.new) }
     {
         h.give_shard_on(self, shard, applied);
-        self.returned.notify_all();
     }
 }

@@ -51,6 +51,7 @@ impl PipeTable {
             Some(_) => unreachable!(),
         }
         words.store::<GiveShard>(seat, shard + 67, 0);
+        self.returned[shard].notify_one();
     }
 
     /// Gives a shard back with the piece of the batch that the seat holds.
@@ -71,5 +72,6 @@ impl PipeTable {
             Some(_) => unreachable!(),
         }
         words.store::<GiveApplied>(seat, shard + 67, 0);
+        self.returned[shard].notify_one();
     }
 }

@@ -15,6 +15,7 @@ use crossbeam_utils::CachePadded;
 use crossbeam_utils::sync::EventCount;
 use memtable_shards::Shard;
 use std::alloc::Global;
+use std::array;
 use std::snapshot::Snapshot;
 use wal_base::{ListOf, NoMemory};
 
@@ -72,7 +73,7 @@ impl PipeTable {
         let table = PipeTable {
             table,
             published: CachePadded::new(EventCount::new()),
-            returned: CachePadded::new(EventCount::new()),
+            returned: array::from_fn(|_| CachePadded::new(EventCount::new())),
         };
         Ok((table, p))
     }

@@ -9,7 +9,7 @@ use crate::view::View;
 use atomic_table::{Seat, Table, TableRule};
 use crossbeam_utils::CachePadded;
 use crossbeam_utils::sync::EventCount;
-use memtable_shards::Shard;
+use memtable_shards::{SHARDS, Shard};
 use std::alloc::Global;
 use std::snapshot::Snapshot;
 use wal_base::ListOf;
@@ -48,8 +48,8 @@ pub struct PipeTable {
     pub(crate) table: AtomicTable,
     /// Tells those who wait that batches were published.
     pub(crate) published: CachePadded<EventCount>,
-    /// Tells those who wait that a shard was given back.
-    pub(crate) returned: CachePadded<EventCount>,
+    /// Tells one of those who wait for a shard that it was given back.
+    pub(crate) returned: [CachePadded<EventCount>; SHARDS],
     ghost words: { table.shared.table_id.words ≡ 75 },
     ghost slots: { table.shared.table_id.slots ≡ 8 },
 }

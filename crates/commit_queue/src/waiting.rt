@@ -1,5 +1,6 @@
 //! How a thread waits, and the calls that may: for memory, or until a batch is visible.
-ghost use Rattle.std.specs.Prelude.{◌≡◌};
+ghost use Rattle.std.specs.Prelude.{◌≡◌, ◌<◌};
+ghost use Rattle.memtable_shards.specs.declared.sharding.TheConstants.{SHARDS};
 
 use crate::pipe_table::PipeTable;
 use crate::published::Published;
@@ -122,8 +123,10 @@ impl PipeTable {
         Waiter::on(&self.published)
     }
 
-    /// How a thread waits for shards to be given back.
-    pub fn await_shard(&self) -> Waiter<'_> {
-        Waiter::on(&self.returned)
+    /// How a thread waits for a shard to be given back. Each time one alone of those who wait for it is woken.
+    pub fn await_shard(&self, shard: usize) -> Waiter<'_>
+        requires small { shard < SHARDS }
+    {
+        Waiter::on(&self.returned[shard])
     }
 }

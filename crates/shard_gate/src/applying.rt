@@ -68,7 +68,7 @@ impl<'t> ShardGate<'t> {
         ensures applied { AppliesOne (H.view h.old) shard (H.view h.new) }
     {
         let mut piece = piece;
-        let mut waiter = self.table.await_shard();
+        let mut waiter = self.table.await_shard(shard);
         for _ in rt.forever() {
             match self.try_apply(h, shard, piece) {
                 Ok(()) => return,
