@@ -10,13 +10,13 @@ use Rattle.std.proofs.sync.ledger.Book.TheSendSync as book
 use Rattle.std.proofs.sync.ledger.Share.TheSendSync as share
 use Rattle.std.proofs.sync.atomic.AtomicBool.TheSendSync as flag
 use Rattle.crossbeam_utils.proofs.cache_padded.CachePadded.TheSendSync as padded
-use Rattle.crossbeam_utils.proofs.sync.event_count.EventCount.TheSendSync as event
 use Rattle.disk_face.specs.declared.disk.Disk as disk
 use Rattle.record_flow.proofs.Laws.{nodes_sent, send_pass_field_sent, flush_pass_field_sent, flow_field_shared}
 use Rattle.commit_queue.proofs.pipe_table.PipeTable.TheSendSync as table
 use Rattle.commit_queue.proofs.seats.ProducerSeat.TheSendSync as producer
 use Rattle.commit_queue.proofs.seats.FlushSeat.TheSendSync as flush
 use Rattle.failover_writer.specs.contracts.journal.Journal as journal
+use Rattle.commit_pipeline.proofs.bells.Bells.TheSendSync as bells
 use Rattle.commit_pipeline.specs.declared.name.PipeName as name
 use Rattle.commit_pipeline.specs.contracts.commit_side.CommitSide as commits
 use Rattle.commit_pipeline.specs.contracts.commit_side.CommitSide.TheInside as numbering
@@ -76,7 +76,7 @@ log_shared D N M d n b a sent =
           search (sendable, flag.the_field_sync),
           (
             search (sendable, padded.the_field_sync, flag.the_sync),
-            (search (sendable, padded.the_field_sync, event.the_sync), tt),
+            (search (sendable, bells.the_field_sync), tt),
           ),
         ),
       ),

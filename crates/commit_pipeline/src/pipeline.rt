@@ -219,9 +219,7 @@ impl<'a, D: Disk, G: Gate, N: PipeName, M: Ledger> Pipeline<'a, D, G, N, M> {
                 bells.leave(session);
                 return Ok(());
             }
-            let led = self
-                .log
-                .lead(rt, &self.table, session, desk, numbers.index);
+            let led = self.log.lead(rt, &self.table, session, desk, numbers.index);
             match led {
                 Some(Ok(())) => {}
                 Some(Err(fault)) => return Err(numbers.unsynced(fault)),
