@@ -18,8 +18,8 @@ use std::sync::ledger::Ledger;
 use std::thread::Threads;
 use wal_base::NoMemory;
 
-/// Plays a round: each session that has lines does them in their order, on a thread beside those
-/// of the others. A session without a line costs no thread. The answers stand session by session.
+/// Plays a round: each session that has lines does them in their order, beside the others: where one
+/// of them asks for a sync on a thread each, and else on a few. A session without a line costs no thread. The answers stand session by session.
 /// A session that runs out of memory stops, the others go on, and then `Err` is answered.
 pub fn play_round<
     D: Disk + Send,

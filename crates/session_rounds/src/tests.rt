@@ -188,7 +188,8 @@ fn split_there<N: PipeName, M: Ledger>(
     ensures { length result.items ≡ row.sessions }
 {
     let turns = deal(alloc, sessions, lines_of(rt, alloc, row)).expect(rt, "memory");
-    assert_eq!(rt; middle(turns.as_slice()), split);
+    assert_eq!(rt; middle(turns.as_slice(), 2), split);
+    assert!(rt; middle(turns.as_slice(), 1).is_none());
     let (sessions, _answers) = gather(alloc, turns).expect(rt, "memory");
     assert_eq!(rt; sessions.len(), row.sessions as usize);
     sessions

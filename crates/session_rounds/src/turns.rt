@@ -68,6 +68,21 @@ impl<N: PipeName, M: Ledger> Turn<N, M> {
         self.lines.push(line).map_err(|_| NoMemory)
     }
 
+    /// How many lines are still to do.
+    pub(crate) fn lines_left(&self) -> usize {
+        self.lines.len()
+    }
+
+    /// Whether one of its lines is a commit that waits for a sync.
+    pub(crate) fn asks_for_sync(&self) -> bool {
+        for line in self.lines.as_slice() {
+            if matches!(line.act, Act::Commit { sync: true, .. }) {
+                return true;
+            }
+        }
+        false
+    }
+
     /// Answers its lines in their order, each before the next one is begun. On out of memory the rest
     /// of them is left.
     pub(crate) fn play<D: Disk, G: Gate, R: Wait>(
