@@ -1,10 +1,8 @@
 ghost use Rattle.std.specs.Prelude.{◌≤◌, length};
 
-mod bad_lines;
 mod commands;
 mod deaths;
 mod gates;
-mod generated;
 mod halts;
 mod orders;
 mod recovery;
