@@ -1,5 +1,5 @@
 //! Where sessions sleep until their batches are synced. Whoever lets the flush lock go wakes those whose batches are,
-//! and one of the others, which writes next: none wakes in vain.
+//! and one of the others, which writes next if it finds the lock free.
 //!
 //! No wake is lost. A session says what it waits for, then that it will sleep, and then looks once more, whether its
 //! batch is synced or the lock is free. So whoever lets the lock go after that look sees it here, and one that let it go
@@ -28,7 +28,6 @@ struct Bell {
 #[derive(Drop)]
 pub(crate) struct Bells {
     bells: [Bell; BELLS],
-    /// So many sessions wait.
     waiting: CachePadded<AtomicU64>,
 }
 
@@ -67,9 +66,14 @@ impl Bells {
         }
     }
 
+    /// How many sessions wait.
+    pub(crate) fn waiting(&self) -> u64 {
+        self.waiting.load(Ordering::SeqCst)
+    }
+
     /// Wakes the sessions that wait for no more than so many synced batches, and first the one that comes next.
     pub(crate) fn ring(&self, synced: u64) {
-        if self.waiting.load(Ordering::SeqCst) == 0 {
+        if self.waiting() == 0 {
             return;
         }
         if let Some(bell) = self.next(synced) {

@@ -9,7 +9,10 @@ ghost use Rattle.commit_queue.specs.Seats.{session_table, session_view, note_tab
 ghost use Rattle.commit_queue.specs.Seats.{HoldsNothing};
 ghost use Rattle.commit_queue.specs.Views.{but_turns};
 
-use crate::{FlushSeat, Handed, Holder, PipeTable, ProducerSeat, Published, SessionSeat, Shards};
+use crate::waiting::LOOKS;
+use crate::{
+    FlushSeat, Handed, Holder, PipeTable, ProducerSeat, Published, SessionSeat, Shards, Waiter,
+};
 use batch_repr::{BATCHES_MAX, BatchBuilder, NUMBER_MAX, Numbered, Unnumbered};
 use memtable_shards::{Found, Pieces, SHARDS, Shard, shard_index, split};
 use std::alloc::Global;
@@ -115,6 +118,14 @@ fn gets<H: Holder>(table: &PipeTable, h: &mut H, index: usize) -> bool
     true
 }
 
+/// One that waits as far as saying that it will sleep, and sleeps at its next call unless it was woken since.
+fn about_to_sleep<'e>(rt: &impl Wait, mut waiter: Waiter<'e>) -> Waiter<'e> {
+    for _ in 0..=LOOKS {
+        waiter.wait(rt);
+    }
+    waiter
+}
+
 impl Rig {
     fn open(rt: &impl Abort, alloc: Global) -> Rig {
         let made = PipeTable::new(alloc, 2, FIRST, eight(rt, alloc));
@@ -181,6 +192,35 @@ impl Rig {
         self.table.adopt(&mut self.one, note);
         apply_all(rt, &self.table, &mut self.one, pieces);
         self.table.mark(&mut self.one);
+    }
+
+    /// The same, while another thread is about to sleep for the shard of the batch's key, and a third one for the batch
+    /// to be published. Neither sleeps then.
+    fn mark_and_wake(&mut self, rt: &(impl Abort + Wait), end: u64) {
+        if self.parcels.is_empty() {
+            panic!(rt; "a parcel");
+        }
+        let Parcel { note, pieces } = self.parcels.remove(0);
+        self.table.adopt(&mut self.one, note);
+        let mut for_shard = about_to_sleep(rt, self.table.await_shard(shard_index(b"k")));
+        apply_all(rt, &self.table, &mut self.one, pieces);
+        for_shard.wait(rt);
+        self.table.mark(&mut self.one);
+        let mut for_batch = about_to_sleep(rt, self.table.await_published());
+        self.table.publish_until(rt, &mut self.one, end);
+        for_batch.wait(rt);
+    }
+
+    /// The session gives a shard back as it was, for which another thread is about to sleep. It does not sleep then.
+    fn give_back_and_wake(&mut self, rt: &(impl Abort + Wait), index: usize)
+        requires { index < SHARDS }
+    {
+        let Some(shard) = self.table.take_shard(&mut self.one, index) else {
+            panic!(rt; "a shard at home");
+        };
+        let mut waiter = about_to_sleep(rt, self.table.await_shard(index));
+        self.table.give_shard(&mut self.one, shard, false);
+        waiter.wait(rt);
     }
 
     /// The session tries to publish.
@@ -406,6 +446,18 @@ fn a_shard_is_with_one_seat_at_a_time(rt: HostRuntime) {
     for index in 0..SHARDS {
         assert_eq!(rt; rig.other_gets(&rt, index), [false, true]);
     }
+}
+
+/// Whoever is not woken sleeps for ever here.
+#[test]
+fn who_waits_for_a_shard_or_a_batch_is_woken(rt: HostRuntime) {
+    let mut rig = Rig::open(&rt, rt.alloc());
+    for index in 0..SHARDS {
+        rig.give_back_and_wake(&rt, index);
+    }
+    assert_eq!(rt; rig.send_next(&rt), Some(0));
+    rig.mark_and_wake(&rt, 11);
+    assert_eq!(rt; rig.other_visible(), 11);
 }
 
 #[test]

@@ -13,7 +13,7 @@ use std::thread::Parker;
 use std::time::Duration;
 
 /// So often a thread looks before it sleeps.
-const LOOKS: u32 = 7;
+pub(crate) const LOOKS: u32 = 7;
 
 /// For so many microseconds a thread rests that nobody will wake.
 const REST: u64 = 50;

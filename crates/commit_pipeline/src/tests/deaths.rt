@@ -29,7 +29,7 @@ fn commit<D: StallDisk, N: PipeName, M: Ledger, R: Wait + Abort>(
 
 /// The first session commits with a sync that cannot be had, after so many polls were left to stall: where it is none,
 /// its own write meets the death, and else its wait. The others commit then, the second one with a sync and the third
-/// one without, and no two sessions meet.
+/// one without, and no two sessions meet. None is left as one that waits: it would be woken in place of another.
 #[derive(Drop)]
 struct DiesForAll {
     polls: u32,
@@ -47,6 +47,8 @@ impl Play for DiesForAll {
     {
         let mut sessions = sessions;
         pipe.stall(rt, Side::Primary, self.polls);
+        // As where it has slept before it leads.
+        pipe.log.bells.wait_for(0, 1);
         for session in sessions.iter_mut() {
             let (sync, wanted) = match session.number {
                 0 => (
@@ -62,6 +64,7 @@ impl Play for DiesForAll {
                 _ => (false, DEAD),
             };
             assert_eq!(rt; commit(rt, alloc, pipe, session, sync), Err(wanted));
+            assert_eq!(rt; pipe.log.bells.waiting(), 0);
         }
     }
 }

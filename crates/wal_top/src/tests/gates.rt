@@ -100,7 +100,7 @@ fn script_of(alloc: Global, sessions: u32) -> Result<Buf, NoMemory> {
 }
 
 #[test]
-fn a_session_that_is_held_holds_up_no_other(rt: HostRuntime) -> Result<(), Fail> {
+fn a_session_that_is_held_holds_up_none_of_another_thread(rt: HostRuntime) -> Result<(), Fail> {
     for sessions in [8u32, 64] {
         let script = script_of(rt.alloc(), sessions)?;
         for (held, other) in [(0, sessions - 1), (sessions - 1, 0)] {
