@@ -1,5 +1,5 @@
 -- What contracts see behind the two locks, and what is done there (docs/FORMATS.md, "The commit").
-use Rattle.std.specs.Prelude.{◌≡◌, ℕ, List, [], ◌∷◌, ◌++◌, Bool, Result}
+use Rattle.std.specs.Prelude.{◌≡◌, ◌≤◌, ℕ, List, [], ◌∷◌, ◌++◌, Bool, Result}
 use Rattle.batch_repr.specs.declared.batch.Batch.{Batch}
 use Rattle.disk_face.specs.View.{DiskView}
 use Rattle.failover_writer.specs.declared.fault.Step.{Step}
@@ -11,6 +11,7 @@ use Rattle.record_flow.specs.declared.rule.FlowView.{FlowView}
 use Rattle.record_flow.specs.Views.{records_of}
 use Rattle.record_flow.specs.Flows.{WasEmpty}
 use Rattle.commit_queue.specs.declared.view.View.{View}
+use Rattle.publish_core.specs.Machine.{one_more}
 use Rattle.commit_queue.specs.Calls.{RaisesAcked}
 use Rattle.commit_pipeline.specs.Openings.{Opening, KeepsJournal}
 use Rattle.commit_pipeline.specs.Logging.{SettlesJournal, FallsUnlessAcked}
@@ -56,9 +57,11 @@ pub record MovesIn {Disk : Type 0} (tells : Bool) (view : Disk → DiskView) (ol
 abbrev pub AcksSynced : {Disk : Type 0} → FlushView Disk → FlushView Disk → Type 0
 AcksSynced old new = (raised : ℕ) × RaisesAcked old.seat (acked new.journal.state) raised new.seat
 
--- It was raised so when it was raised last, whatever was done before.
-abbrev pub HasAckedSynced : {Disk : Type 0} → FlushView Disk → Type 0
-HasAckedSynced {Disk} new = (before : FlushView Disk) × AcksSynced before new
+-- It was raised so, after head was looked at once more than before.
+pub record HasAckedSynced {Disk : Type 0} (old new : FlushView Disk) : Type 0 where
+  pub before : FlushView Disk
+  pub since : one_more old.seat.seat.counts.ends ≤ new.seat.seat.counts.ends
+  pub acks : AcksSynced before new
 
 -- They were moved until none was found, and then the journal was stepped as long as a step moved, which the acked word followed.
 pub record DrivesJournal {Disk : Type 0} (tells : Bool) (view : Disk → DiskView) (old new : FlushView Disk) : Type 0 where

@@ -213,7 +213,7 @@ impl<D: Disk, N: PipeName, M: Ledger> FlushSide<D, N, M> {
         ensures dead { Raises desk.old.dead (deaths_stepped result) desk.new.dead }
         ensures met { desk.new.told ≡ desk.old.told }
         ensures acked { OnOk result (index < acked self.new.journal.state) }
-        ensures acks { HasAckedSynced self.new }
+        ensures acks { HasAckedSynced self.old self.new }
         ensures unacked { IfErr result (λ fault. acked self.new.journal.state ≤ index) }
         ensures fault { IfErr result TellsFault }
     {

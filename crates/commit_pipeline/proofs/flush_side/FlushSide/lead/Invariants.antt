@@ -10,5 +10,5 @@ invariant-loop g l = record {
   told : l.desk.told ≡ l.initial.desk.told;
   dead_parts : l.desk.dead.parts ≡ l.initial.desk.dead.parts;
   dead : l.desk.dead.amount ≡ l.initial.desk.dead.amount;
-  acks : HasAckedSynced l.self;
+  acks : HasAckedSynced l.fn.self l.self;
 }
