@@ -4,14 +4,15 @@ use Rattle.std.specs.Prelude.{Contains, count_by}
 use Rattle.std.specs.List.{AllByRecursion}
 use Rattle.batch_repr.specs.declared.batch.Batch.{Batch}
 use Rattle.disk_face.specs.declared.Side.{Side}
+use Rattle.disk_face.specs.declared.Side.TheVariants.{Primary, Secondary}
 use Rattle.disk_face.specs.View.{Files, DiskView, files}
 use Rattle.disk_face.specs.Calls.{GoesOn, Stalls}
 use Rattle.disk_face.proofs.Laws.{rose_later, rose_earlier}
 use Rattle.log_writer.specs.Writer.{Writer}
 use Rattle.log_writer.specs.Fits.{place_of_writer}
-use Rattle.failover_writer.specs.State.{State, JournalView, len, acked, with_room, is_broken}
+use Rattle.failover_writer.specs.State.{State, JournalView, len, acked, with_room, is_broken, broken_count}
 use Rattle.failover_writer.specs.Ranges.{StandsFor, Stands, KeepsRecords, AddsRecord}
-use Rattle.failover_writer.specs.Answered.{IsHarmed, IsSmooth, FaultsRose, PollsFell}
+use Rattle.failover_writer.specs.Answered.{IsHarmed, IsSmooth, IsUnstalled, FaultsRose, PollsFell, RoseBy}
 use Rattle.failover_writer.specs.Moves.{Pushes}
 use Rattle.failover_writer.specs.Keeping.{OthersStay, KeepsBase, KeepsBases, RecoversTo}
 use Rattle.failover_writer.specs.Lasting.{Lasts}
@@ -46,10 +47,10 @@ rose_now start mid new goes (side, rose) = (side, rose_later (start.faults side)
 module _ (tells : Bool) (opening : Opening) where
   -- nothing but the queue, or the numbers after the last record, changed
   kept_beside : (own own' : List Batch) (old new : State) (v : DiskView) → new.wal ≡ old.wal → new.base ≡ old.base
-      → new.threshold ≡ old.threshold → new.dead ≡ old.dead → new.segments ≡ old.segments
+      → new.threshold ≡ old.threshold → new.dead ≡ old.dead → new.segments ≡ old.segments → new.left_by_stall ≡ old.left_by_stall
       → StandsFor tells own' new v → ((b : List Batch) → KeepsBase tells b old v → KeepsBase tells b new v)
       → KeepsJournal tells opening own old v → KeepsJournal tells opening own' new v
-  kept_beside own own' old new v wal_same base_same threshold dead segments stands keeps r = record {
+  kept_beside own own' old new v wal_same base_same threshold dead segments left stands keeps r = record {
     stands = stands;
     wal_is = wal_same ∙ r.wal_is;
     base_is = base_same ∙ r.base_is;
@@ -59,6 +60,8 @@ module _ (tells : Bool) (opening : Opening) where
     polls = r.polls;
     harmed = λ harmed. r.harmed (was_harmed harmed);
     smooth = was_smooth r.smooth;
+    covers = subst (λ (ws : List Writer). RoseBy (count_by is_broken ws) opening.disk v) (sym segments) r.covers;
+    unstalled = was_still r.unstalled;
     kept = λ b was. keeps b (r.kept b was);
     others = λ told start was p outside. r.others told start was p
         (λ has. outside (subst (λ (ws : List Writer). Contains (map place_of_writer ws) p) (sym segments) has));
@@ -67,6 +70,10 @@ module _ (tells : Bool) (opening : Opening) where
       was_harmed : IsHarmed new → IsHarmed old
       was_harmed (inl died) = inl (λ lives. died (dead ∙ lives))
       was_harmed (inr broken) = inr (subst (λ (ws : List Writer). 1 ≤ count_by is_broken ws) segments broken)
+
+      was_still : IsUnstalled old ⊎ MayStall opening → IsUnstalled new ⊎ MayStall opening
+      was_still (inl s) = inl (record { left = left ∙ s.left; waiting = subst (AllByRecursion _) (sym segments) s.waiting })
+      was_still (inr x) = inr x
 
       was_smooth : IsSmooth old ⊎ (FaultsRose opening.disk v ⊎ MayStall opening)
           → IsSmooth new ⊎ (FaultsRose opening.disk v ⊎ MayStall opening)
@@ -91,6 +98,8 @@ module _ (tells : Bool) (opening : Opening) where
     polls = λ never. let clash : true ≡ false = sym may ∙ never in absurd cc;
     harmed = λ h. rose_then opening.disk v w went r.went_on (r.harmed h);
     smooth = inr (inr (inr may));
+    covers = still_covers r.covers;
+    unstalled = inr (inr may);
     kept = λ b was. keeps_base b (r.kept b was);
     others = λ told start was. subst (λ (fs : Files). OthersStay start state fs) (sym same) (r.others told start was);
   }
@@ -101,6 +110,10 @@ module _ (tells : Bool) (opening : Opening) where
         clock = omega (arith, stalls.same.clock);
         history = λ k low. ap (λ (h : ℕ → Files). h k) stalls.same.history;
       }
+
+      still_covers : RoseBy (broken_count state) opening.disk v → RoseBy (broken_count state) opening.disk w
+      still_covers (inl rose) = inl (omega (arith, rose, went.faults Primary, went.faults Secondary))
+      still_covers (inr (s, at_end)) = inr (s, omega (arith, at_end, went.faults s))
 
       same : files w ≡ files v
       same = ap (λ (h : ℕ → Files). h w.clock) stalls.same.history ∙ ap v.history stalls.same.clock
@@ -119,6 +132,8 @@ module _ (tells : Bool) (opening : Opening) where
       polls = λ never side. omega (arith, r.polls never side, lasts.goes_on.polls side);
       harmed = λ h. by_harm (lasts.harmed h);
       smooth = by_smooth r.smooth;
+      covers = lasts.covers opening.disk r.covers;
+      unstalled = by_still r.unstalled;
       kept = λ b was. keeps_base b (r.kept b was);
       others = λ told start was. lasts.passes.others start told (r.others told start was);
     }
@@ -141,6 +156,18 @@ module _ (tells : Bool) (opening : Opening) where
         by_new (inr (inl rose)) = inr (inl (rose_now opening.disk (view old.disk) (view new.disk) r.went_on rose))
         by_new (inr (inr fell)) = fell_only opening.may_stall refl fell
 
+        fell_stalls : (may : Bool) → opening.may_stall ≡ may → PollsFell (view old.disk) (view new.disk) → MayStall opening
+        fell_stalls true is fell = inr is
+        fell_stalls false is (side, fell) = inl (side, omega (arith, fell, r.polls is side))
+
+        by_new_still : IsUnstalled new.state ⊎ PollsFell (view old.disk) (view new.disk) → IsUnstalled new.state ⊎ MayStall opening
+        by_new_still (inl s) = inl s
+        by_new_still (inr fell) = inr (fell_stalls opening.may_stall refl fell)
+
+        by_still : IsUnstalled old.state ⊎ MayStall opening → IsUnstalled new.state ⊎ MayStall opening
+        by_still (inl s) = by_new_still (lasts.unstalled r.least s)
+        by_still (inr left) = inr left
+
         by_smooth : IsSmooth old.state ⊎ (FaultsRose opening.disk (view old.disk) ⊎ MayStall opening)
             → IsSmooth new.state ⊎ (FaultsRose opening.disk (view new.disk) ⊎ MayStall opening)
         by_smooth (inl s) = by_new (lasts.smooth r.least s)
@@ -153,7 +180,7 @@ module _ (tells : Bool) (opening : Opening) where
     kept_reserved spare same keeps keeps_base r =
         let roomy : State = record old.state { queue = record old.state.queue { spare = spare } } in
         subst (λ (h : JournalView Disk). KeepsJournal tells opening own h.state (view h.disk)) (sym same)
-        (kept_beside own own old.state roomy (view old.disk) refl refl refl refl refl
+        (kept_beside own own old.state roomy (view old.disk) refl refl refl refl refl refl
         (subst (λ (h : JournalView Disk). StandsFor tells own h.state (view h.disk)) same (keeps own r.stands))
         (λ b was. subst (λ (h : JournalView Disk). KeepsBase tells b h.state (view h.disk)) same (keeps_base b was)) r)
 
@@ -166,7 +193,7 @@ module _ (tells : Bool) (opening : Opening) where
         subst (λ (d : Disk). KeepsJournal tells opening (own ++ added ∷ []) new.state (view d)) (sym disk)
         (kept_beside own (own ++ added ∷ []) old.state new.state (view old.disk) (ap (λ (s : State). s.wal) e)
         (ap (λ (s : State). s.base) e) (ap (λ (s : State). s.threshold) e) (ap (λ (s : State). s.dead) e)
-        (ap (λ (s : State). s.segments) e)
+        (ap (λ (s : State). s.segments) e) (ap (λ (s : State). s.left_by_stall) e)
         (subst (λ (d : Disk). StandsFor tells (own ++ added ∷ []) new.state (view d)) disk (keeps own r.stands))
         (λ b was. subst (λ (d : Disk). KeepsBase tells b new.state (view d)) disk (keeps_base b was)) r)
 
@@ -188,6 +215,7 @@ opened_on tells view base journal may_stall empty ends stands sound =
       empty = none_stand tells stands.0 journal.state (view journal.disk) stands.1 empty;
       none_begun = none.0;
       lives = none.1;
+      none_left = omega (arith, sound.accounted.few, ap (λ (ws : List Writer). length ws) none.0);
     }
 
 pub kept_opened : (tells : Bool) (opening : Opening) → IsOpened tells opening → 1 ≤ opening.journal.threshold
@@ -206,6 +234,8 @@ kept_opened tells opening opened least = record {
     few = omega (arith, ap (λ (ws : List Writer). length ws) opened.none_begun);
     segments = subst (AllByRecursion _) (sym opened.none_begun) tt;
   });
+  covers = inl (omega (arith, ap (λ (ws : List Writer). count_by is_broken ws) opened.none_begun));
+  unstalled = inl (record { left = opened.none_left; waiting = subst (AllByRecursion _) (sym opened.none_begun) tt });
   kept = λ base keeps. keeps;
   others = λ told start stay. stay;
 }

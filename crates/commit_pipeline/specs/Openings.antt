@@ -4,9 +4,9 @@ use Rattle.batch_repr.specs.declared.batch.Batch.{Batch}
 use Rattle.batch_repr.specs.Batches.{IsContiguous, end_after}
 use Rattle.disk_face.specs.declared.Side.{Side}
 use Rattle.disk_face.specs.View.{Files, DiskView, files}
-use Rattle.failover_writer.specs.State.{State, JournalView}
+use Rattle.failover_writer.specs.State.{State, JournalView, broken_count}
 use Rattle.failover_writer.specs.Ranges.{StandsFor}
-use Rattle.failover_writer.specs.Answered.{FaultsRose, IsHarmed, IsSmooth}
+use Rattle.failover_writer.specs.Answered.{FaultsRose, IsHarmed, IsSmooth, IsUnstalled, RoseBy}
 use Rattle.failover_writer.specs.Keeping.{OthersStay, KeepsBase}
 use Rattle.failover_writer.specs.Running.{PollsLeft}
 use Rattle.failover_writer.specs.Sound.{HasGivenUp}
@@ -43,6 +43,7 @@ pub record IsOpened (tells : Bool) (opening : Opening) : Type 0 where
   pub empty : StandsFor tells [] opening.journal opening.disk
   pub none_begun : opening.journal.segments ≡ []
   pub lives : opening.journal.dead ≡ None
+  pub none_left : opening.journal.left_by_stall ≡ 0
 
 -- The disk went on. Polls may have been left to stall.
 pub record WentOn (old new : DiskView) : Type 0 where
@@ -51,7 +52,8 @@ pub record WentOn (old new : DiskView) : Type 0 where
   pub history : (k : ℕ) → k ≤ old.clock → new.history k ≡ old.history k
 
 -- The journal of an opening, over its disk as it is now: its records are these batches. An operation failed, and it died, only
--- where faults rose since the opening; it began a second segment only there, or where a poll may be answered pending. It keeps each
+-- where faults rose since the opening; it began a second segment only there, or where a poll may be answered pending. Faults rose by
+-- so many at least as it has broken segments, and it left one that was not broken only where a poll may be pending. It keeps each
 -- base that it kept at the opening, and no file changed since but those of its segments.
 pub record KeepsJournal (tells : Bool) (opening : Opening) (batches : List Batch) (state : State) (v : DiskView) : Type 0 where
   pub stands : StandsFor tells batches state v
@@ -63,6 +65,8 @@ pub record KeepsJournal (tells : Bool) (opening : Opening) (batches : List Batch
   pub polls : opening.may_stall ≡ false → (side : Side) → v.polls_left side ≤ opening.disk.polls_left side
   pub harmed : IsHarmed state → FaultsRose opening.disk v
   pub smooth : IsSmooth state ⊎ (FaultsRose opening.disk v ⊎ MayStall opening)
+  pub covers : RoseBy (broken_count state) opening.disk v
+  pub unstalled : IsUnstalled state ⊎ MayStall opening
   pub kept : (base : List Batch) → KeepsBase tells base opening.journal opening.disk → KeepsBase tells base state v
   pub others : IsTrue tells → (at_start : Files) → OthersStay at_start opening.journal (files opening.disk) → OthersStay at_start state (files v)
 

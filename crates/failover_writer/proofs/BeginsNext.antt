@@ -1,5 +1,5 @@
 -- A segment that is begun stands after the others, and they stay as they are.
-use Rattle.std.proofs.Common.{◌≡◌, ◌≢◌, inl, inr, ℕ, suc, ◌≤◌, ◌<◌, Bool, List, [], ◌∷◌, ◌++◌, length, None, map, Some, IsTrue, ap, sym, subst, ◌∙◌, refl, arith}
+use Rattle.std.proofs.Common.{◌≡◌, ◌≢◌, inl, inr, ℕ, suc, ◌+◌, ◌≤◌, ◌<◌, Bool, List, [], ◌∷◌, ◌++◌, length, None, map, Some, IsTrue, ap, sym, subst, ◌∙◌, refl, arith}
 use Rattle.std.specs.Prelude.{Contains, count_by}
 use Rattle.std.proofs.lemmas.List.{length-append, map-append, take-append-le}
 use Rattle.std.proofs.lemmas.List.Elements.{Contains-append_left, Contains-push}
@@ -21,8 +21,9 @@ use Rattle.log_writer.specs.Fits.{Fits, IsUnsent, SameFile, place_of_writer}
 use Rattle.failover_writer.specs.State.{State, acked, is_broken}
 use Rattle.failover_writer.specs.Ranges.{side_at, IsSegmentAt, StandsFor}
 use Rattle.failover_writer.specs.Inside.{IsInOrder}
-use Rattle.failover_writer.specs.Stepping.{IsBehind, begun, NoneBusy}
+use Rattle.failover_writer.specs.Stepping.{IsBehind, begun, left_behind, NoneBusy}
 use Rattle.failover_writer.specs.Keeping.{OthersStay, Passes}
+use Rattle.failover_writer.proofs.Accounted.{accounted_push}
 use Rattle.failover_writer.proofs.IsSoundJournal.{sound_with}
 use Rattle.failover_writer.proofs.Passes.{passes_once}
 use Rattle.failover_writer.proofs.PassesOnce.{first_or_last}
@@ -93,7 +94,7 @@ module _ (tells : Bool) (state : State) (old new : DiskView) (id : OpId) (w : Wr
     (starts : Starts (record { place = place_of_writer w; act = act }) side id old new)
     (others : (place : Place) → place ≢ place_of_writer w → SameFile tells place old new) where
   abbrev after : State
-  after = record state { segments = state.segments ++ w ∷ [] }
+  after = record state { segments = state.segments ++ w ∷ []; left_by_stall = state.left_by_stall + left_behind state.segments }
 
   its_segment : IsSegmentAt state.wal (length state.segments) w
   its_segment = record { side = is.0; name = is.1; begun = λ e. let clash : InFlight Create id ≡ New = sym is.7 ∙ e in cc }
@@ -144,7 +145,8 @@ module _ (tells : Bool) (state : State) (old new : DiskView) (id : OpId) (w : Wr
     rested = subst NoneBusy (sym (take-append-le rested_to state.segments (w ∷ []) (omega (arith, order.first_busy)))) order.rested;
     first_busy = omega (arith, order.first_busy, length-append state.segments (w ∷ []));
     wal = order.wal;
-    sound = sound_with state after.segments lives (λ empty. omega (arith, behind, empty)) order.sound;
+    sound = sound_with state after.segments after.left_by_stall lives (λ empty. omega (arith, behind, empty))
+        (accounted_push state.segments w state.left_by_stall order.sound.accounted) order.sound;
   }
 
   -- ---- the moments

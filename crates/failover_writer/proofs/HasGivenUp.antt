@@ -18,6 +18,7 @@ pub sound_dead : (old : State) (side : Side) (count : ℕ) → IsSoundJournal ol
 sound_dead old side count sound verdict side_is count_is = record {
   least = sound.least;
   most = sound.most;
+  accounted = sound.accounted;
   none = λ empty. absurd (some_records old sound (λ none. omega (arith, ap (λ (ws : List Writer). length ws) none, verdict.says.1)) empty);
   dead = λ mark is.
       let the : record { side = side; faults = count } ≡ mark = cc in

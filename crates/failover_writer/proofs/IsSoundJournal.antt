@@ -1,13 +1,14 @@
 -- What a journal states of itself stays so.
-use Rattle.std.proofs.Common.{◌≡◌, ◌≢◌, ◌≤◌, List, [], length, Some, None, ap, sym, ◌∙◌, arith}
+use Rattle.std.proofs.Common.{◌≡◌, ◌≢◌, ℕ, subst, ◌≤◌, List, [], length, Some, None, ap, sym, ◌∙◌, arith}
 use Rattle.log_writer.specs.Writer.{Writer}
 use Rattle.failover_writer.specs.State.{State, len, broken_count}
-use Rattle.failover_writer.specs.Sound.{IsSoundJournal}
+use Rattle.failover_writer.specs.Sound.{AreAccounted, IsSoundJournal}
 
 -- A journal that is not dead, and has no segment where it has no record.
 pub sound_alive : (state : State) → 1 ≤ state.threshold → state.threshold ≤ 1000 → state.dead ≡ None → (len state ≡ 0 → state.segments ≡ [])
-    → IsSoundJournal state
-sound_alive state least most lives none = record {
+    → AreAccounted state.segments state.left_by_stall → IsSoundJournal state
+sound_alive state least most lives none accounted = record {
+  accounted = accounted;
   least = least;
   most = most;
   none = λ empty. (none empty, lives);
@@ -16,8 +17,10 @@ sound_alive state least most lives none = record {
 
 -- Nothing of which it speaks changes but the number of records, which falls to none no more.
 pub sound_beside : (old new : State) → new.threshold ≡ old.threshold → new.segments ≡ old.segments → new.dead ≡ old.dead
-    → (len new ≡ 0 → len old ≡ 0) → IsSoundJournal old → IsSoundJournal new
-sound_beside old new threshold segments dead empty sound = record {
+    → new.left_by_stall ≡ old.left_by_stall → (len new ≡ 0 → len old ≡ 0) → IsSoundJournal old → IsSoundJournal new
+sound_beside old new threshold segments dead left empty sound = record {
+  accounted = subst (AreAccounted new.segments) (sym left)
+      (subst (λ (ws : List Writer). AreAccounted ws old.left_by_stall) (sym segments) sound.accounted);
   least = omega (arith, threshold, sound.least);
   most = omega (arith, threshold, sound.most);
   none = λ none. let was = sound.none (empty none) in (segments ∙ was.0, dead ∙ was.1);
@@ -40,6 +43,7 @@ pub some_records : (state : State) → IsSoundJournal state → state.segments �
 some_records state sound some empty = some (sound.none empty).0
 
 -- The segments of a journal that is not dead change, and it has a record.
-pub sound_with : (old : State) (segments : List Writer) → old.dead ≡ None → len old ≢ 0 → IsSoundJournal old
-    → IsSoundJournal (record old { segments = segments })
-sound_with old segments lives some sound = sound_alive (record old { segments = segments }) sound.least sound.most lives (λ empty. absurd (some empty))
+pub sound_with : (old : State) (segments : List Writer) (left : ℕ) → old.dead ≡ None → len old ≢ 0 → AreAccounted segments left → IsSoundJournal old
+    → IsSoundJournal (record old { segments = segments; left_by_stall = left })
+sound_with old segments left lives some accounted sound =
+    sound_alive (record old { segments = segments; left_by_stall = left }) sound.least sound.most lives (λ empty. absurd (some empty)) accounted

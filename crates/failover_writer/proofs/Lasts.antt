@@ -63,13 +63,19 @@ goal_beside old new segments is =
     let e = same.keeps in
     record { keeps = record { wal = e.wal; base = e.base; threshold = e.threshold; next = e.next; end = e.end }; want = same.want }
 
+goal_begun : (old new : State) (segments : List Writer) (left : ℕ) → new ≡ record old { segments = segments; left_by_stall = left } → KeepsGoal old new
+goal_begun old new segments left is =
+    let same = goal_still (record old { segments = segments; left_by_stall = left }) new is in
+    let e = same.keeps in
+    record { keeps = record { wal = e.wal; base = e.base; threshold = e.threshold; next = e.next; end = e.end }; want = same.want }
+
 goal_polled : {old polled : State} {one other : Option Progress} → Polls old one other polled → KeepsGoal old polled
 goal_polled {old = old} {polled = polled} polls = goal_beside old polled polled.segments (polls_lower polls).same
 
 goal_went : (polled new : State) → stepping.ActsAfterPolls polled new → KeepsGoal polled new
-goal_went polled new (first _ none behind begins) = goal_beside polled new _ begins.new_is
+goal_went polled new (first _ none behind begins) = goal_begun polled new _ _ begins.new_is
 goal_went polled new (none_to_begin none not_behind) = goal_still polled polled refl
-goal_went polled new (switches _ verdict begins) = goal_beside polled new _ begins.new_is
+goal_went polled new (switches _ verdict begins) = goal_begun polled new _ _ begins.new_is
 goal_went polled new (starts _ verdict behind is) = goal_beside polled new _ is.new_is
 goal_went polled new (stays verdict none) = goal_still polled polled refl
 
@@ -131,6 +137,8 @@ module _ {Disk : Type 0} (tells : Bool) (view : Disk → DiskView) where
     acked = omega arith;
     harmed = λ harmed. inl harmed;
     smooth = λ low smooth. inl (record { lives = smooth.lives; few = smooth.few; segments = smooth.segments });
+    covers = λ start covered. covered;
+    unstalled = λ low still. inl (record { left = still.left; waiting = still.waiting });
     keeps = keeps;
     passes = passes_still tells old.state (record old.state { want = want }) (view old.disk) refl refl refl;
     goes_on = goes_on_from (view old.disk);
@@ -159,6 +167,14 @@ module _ {Disk : Type 0} (tells : Bool) (view : Disk → DiskView) where
       ]
       | inr (inl rose) ↦ inr (inl (rose_before (view old.disk) (view mid.disk) (view new.disk) one.goes_on two.goes_on rose))
       | inr (inr fell) ↦ inr (inr (fell_before (view old.disk) (view mid.disk) (view new.disk) two.goes_on fell))
+    ];
+    covers = λ start covered. two.covers start (one.covers start covered);
+    unstalled = λ low still. elim (one.unstalled low still) [
+      | inl mid_still ↦ elim (two.unstalled (omega (arith, low, one.setting.threshold)) mid_still) [
+        | inl now ↦ inl now
+        | inr fell ↦ inr (fell_after (view old.disk) (view mid.disk) (view new.disk) one.goes_on fell)
+      ]
+      | inr fell ↦ inr (fell_before (view old.disk) (view mid.disk) (view new.disk) two.goes_on fell)
     ];
     keeps = λ records stands. two.keeps records (one.keeps records stands);
     passes = passes_further tells old.state mid.state new.state (view old.disk) (view mid.disk) (view new.disk) one.keeps two.goes_on one.passes two.passes;

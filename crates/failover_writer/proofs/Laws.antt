@@ -5,3 +5,5 @@ pub use Rattle.failover_writer.proofs.RecoversTo.{base_recovers, none_of_opening
 pub use Rattle.failover_writer.proofs.ReadsAsImage.{reads_as_image}
 pub use Rattle.failover_writer.proofs.Segments.{not_theirs, synced_within}
 pub use Rattle.failover_writer.proofs.StandsFor.{same_stands, len_is}
+pub use Rattle.failover_writer.proofs.Accounted.{counts_leave_few}
+pub use Rattle.failover_writer.proofs.Covers.{rose_by_less}

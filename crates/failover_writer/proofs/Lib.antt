@@ -19,7 +19,10 @@ mod KeepsRun
 mod RecoversTo
 mod Survives
 mod StepRule
+mod Failures
 mod IsSoundJournal
+mod Accounted
+mod Covers
 mod HasGivenUp
 mod Falls
 mod Lasts

@@ -16,13 +16,14 @@ use Rattle.log_writer.specs.Writer.{Writer}
 use Rattle.log_writer.specs.Fits.{IsBusy}
 use Rattle.log_writer.specs.Steps.{after_answer}
 use Rattle.failover_writer.specs.Remaining.{polls_left}
-use Rattle.failover_writer.specs.Answered.{AsksToPoll, pending_count}
+use Rattle.failover_writer.specs.Answered.{AsksToPoll, pending_count, failed_polls, failed_count, RoseBy}
 use Rattle.failover_writer.specs.State.{State, JournalView}
 use Rattle.failover_writer.specs.Keeping.{Passes}
 use Rattle.failover_writer.specs.Stepping.{NoneBusy, PollsFirst, Polls}
 use Rattle.failover_writer.specs.Stepping as stepping
 use Rattle.failover_writer.specs.Answered.{IsTold}
 use Rattle.failover_writer.specs.Moves.{IsFirstBusy, PollsAt, PollsAll, was_pending}
+use Rattle.failover_writer.proofs.Covers.{rose_by_none, rose_by_more, rose_by_as}
 use Rattle.failover_writer.proofs.Lists.{split_at, last_split}
 use Rattle.failover_writer.proofs.Passes.{Holds, passes_still, passes_further}
 
@@ -188,6 +189,7 @@ pub record PollsEarly (state mid : State) (before between : DiskView) (pending :
   pub early : ((state.segments ≡ []) × (mid ≡ state) × (one ≡ None)) ⊎ IsPolledEarly state mid one
   pub told : IsTold before between one
   pub taken : polls_left between + pending_count one ≡ polls_left before
+  pub counted : RoseBy (failed_count one) before between
   pub asks : AsksToPoll one before between
   pub pending_is : pending ≡ was_pending one
 
@@ -196,7 +198,7 @@ parted [] = inl refl
 parted (w ∷ ws) = inr (get_or (w ∷ ws) (length (w ∷ ws) - 1) w, slice_get-get_or (w ∷ ws) (length (w ∷ ws) - 1) w (omega arith))
 
 pub early_none : (state : State) (v : DiskView) → NoneBusy (take (length state.segments - 1) state.segments) → PollsEarly state state v v false
-early_none state v none = record { one = None; early = go (parted state.segments); told = tt; taken = omega arith; asks = refl; pending_is = refl }
+early_none state v none = record { one = None; early = go (parted state.segments); told = tt; taken = omega arith; counted = rose_by_none v v (goes_on_from v); asks = refl; pending_is = refl }
   where
     go : (state.segments ≡ []) ⊎ ((w : Writer) × (slice_get state.segments (length state.segments - 1) ≡ Some w))
         → ((state.segments ≡ []) × (state ≡ state) × (◌≡◌ {A = Option Progress} None None)) ⊎ IsPolledEarly state state None
@@ -210,6 +212,7 @@ early_one tells state mid before between index pending first polls = record {
   early = go (parted state.segments);
   told = told_at tells polls.id polls.answer before between polls.polled;
   taken = polls.taken;
+  counted = polls.counted;
   asks = (polls.id, polls.asks);
   pending_is = polls.pending_is;
 }
@@ -229,6 +232,7 @@ all_none state mid before between pending early none = record {
   one_told = early.told;
   other_told = tt;
   taken = omega (arith, early.taken);
+  counted = rose_by_as (failed_count early.one) (failed_count early.one + 0) before between (omega arith) early.counted;
   between = between;
   first = early.asks;
   second = refl;
@@ -260,6 +264,7 @@ all_one tells state mid new before between after index pending pending_now early
   one_told = told_earlier before between after early.one goes_later early.told;
   other_told = told_later before between after (Some polls.answer) goes (told_at tells polls.id polls.answer between after polls.polled);
   taken = omega (arith, early.taken, polls.taken);
+  counted = rose_by_more (failed_count early.one) (failed_polls polls.answer) before between after early.counted polls.counted goes_later;
   between = between;
   first = early.asks;
   second = (polls.id, polls.asks);

@@ -28,6 +28,8 @@ use Rattle.failover_writer.specs.Stepping.{NoneBusy}
 use Rattle.failover_writer.specs.Moves.{IsBusyAt, PollsAt, is_pending}
 use Rattle.failover_writer.specs.Inside.{IsInOrder}
 use Rattle.failover_writer.specs.Keeping.{OthersStay, Passes}
+use Rattle.failover_writer.proofs.Accounted.{accounted_set}
+use Rattle.failover_writer.proofs.Covers.{rose_by_poll}
 use Rattle.failover_writer.proofs.IsSoundJournal.{sound_with, some_records}
 use Rattle.failover_writer.proofs.Lists.{split_at, all_append, all_back}
 use Rattle.failover_writer.proofs.OneChanged.{SameSegment, same_file, synced_changed, stands_changed}
@@ -225,9 +227,10 @@ order_polled tells state before after index old new operation id answer acked_so
       rested = rested_polled state.segments index old new operation id answer is rested_to order.rested;
       first_busy = omega (arith, order.first_busy, length-set state.segments index new);
       wal = order.wal;
-      sound = sound_with state (set state.segments index new) lives
+      sound = sound_with state (set state.segments index new) state.left_by_stall lives
           (some_records state order.sound (λ none. let clash : None ≡ Some old = sym (ap (λ (ws : List Writer). slice_get ws index) none)
-          ∙ is.at in cc)) order.sound;
+          ∙ is.at in cc))
+          (accounted_set state.segments index old new state.left_by_stall is.at (ap phase_is_broken is.phase) order.sound.accounted) order.sound;
     }
 
 -- A fault more is counted: there are too few segments for the count to stop.
@@ -256,9 +259,9 @@ sum_taken id answer before after takes = go id.side refl
 pub polls_at : (tells : Bool) (index : ℕ) (state seen : State) (before seen_before after : DiskView) (old new : Writer)
     (operation : Operation) (id : OpId) (answer : Progress) (pending : Bool) → state ≡ seen → before ≡ seen_before
     → IsAnswered state.segments index old new operation id answer → Polled tells id before after answer → TakesPoll id answer before after
-    → Makes (was_polled id ∷ []) before after → pending ≡ is_pending answer
+    → Makes (was_polled id ∷ []) before after → GoesOn before after → pending ≡ is_pending answer
     → PollsAt tells index seen (record state { segments = set state.segments index new }) seen_before after pending
-polls_at tells index state seen before seen_before after old new operation id answer pending same same_disk is polled takes asks pending_is =
+polls_at tells index state seen before seen_before after old new operation id answer pending same same_disk is polled takes asks goes pending_is =
     subst (λ (s : State). PollsAt tells index s (record state { segments = set state.segments index new }) seen_before after pending) same
     (subst (λ (v : DiskView). PollsAt tells index state (record state { segments = set state.segments index new }) v after pending) same_disk (record {
       writer = old;
@@ -266,6 +269,7 @@ polls_at tells index state seen before seen_before after old new operation id an
       id = id;
       answer = answer;
       taken = sum_taken id answer before after takes;
+      counted = rose_by_poll tells id answer before after goes polled;
       asks = asks;
       stood = is.at;
       phase = is.phase;

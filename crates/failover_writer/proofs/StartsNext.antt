@@ -23,6 +23,8 @@ use Rattle.failover_writer.specs.Inside.{IsInOrder}
 use Rattle.failover_writer.specs.Stepping.{IsBehind, StartsNext, NoneBusy}
 use Rattle.failover_writer.specs.Moves.{NoneRests, MayStartNext, started, nothing}
 use Rattle.failover_writer.specs.Keeping.{OthersStay, Passes}
+use Rattle.failover_writer.specs.Sound.{AreAccounted}
+use Rattle.failover_writer.proofs.Accounted.{accounted_last}
 use Rattle.failover_writer.proofs.IsSoundJournal.{sound_with, some_records}
 use Rattle.failover_writer.proofs.Segments.{place_at, index_in, index_is, apart_from_last, all_push, all_front, all_last, joined_front, joined_push, last_is, fit_beside, most_synced_push, sent_to_last, count_push}
 use Rattle.failover_writer.proofs.BeginsNext.{alone_with}
@@ -173,8 +175,10 @@ module _ (tells : Bool) (state : State) (old new : DiskView) (earlier : List Wri
             ∙ sym (take-append-le rested_to earlier (next ∷ []) short)) order.rested;
         first_busy = omega (arith, short, length-append earlier (next ∷ []));
         wal = order.wal;
-        sound = sound_with state after.segments lives (some_records state order.sound
-            (λ none. omega (arith, ap length is, ap length none, length-append earlier (current ∷ [])))) order.sound;
+        sound = sound_with state after.segments state.left_by_stall lives (some_records state order.sound
+            (λ none. omega (arith, ap length is, ap length none, length-append earlier (current ∷ []))))
+            (accounted_last earlier current next state.left_by_stall
+            (subst (λ (ws : List Writer). AreAccounted ws state.left_by_stall) is order.sound.accounted)) order.sound;
       }
 
   -- ---- what begins

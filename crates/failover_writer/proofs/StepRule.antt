@@ -186,7 +186,7 @@ begins_whole old new begins = (
 )
 
 -- the current segment once its next operation is started
-abbrev current_then : (old new : State) → StartsNext old new → Writer
+abbrev pub current_then : (old new : State) → StartsNext old new → Writer
 current_then old new next = record next.current {
   sent = sent_with next.operation (len old) next.current.sent;
   place = next.place;
@@ -208,14 +208,14 @@ starts_whole old new next = (less, ap (λ (s : State). s.dead) next.new_is)
     )
 
 -- What is begun or started breaks nothing.
-goes_whole : {polled started : State} → ActsAfterPolls polled started → (broken_count started ≤ broken_count polled) × (started.dead ≡ polled.dead)
+pub goes_whole : {polled started : State} → ActsAfterPolls polled started → (broken_count started ≤ broken_count polled) × (started.dead ≡ polled.dead)
 goes_whole {polled} (first new none behind begins) = begins_whole polled new begins
 goes_whole (none_to_begin none rests) = (omega arith, refl)
 goes_whole {polled} (switches new verdict begins) = begins_whole polled new begins
 goes_whole {polled} (starts new verdict behind next) = starts_whole polled new next
 goes_whole (stays verdict rests) = (omega arith, refl)
 
-polls_alive : {old polled : State} {one other : Option Progress} → Polls old one other polled → (polled.dead ≡ old.dead) × (polled.threshold ≡ old.threshold)
+pub polls_alive : {old polled : State} {one other : Option Progress} → Polls old one other polled → (polled.dead ≡ old.dead) × (polled.threshold ≡ old.threshold)
 polls_alive (nothing_begun none) = (refl, refl)
 polls_alive (asked earlier current one other earlier' current' are early late) = (refl, refl)
 

@@ -3,6 +3,8 @@ use Rattle.std.proofs.Common.{◌≡◌, ℕ, ◌+◌, ◌-◌, Bool, List, [], 
 use Rattle.std.specs.Prelude.{◌↔◌, ◌||◌, slice_get}
 use Rattle.std.proofs.lemmas.List.{length-append}
 use Rattle.std.proofs.lemmas.Option.{slice_get-get_or}
+use Rattle.failover_writer.specs.Answered.{failed_count}
+use Rattle.failover_writer.proofs.Covers.{rose_by_none, rose_by_more, rose_by_as}
 use Rattle.failover_writer.proofs.Lists.{last_split}
 use Rattle.disk_face.specs.declared.Side.{Side}
 use Rattle.disk_face.specs.declared.Progress.{Progress}
@@ -92,6 +94,10 @@ steps_by old polled new before between after waited answer onward stalls asks po
   one_told = told_later before between after polls.one onward polls.one_told;
   other_told = told_later before between after polls.other onward polls.other_told;
   taken = omega (arith, stalls, polls.taken);
+  counted =
+      let count = failed_count polls.one + failed_count polls.other in
+      rose_by_as (count + 0) count before after (omega arith)
+      (rose_by_more count 0 before between after polls.counted (rose_by_none between after onward) onward);
   asks = record { first_polled = polls.between; both_polled = between; first = polls.first; second = polls.second; start = asks };
 }
 

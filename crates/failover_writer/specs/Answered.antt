@@ -1,8 +1,9 @@
 -- What a step and a closing answer, and what their polls tell of the disk (docs/FORMATS.md, "The step of a journal").
 use Rattle.std.specs.Prelude.{◌≡◌, ◌≢◌, ◌⊎◌, ℕ, ◌+◌, ◌<◌, ◌≤◌, Bool, [], ◌∷◌, length, Option, Some, None, Result, Ok, Err}
 use Rattle.std.specs.List.{AllByRecursion}
-use Rattle.wal_base.specs.Faults.{Rose}
+use Rattle.wal_base.specs.Faults.{Rose, COUNT_END}
 use Rattle.disk_face.specs.declared.Side.{Side}
+use Rattle.disk_face.specs.declared.Side.TheVariants.{Primary, Secondary}
 use Rattle.disk_face.specs.declared.OpId.{OpId}
 use Rattle.disk_face.specs.declared.Progress.{Progress}
 use Rattle.disk_face.specs.declared.Progress.TheVariants.{Pending, Done, Failed}
@@ -38,6 +39,24 @@ abbrev pub pending_count : Option Progress → ℕ
 pending_count None = 0
 pending_count (Some answer) = pending_polls answer
 
+-- how many polls failed, of one that was made or not
+abbrev pub failed_polls : Progress → ℕ
+failed_polls Pending = 0
+failed_polls Done = 0
+failed_polls Failed = 1
+
+abbrev pub failed_count : Option Progress → ℕ
+failed_count None = 0
+failed_count (Some answer) = failed_polls answer
+
+-- the counts of faults of both sides together
+abbrev pub faults_of : DiskView → ℕ
+faults_of v = v.faults Primary + v.faults Secondary
+
+-- The faults of both sides together rose by so many at least, or the count of a side stands at its end.
+abbrev pub RoseBy : ℕ → DiskView → DiskView → Type 0
+RoseBy count before after = (faults_of before + count ≤ faults_of after) ⊎ ((side : Side) × (COUNT_END ≤ after.faults side))
+
 -- The disk was polled once, or asked for nothing.
 abbrev pub AsksToPoll : Option Progress → DiskView → DiskView → Type 0
 AsksToPoll None before after = Makes [] before after
@@ -64,6 +83,7 @@ pub record StepsBy (old new : State) (before after : DiskView) (answer : Result 
   pub one_told : IsTold before after one
   pub other_told : IsTold before after other
   pub taken : polls_left after + (pending_count one + pending_count other) ≡ polls_left before
+  pub counted : RoseBy (failed_count one + failed_count other) before after
   pub asks : AsksInTurn one other before after
 
 -- It is not dead, nothing is in flight, and there is no work.
@@ -84,6 +104,11 @@ IsHarmed state = (state.dead ≢ None) ⊎ (1 ≤ broken_count state)
 -- The operation on the segment, if any, was not pending, and none has failed.
 abbrev pub IsSmoothSegment : Writer → Type 0
 IsSmoothSegment w = (w.waiting ≡ 0) × (w.phase ≢ Broken)
+
+-- No segment was left by a stall, and none has an operation that was pending.
+pub record IsUnstalled (state : State) : Type 0 where
+  pub left : state.left_by_stall ≡ 0
+  pub waiting : AllByRecursion (λ (w : Writer). w.waiting ≡ 0) state.segments
 
 -- Nothing has gone wrong: it is not dead, at most one segment was begun, no operation was pending and none has failed.
 pub record IsSmooth (state : State) : Type 0 where

@@ -3,20 +3,23 @@ use Rattle.std.specs.Prelude.{◌⊎◌, ◌≤◌, Bool, List, IsTrue}
 use Rattle.batch_repr.specs.declared.batch.Batch.{Batch}
 use Rattle.disk_face.specs.View.{Files, DiskView, files, AtEachMoment}
 use Rattle.disk_face.specs.Calls.{GoesOn}
-use Rattle.failover_writer.specs.State.{JournalView, acked}
+use Rattle.failover_writer.specs.State.{JournalView, acked, broken_count}
 use Rattle.failover_writer.specs.Setting.{KeepsEnd}
 use Rattle.failover_writer.specs.Ranges.{StandsFor, KeepsRecords}
-use Rattle.failover_writer.specs.Answered.{IsHarmed, IsSmooth, FaultsRose, PollsFell}
+use Rattle.failover_writer.specs.Answered.{IsHarmed, IsSmooth, IsUnstalled, FaultsRose, PollsFell, RoseBy}
 use Rattle.failover_writer.specs.Keeping.{KeepsRun, RecoversTo, IsOpenedOn, KeepsBase, KeepsBases, Passes}
 
 -- What steps leave as it was, and what they tell of the disk: so much holds of one, and of several one after another. The
--- journal is harmed only where faults rose, and stays smooth where none rose and no poll was pending.
+-- journal is harmed only where faults rose, and stays smooth where none rose and no poll was pending. Faults that covered its
+-- failures since a moment cover them still, and none of its segments is left by a stall where no poll was pending.
 pub record Lasts {Disk : Type 0} (tells : Bool) (view : Disk → DiskView) (old new : JournalView Disk) : Type 0 where
   pub setting : KeepsEnd old.state new.state
   pub acked : acked old.state ≤ acked new.state
   pub harmed : IsHarmed new.state → IsHarmed old.state ⊎ FaultsRose (view old.disk) (view new.disk)
   pub smooth : 1 ≤ old.state.threshold → IsSmooth old.state → IsSmooth new.state
       ⊎ (FaultsRose (view old.disk) (view new.disk) ⊎ PollsFell (view old.disk) (view new.disk))
+  pub covers : (start : DiskView) → RoseBy (broken_count old.state) start (view old.disk) → RoseBy (broken_count new.state) start (view new.disk)
+  pub unstalled : 1 ≤ old.state.threshold → IsUnstalled old.state → IsUnstalled new.state ⊎ PollsFell (view old.disk) (view new.disk)
   pub keeps : KeepsRecords tells view old new
   pub passes : Passes tells old.state new.state (view old.disk) (view new.disk)
   pub goes_on : GoesOn (view old.disk) (view new.disk)

@@ -16,7 +16,7 @@ use Rattle.failover_writer.specs.declared.fault.JournalFault.{JournalFault}
 use Rattle.failover_writer.specs.declared.fault.JournalFault.TheVariants as faults
 use Rattle.failover_writer.specs.State.{State, len}
 use Rattle.failover_writer.specs.Stepping.{IsBehind, NoneBusy, StartsNext, Dies, Polls}
-use Rattle.failover_writer.specs.Answered.{AsksToPoll, IsTold, pending_count}
+use Rattle.failover_writer.specs.Answered.{AsksToPoll, IsTold, pending_count, failed_polls, failed_count, RoseBy}
 use Rattle.failover_writer.specs.Remaining.{polls_left}
 
 abbrev pub is_pending : Progress → Bool
@@ -43,6 +43,7 @@ pub record PollsAt (tells : Bool) (index : ℕ) (old new : State) (before after 
   pub phase : writer.phase ≡ InFlight operation id
   pub polled : Polled tells id before after answer
   pub taken : polls_left after + pending_polls answer ≡ polls_left before
+  pub counted : RoseBy (failed_polls answer) before after
   pub asks : Makes (was_polled id ∷ []) before after
   pub pending_is : pending ≡ is_pending answer
   pub new_is : new ≡ record old { segments = take index old.segments ++ after_answer operation answer writer ∷ drop (index + 1) old.segments }
@@ -55,6 +56,7 @@ pub record PollsAll (old new : State) (before after : DiskView) (pending : Bool)
   pub one_told : IsTold before after one
   pub other_told : IsTold before after other
   pub taken : polls_left after + (pending_count one + pending_count other) ≡ polls_left before
+  pub counted : RoseBy (failed_count one + failed_count other) before after
   pub between : DiskView
   pub first : AsksToPoll one before between
   pub second : AsksToPoll other between after

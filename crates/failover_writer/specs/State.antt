@@ -24,6 +24,8 @@ pub record State : Type 0 where
   pub segments : List Writer
   -- set once the journal has given up
   pub dead : Option DeadMark
+  -- how many segments were not broken as the next one was begun
+  pub left_by_stall : ℕ
 
 -- how many records there are
 abbrev pub len : State → ℕ
@@ -54,7 +56,7 @@ broken_count state = count_by is_broken state.segments
 
 -- a journal of no record, before any segment is begun
 abbrev pub unbegun : ℕ → ℕ → ℕ → Queue → State
-unbegun wal base threshold queue = record { wal = wal; base = base; next = base; threshold = threshold; queue = queue; want = 0; segments = []; dead = None }
+unbegun wal base threshold queue = record { wal = wal; base = base; next = base; threshold = threshold; queue = queue; want = 0; segments = []; dead = None; left_by_stall = 0 }
 
 -- a journal with its disk
 pub record JournalView (Disk : Type 0) : Type 0 where

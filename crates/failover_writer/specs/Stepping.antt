@@ -1,5 +1,5 @@
 -- What one step of a journal does (docs/FORMATS.md, "The step of a journal").
-use Rattle.std.specs.Prelude.{◌≡◌, ◌⊎◌, ℕ, ◌<◌, max, List, [], ◌∷◌, ◌++◌, length, Option, Some, None, Result, Ok, Err, nat_lt}
+use Rattle.std.specs.Prelude.{◌≡◌, ◌⊎◌, ℕ, ◌+◌, ◌<◌, max, cond, List, [], ◌∷◌, ◌++◌, length, Option, Some, None, Result, Ok, Err, nat_lt}
 use Rattle.std.specs.List.{AllByRecursion}
 use Rattle.disk_face.specs.declared.Side.{Side}
 use Rattle.disk_face.specs.declared.OpId.{OpId}
@@ -91,12 +91,18 @@ begun state id w = (w.side ≡ side_at (length state.segments)) × (w.name ≡ r
     × (w.from ≡ acked state) × (w.sent ≡ acked state) × (w.written ≡ acked state)
     × (w.synced ≡ acked state) × (w.waiting ≡ 0) × (w.phase ≡ InFlight Create id)
 
+-- how many are left by a stall as the next segment is begun: the current one, if it is not broken
+abbrev pub left_behind : List Writer → ℕ
+left_behind [] = 0
+left_behind (w ∷ []) = cond (is_broken w) 0 1
+left_behind (w ∷ v ∷ writers) = left_behind (v ∷ writers)
+
 -- The next segment is begun at the end of what is synced.
 pub record BeginsNext (old new : State) : Type 0 where
   pub id : OpId
   pub writer : Writer
   pub fresh : begun old id writer
-  pub new_is : new ≡ record old { segments = old.segments ++ writer ∷ [] }
+  pub new_is : new ≡ record old { segments = old.segments ++ writer ∷ []; left_by_stall = old.left_by_stall + left_behind old.segments }
 
 -- The current segment's next operation is started.
 pub record StartsNext (old new : State) : Type 0 where

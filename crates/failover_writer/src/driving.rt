@@ -6,7 +6,7 @@ ghost use Rattle.stall_monitor.specs.declared.verdict.TheConstants.{SEGMENTS_MAX
 ghost use Rattle.failover_writer.specs.State.{len, acked};
 ghost use Rattle.failover_writer.specs.Ranges as ranges;
 ghost use Rattle.failover_writer.specs.Ranges.{KeepsRecords};
-ghost use Rattle.failover_writer.specs.Stepping.{IsBehind, NoneBusy, BeginsNext};
+ghost use Rattle.failover_writer.specs.Stepping.{IsBehind, NoneBusy, BeginsNext, left_behind};
 ghost use Rattle.failover_writer.specs.Remaining.{polls_left};
 ghost use Rattle.failover_writer.specs.Answered.{StartsAtMostOne};
 ghost use Rattle.failover_writer.specs.Keeping.{Passes};
@@ -119,6 +119,16 @@ impl<D: Disk> Journal<D> {
         }
     }
 
+    /// How many segments are left by a stall if the next one is begun now: the current one, if it is not broken.
+    fn left_behind(&self) -> u32
+        ensures { result ≡ left_behind self.now.state.segments }
+    {
+        match self.writers.last() {
+            Some(current) => { if current.broken() { 0 } else { 1 } }
+            None => 0,
+        }
+    }
+
     /// Begins the next segment at the end of what is synced.
     pub(crate) fn begin_next(&mut self) -> Result<(), NoMemory>
         requires lives { self.old.state.dead ≡ None }
@@ -140,11 +150,15 @@ impl<D: Disk> Journal<D> {
         let log = name.log();
         let goal = self.goal();
         let mut writer = LogWriter::new(self.alloc, side_at(index), name, log, self.acked)?;
+        let left = self.left_behind();
         // The room is there before anything is started.
         self.writers.reserve(1)?;
         writer.begin(&mut self.disk, &self.records, &goal)?;
         match self.writers.push(writer) {
-            Ok(()) => Ok(()),
+            Ok(()) => {
+                self.left_by_stall += left;
+                Ok(())
+            }
             Err(_) => unreachable!(),
         }
     }

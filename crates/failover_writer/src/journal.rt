@@ -9,14 +9,14 @@ ghost use Rattle.record_queue.specs.declared.node.Filled.{Filled};
 ghost use Rattle.disk_face.specs.View.{files, NothingInFlight};
 ghost use Rattle.disk_face.specs.Calls.{GoesOn, Stalls};
 ghost use Rattle.stall_monitor.specs.declared.verdict.TheConstants.{THRESHOLD_MAX};
-ghost use Rattle.failover_writer.specs.State.{len, acked, unbegun, with_room};
+ghost use Rattle.failover_writer.specs.State.{len, acked, broken_count, unbegun, with_room};
 ghost use Rattle.failover_writer.specs.Ranges.{AreUnsent, StandsFor, Stands, KeepsRecords, AddsRecord};
 ghost use Rattle.failover_writer.specs.Stepping as stepping;
 ghost use Rattle.failover_writer.specs.Stepping.{IsBehind, HasWork, IsActive, IsAtRest, shown_to_monitor, Releases, IsUp};
 ghost use Rattle.failover_writer.specs.declared.fault.Step.TheVariants as steps;
 ghost use Rattle.failover_writer.specs.Setting.{KeepsGoal, KeepsSegments};
 ghost use Rattle.failover_writer.specs.Remaining.{polls_left, Falls};
-ghost use Rattle.failover_writer.specs.Sound.{HasGivenUp, IsSoundJournal};
+ghost use Rattle.failover_writer.specs.Sound.{HasGivenUp, IsSoundJournal, CountsLeaveFew};
 ghost use Rattle.failover_writer.specs.Answered.{StartsAtMostOne, StepsBy, Settles, IsIdle, IsMarked, PollsFell, ClosesBy};
 ghost use Rattle.failover_writer.specs.Keeping.{OthersStay, IsOpening, KeepsBase, KeepsBases, Passes};
 ghost use Rattle.failover_writer.specs.Lasting.{Lasts, Survives};
@@ -25,6 +25,7 @@ ghost use Rattle.failover_writer.specs.Moves.{EndsGoing, Pushes};
 
 use crate::driving::side_at;
 use crate::fault::{DeadMark, JournalFault, Step};
+use crate::theorems::a_journal_at_hand;
 use batch_repr::Numbered;
 use disk_face::{Disk, Side, StallDisk};
 use log_writer::LogWriter;
@@ -51,6 +52,7 @@ pub struct Journal<D: Disk> {
     pub(crate) first_busy: usize,
     pub(crate) failed: u64,
     dead: Option<DeadMark>,
+    pub(crate) left_by_stall: u32,
 }
 
 impl<D: Disk> Model for Journal<D> {
@@ -70,6 +72,7 @@ impl<D: Disk> Model for Journal<D> {
         want = j.want;
         segments = j.writers.items;
         dead = j.dead;
+        left_by_stall = j.left_by_stall;
       };
     } };
 
@@ -82,6 +85,7 @@ impl<D: Disk> Model for Journal<D> {
       want = j.want;
       segments = j.writers.items;
       dead = j.dead;
+      left_by_stall = j.left_by_stall;
     }) (D.view j.disk) j.acked j.first_busy j.failed };
 }
 
@@ -126,6 +130,7 @@ impl<D: Disk> Journal<D> {
             first_busy: 0,
             failed: 0,
             dead: None,
+            left_by_stall: 0,
         })
     }
 
@@ -226,6 +231,21 @@ impl<D: Disk> Journal<D> {
         self.writers.len() as u32
     }
 
+    /// How many of its polls were answered with a failure: one for each segment that is broken.
+    pub fn failed(&self) -> u64
+        ensures failed { result ≡ broken_count self.now.state }
+        ensures few { CountsLeaveFew self.now.state }
+    {
+        self.failed
+    }
+
+    /// How many of its segments were not broken as the next one was begun.
+    pub fn left_by_stall(&self) -> u32
+        ensures { result ≡ self.now.state.left_by_stall }
+    {
+        self.left_by_stall
+    }
+
     /// The mark of a journal that has given up.
     pub fn dead(&self) -> Option<DeadMark>
         ensures dead { result ≡ self.now.state.dead }
@@ -301,6 +321,7 @@ impl<D: Disk> Journal<D> {
         ensures falls { Falls self.old.state self.new.state (D.view self.old.disk) (D.view self.new.disk) result }
         ensures lasts { Lasts D.tells D.view self.old self.new }
         ensures survives { Survives D.tells D.view self.old self.new }
+        ensures few { CountsLeaveFew self.new.state }
     {
         if let Some(mark) = self.dead {
             return Err(JournalFault::Dead {
@@ -311,7 +332,9 @@ impl<D: Disk> Journal<D> {
         if !self.is_up() {
             return Ok(Step::Idle);
         }
-        self.advance()
+        let answer = self.advance();
+        a_journal_at_hand(self);
+        answer
     }
 
     /// Polls what is in flight, and goes on.
@@ -412,8 +435,11 @@ impl<D: Disk> Journal<D> {
         ensures want { self.new.state.want ≡ self.old.state.want }
         ensures lasts { Lasts D.tells D.view self.old self.new }
         ensures survives { Survives D.tells D.view self.old self.new }
+        ensures few { CountsLeaveFew self.new.state }
     {
-        self.move_on()
+        let answer = self.move_on();
+        a_journal_at_hand(self);
+        answer
     }
 
     /// Steps until a step does not move.
@@ -442,9 +468,12 @@ impl<D: Disk> Journal<D> {
         ensures still { self.old.state.dead ≢ None → self.new.disk ≡ self.old.disk }
         ensures lasts { Lasts D.tells D.view self.old self.new }
         ensures survives { Survives D.tells D.view self.old self.new }
+        ensures few { CountsLeaveFew self.new.state }
     {
         self.want = self.records.end();
-        self.drain()
+        let answer = self.drain();
+        a_journal_at_hand(self);
+        answer
     }
 
     /// Steps until nothing is in flight and there is no work.

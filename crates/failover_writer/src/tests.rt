@@ -203,6 +203,7 @@ fn a_stalled_segment_is_followed_by_the_next(rt: HostRuntime) {
     assert_eq!(rt; journal.close(), Ok(()));
     assert_eq!(rt; journal.acked(), 2);
     assert_eq!(rt; journal.segments(), 2);
+    assert_eq!(rt; (journal.failed(), journal.left_by_stall()), (0, 1));
     let disk = journal.into_disk();
     assert_sent(&rt, &disk, 0, &TWO_FRAMES);
     assert_sent(&rt, &disk, 1, &TWO_FRAMES);
@@ -249,6 +250,25 @@ fn a_journal_whose_syncs_fail_is_dead_for_good(rt: HostRuntime) {
     };
     assert_eq!(rt; journal.dead(), Some(mark));
     assert_eq!(rt; (journal.segments(), journal.acked()), (10, 0));
+    assert_eq!(rt; (journal.failed(), journal.left_by_stall()), (10, 0));
+}
+
+/// A segment that is left while it hangs and fails later counts as both.
+#[test]
+fn a_segment_that_is_left_and_fails_later_counts_twice(rt: HostRuntime) {
+    let alloc = rt.alloc();
+    let mut fresh = Fresh::new(&rt, alloc);
+    fresh.fail_op(&rt, 2);
+    let mut journal = fresh.journal(&rt, alloc, 3);
+    push(&rt, alloc, &mut journal, b'1', true);
+    for _ in 0..3 {
+        assert_eq!(rt; step(&rt, &mut journal), Step::Moved);
+    }
+    journal.stall(Side::Primary, 3);
+    assert_eq!(rt; (journal.failed(), journal.left_by_stall()), (0, 0));
+    assert_eq!(rt; journal.close(), Ok(()));
+    assert_eq!(rt; (journal.segments(), journal.acked()), (2, 1));
+    assert_eq!(rt; (journal.failed(), journal.left_by_stall()), (1, 1));
 }
 
 /// A journal of two records of which the first segment wrote one and hangs on the other. They come in nodes where that

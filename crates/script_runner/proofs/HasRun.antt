@@ -1,5 +1,5 @@
 -- What the journal of a run came to, by what it keeps of its opening.
-use Rattle.std.proofs.Common.{◌≡◌, ◌≢◌, ◌⊎◌, inl, inr, ℕ, suc, ◌<◌, Bool, true, false, List, [], ◌∷◌, length, map, Option, Some, None, IsTrue, ap, sym, subst, ◌∙◌, refl, arith}
+use Rattle.std.proofs.Common.{◌≡◌, ◌≢◌, ◌⊎◌, inl, inr, ℕ, suc, ◌<◌, ◌≤◌, ◌-◌, Bool, true, false, List, [], ◌∷◌, length, map, Option, Some, None, IsTrue, ap, sym, subst, ◌∙◌, refl, arith}
 use Rattle.std.specs.Prelude.{is_some, max, Contains}
 use Rattle.std.specs.List.{AllByRecursion}
 use Rattle.std.proofs.lemmas.List.{nil_from_length}
@@ -13,10 +13,11 @@ use Rattle.stall_monitor.specs.declared.verdict.TheConstants.{SEGMENTS_MAX}
 use Rattle.failover_writer.specs.declared.fault.DeadMark.{DeadMark}
 use Rattle.failover_writer.specs.State.{State, JournalView, unbegun, acked, most_synced, broken_count}
 use Rattle.failover_writer.specs.Ranges.{AreJoined}
-use Rattle.failover_writer.specs.Answered.{FaultsRose, IsSmooth}
+use Rattle.failover_writer.specs.Answered.{FaultsRose, IsSmooth, IsUnstalled, RoseBy}
 use Rattle.failover_writer.specs.Keeping.{IsElsewhere, OthersStay, IsOpening, KeepsBase, RecoversTo}
 use Rattle.failover_writer.specs.Running.{PollsLeft, OthersSame}
-use Rattle.failover_writer.proofs.Laws.{len_is, synced_within, not_theirs, base_recovers, run_kept_now, none_of_opening, reads_as_image}
+use Rattle.failover_writer.specs.Sound.{CountsLeaveFew}
+use Rattle.failover_writer.proofs.Laws.{counts_leave_few, rose_by_less, len_is, synced_within, not_theirs, base_recovers, run_kept_now, none_of_opening, reads_as_image}
 use Rattle.session_script.specs.declared.replies.RunEnd.{RunEnd}
 use Rattle.session_script.specs.declared.script.Round.{Round}
 use Rattle.commit_pipeline.specs.Openings.{Opening, MayStall, KeepsJournal}
@@ -113,6 +114,16 @@ module _ (threshold : ℕ) (tells : Bool) (opening : Opening) (wal first : ℕ) 
     more (inr (inr (inl left))) many = inr (inl left)
     more (inr (inr (inr may))) many = inr (inr (started.may may))
 
+    few : CountsLeaveFew state
+    few = counts_leave_few state told_end.sound
+
+    -- so many faults, or a stall
+    faults_or : IsUnstalled state ⊎ MayStall opening → (n : ℕ) → (IsUnstalled state → n ≤ broken_count state)
+        → RoseBy n opening.disk v ⊎ (PollsLeft opening.disk ⊎ StallsSome rounds)
+    faults_or (inl still) n less = inl (rose_by_less (broken_count state) n opening.disk v (less still) r.covers)
+    faults_or (inr (inl left)) n less = inr (inl left)
+    faults_or (inr (inr may)) n less = inr (inr (started.may may))
+
     ends : EndsRunAs rounds (length own) end opening.disk v
     ends = record {
       within = omega (arith, told_end.acked_is, synced_within tells own v 0 state.segments (omega arith) r.stands.fit);
@@ -123,6 +134,8 @@ module _ (threshold : ℕ) (tells : Bool) (opening : Opening) (wal first : ℕ) 
       more = λ many. more r.smooth (omega (arith, many, told_end.segments_is));
       failed = λ d. r.harmed (inl (dead d));
       ten = λ d. told_end.segments_is ∙ ten (dead d);
+      each_fault = faults_or r.unstalled (end.segments - 1) (λ still. omega (arith, few.segments, still.left, told_end.segments_is));
+      ten_faults = λ d. faults_or r.unstalled SEGMENTS_MAX (λ still. omega (arith, few.dead (dead d), still.left));
     }
 
     not_broken : (FaultsRose opening.disk v → ⊥) → broken_count state ≡ 0

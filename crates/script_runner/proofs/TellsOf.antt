@@ -1,12 +1,14 @@
 -- What a run tells of the disk that a script stalls, told of the disk within.
-use Rattle.std.proofs.Common.{◌≡◌, ◌⊎◌, inl, inr, ℕ, Bool, List, length, Option, sym, ap, ◌∙◌, arith, subst}
+use Rattle.std.proofs.Common.{◌≡◌, ◌⊎◌, inl, inr, ℕ, ◌-◌, Bool, List, length, Option, sym, ap, ◌∙◌, arith, subst}
 use Rattle.batch_repr.specs.declared.batch.Batch.{Batch}
 use Rattle.disk_face.specs.declared.Side.{Side}
+use Rattle.disk_face.specs.declared.Side.TheVariants.{Primary, Secondary}
+use Rattle.stall_monitor.specs.declared.verdict.TheConstants.{SEGMENTS_MAX}
 use Rattle.disk_face.specs.declared.OpId.{OpId}
 use Rattle.disk_face.specs.View.{DiskView, Files, Flight, files, NothingInFlight}
 use Rattle.disk_face.specs.Image.{IsRested}
 use Rattle.disk_face.specs.Script.{TellsOf}
-use Rattle.failover_writer.specs.Answered.{FaultsRose}
+use Rattle.failover_writer.specs.Answered.{FaultsRose, RoseBy}
 use Rattle.failover_writer.specs.Keeping.{IsOpening, RecoversTo}
 use Rattle.failover_writer.specs.Running.{PollsLeft, OthersSame, ReadsAsImage}
 use Rattle.failover_writer.proofs.Laws.{same_stands}
@@ -36,6 +38,12 @@ module _ (old start v new : DiskView) (before : TellsOf old start) (polls : (sid
   more_told rounds (inr (inl (side, left))) = inr (inl (side, omega (arith, left, polls side)))
   more_told rounds (inr (inr some)) = inr (inr some)
 
+  by_told : (rounds : List Round) (n : ℕ) → RoseBy n start v ⊎ (PollsLeft start ⊎ StallsSome rounds) → RoseBy n old new ⊎ (PollsLeft old ⊎ StallsSome rounds)
+  by_told rounds n (inl (inl rose)) = inl (inl (omega (arith, rose, faults_of Primary, faults_of Secondary, faults_then Primary, faults_then Secondary)))
+  by_told rounds n (inl (inr (side, at_end))) = inl (inr (side, omega (arith, at_end, faults_then side)))
+  by_told rounds n (inr (inl (side, left))) = inr (inl (side, omega (arith, left, polls side)))
+  by_told rounds n (inr (inr some)) = inr (inr some)
+
   idle_told : NothingInFlight v → NothingInFlight new
   idle_told idle id = ap (λ (flights : OpId → Option Flight). flights id) (sym after.in_flight) ∙ idle id
 
@@ -49,6 +57,8 @@ module _ (old start v new : DiskView) (before : TellsOf old start) (polls : (sid
     more = λ many. more_told rounds (e.more many);
     failed = λ died. rose_told (e.failed died);
     ten = e.ten;
+    each_fault = by_told rounds (end.segments - 1) e.each_fault;
+    ten_faults = λ died. by_told rounds SEGMENTS_MAX (e.ten_faults died);
   }
 
   was_files : files start ≡ files old

@@ -1,5 +1,5 @@
 -- What a whole run over a disk comes to (docs/FORMATS.md, "The run of a script", "The generated load").
-use Rattle.std.specs.Prelude.{◌≡◌, ◌≢◌, ◌⊎◌, ◌++◌, ℕ, ◌<◌, ◌≤◌, Bool, true, false, List, [], ◌∷◌, length, Contains, None, IsTrue, is_some}
+use Rattle.std.specs.Prelude.{◌≡◌, ◌≢◌, ◌⊎◌, ◌++◌, ◌-◌, ℕ, ◌<◌, ◌≤◌, Bool, true, false, List, [], ◌∷◌, length, Contains, None, IsTrue, is_some}
 use Rattle.std.specs.List.{AllByRecursion, list_any}
 use Rattle.batch_repr.specs.declared.batch.Batch.{Batch}
 use Rattle.batch_repr.specs.declared.limits.TheConstants.{NUMBER_FIRST}
@@ -10,7 +10,7 @@ use Rattle.disk_face.specs.Image.{IsRested}
 use Rattle.stall_monitor.specs.declared.verdict.TheConstants.{SEGMENTS_MAX}
 use Rattle.failover_writer.specs.declared.fault.JournalEnd.{JournalEnd}
 use Rattle.failover_writer.specs.State.{State, JournalView, len, acked}
-use Rattle.failover_writer.specs.Answered.{FaultsRose}
+use Rattle.failover_writer.specs.Answered.{FaultsRose, RoseBy}
 use Rattle.failover_writer.specs.Keeping.{RecoversTo, IsOpening}
 use Rattle.failover_writer.specs.Sound.{IsSoundJournal}
 use Rattle.failover_writer.specs.Running.{PollsLeft, EndsOf, OthersSame, ReadsAsImage}
@@ -62,6 +62,9 @@ pub record EndsRunAs (rounds : List Round) (batches : ℕ) (end : RunEnd) (old n
   pub more : 1 < end.segments → FaultsRose old new ⊎ (PollsLeft old ⊎ StallsSome rounds)
   pub failed : IsTrue end.died → FaultsRose old new
   pub ten : IsTrue end.died → end.segments ≡ SEGMENTS_MAX
+  -- where no poll may be stalled, each segment after the first is a fault of its own, and ten faults make a journal die
+  pub each_fault : RoseBy (end.segments - 1) old new ⊎ (PollsLeft old ⊎ StallsSome rounds)
+  pub ten_faults : IsTrue end.died → RoseBy SEGMENTS_MAX old new ⊎ (PollsLeft old ⊎ StallsSome rounds)
 
 -- what the end of a run says of its journal
 abbrev pub journal_end : RunEnd → JournalEnd

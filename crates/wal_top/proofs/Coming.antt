@@ -1,14 +1,16 @@
 -- What a run does after a recovery, told of the disk as it was before.
-use Rattle.std.proofs.Common.{◌≡◌, ◌⊎◌, inl, inr, ℕ, suc, ◌≤◌, Bool, true, false, List, [], length, Option, Some, None, IsTrue, refl, sym, ap, ◌∙◌, arith, subst}
+use Rattle.std.proofs.Common.{◌≡◌, ◌⊎◌, inl, inr, ℕ, suc, ◌-◌, ◌≤◌, Bool, true, false, List, [], length, Option, Some, None, IsTrue, refl, sym, ap, ◌∙◌, arith, subst}
 use Rattle.batch_repr.specs.declared.batch.Batch.{Batch}
 use Rattle.disk_face.specs.declared.Side.{Side}
+use Rattle.disk_face.specs.declared.Side.TheVariants.{Primary, Secondary}
+use Rattle.stall_monitor.specs.declared.verdict.TheConstants.{SEGMENTS_MAX}
 use Rattle.disk_face.specs.View.{Place, segment, DiskView, File, Files, files}
 use Rattle.disk_face.specs.Image.{IsSound, IsRested, as_read, dirs_as_read, directories}
 use Rattle.disk_face.specs.Calls.{GoesOn}
 use Rattle.disk_face.proofs.Laws.{rose_later}
 use Rattle.log_writer.specs.Fits.{IsUnsent}
 use Rattle.failover_writer.specs.Ranges.{side_at, AreUnsent}
-use Rattle.failover_writer.specs.Answered.{FaultsRose}
+use Rattle.failover_writer.specs.Answered.{FaultsRose, RoseBy}
 use Rattle.failover_writer.specs.Keeping.{RecoversTo}
 use Rattle.failover_writer.proofs.Laws.{read_synced, rested_synced, recovered_opens}
 use Rattle.wal_recovery.specs.Listing.{Stored, StandsIn, name_in, IsNextWal}
@@ -82,6 +84,12 @@ module _ (old mid new : DiskView) (wal : ℕ) (tells : Bool) (only : IsTrue tell
     more_since (inr (inl (side, left))) = inr (inl (side, omega (arith, left, goes.polls side)))
     more_since (inr (inr stalls)) = inr (inr stalls)
 
+    by_since : (n : ℕ) → RoseBy n mid new ⊎ (PollsLeft mid ⊎ StallsSome (work_rounds work)) → RoseBy n old new ⊎ (PollsLeft old ⊎ StallsSome (work_rounds work))
+    by_since n (inl (inl rose)) = inl (inl (omega (arith, rose, goes.faults Primary, goes.faults Secondary)))
+    by_since n (inl (inr at_end)) = inl (inr at_end)
+    by_since n (inr (inl (side, left))) = inr (inl (side, omega (arith, left, goes.polls side)))
+    by_since n (inr (inr stalls)) = inr (inr stalls)
+
     ends_since : EndsRunAs (work_rounds work) (length r.batches) ran.end old new
     ends_since =
         let e = r.ended.ends in
@@ -94,6 +102,8 @@ module _ (old mid new : DiskView) (wal : ℕ) (tells : Bool) (only : IsTrue tell
           more = λ many. more_since (e.more many);
           failed = λ died. rose_since (e.failed died);
           ten = e.ten;
+          each_fault = by_since (ran.end.segments - 1) e.each_fault;
+          ten_faults = λ died. by_since SEGMENTS_MAX (e.ten_faults died);
         }
 
     module _ (stable : IsTrue tells → IsRested (files old) → AreSegmentsStable (files mid)) (within : wal ≤ WAL_MAX)

@@ -43,11 +43,43 @@ fn long_run(rt: &impl Abort, alloc: Global, steps: u32) -> (Journal<MemDisk>, u3
     (journal, made)
 }
 
+/// Makes so many steps of the short run, in which each pending poll leaves a segment, the primary side stalls and the
+/// second of three records is to be synced. Answers how many steps it made.
+fn short_run(rt: &impl Abort, alloc: Global, steps: u32) -> (Journal<MemDisk>, u32) {
+    let mut journal = journal_of(rt, alloc, 1);
+    journal.stall(Side::Primary, 4);
+    push(rt, alloc, &mut journal, b'0', false);
+    push(rt, alloc, &mut journal, b'1', true);
+    push(rt, alloc, &mut journal, b'2', false);
+    let mut made = 0u32;
+    for _ in 0..1_000 {
+        if made == steps || step(rt, &mut journal) == Step::Idle {
+            break;
+        }
+        made = made.wrapping_add(1);
+    }
+    (journal, made)
+}
+
+#[derive(Clone, Copy, Debug, PartialEq, Eq)]
+enum Kind {
+    Short,
+    Long,
+}
+
+fn run_of(rt: &impl Abort, alloc: Global, which: Kind, steps: u32) -> (Journal<MemDisk>, u32) {
+    match which {
+        Kind::Short => short_run(rt, alloc, steps),
+        Kind::Long => long_run(rt, alloc, steps),
+    }
+}
+
 /// What a crash leaves after the stable bytes of each segment.
 #[derive(Clone, Copy, Debug, PartialEq, Eq)]
 enum Tail {
     Nothing,
     AllSent,
+    AllButLast,
     LastByteChanged,
 }
 
@@ -70,6 +102,9 @@ fn tail_of(
 ) -> Option<Blob> {
     let sent = disk.sent(side_of(index), segment_at(index))?;
     let mut bytes = Vec::from_slice(alloc, sent.get(stable..)?).expect(rt, "memory");
+    if tail == Tail::AllButLast {
+        bytes.pop();
+    }
     if tail == Tail::LastByteChanged
         && let Some(last) = bytes.last_mut()
     {
@@ -101,21 +136,21 @@ fn pick_of(
     CrashPick { files }
 }
 
-/// The disk of the long run after so many steps, with how much was acked and how much was pushed.
-fn stopped(rt: &impl Abort, alloc: Global, steps: u32) -> (MemDisk, u64, u64) {
-    let (journal, _) = long_run(rt, alloc, steps);
+/// The disk of the run after so many steps, with how much was acked and how much was pushed.
+fn stopped(rt: &impl Abort, alloc: Global, which: Kind, steps: u32) -> (MemDisk, u64, u64) {
+    let (journal, _) = run_of(rt, alloc, which, steps);
     let (acked, len) = (journal.acked(), journal.len());
     (journal.into_disk(), acked, len)
 }
 
-/// After so many steps of the long run a crash with this tail leaves a prefix of the records, with all that were acked.
-fn crash(rt: &impl Abort, alloc: Global, steps: u32, tail: Tail) {
+/// After so many steps of the run a crash with this tail leaves a prefix of the records, with all that were acked.
+fn crash(rt: &impl Abort, alloc: Global, which: Kind, steps: u32, tail: Tail) {
     let none = CrashPick {
         files: FilePicks::new(alloc),
     };
-    let (disk, _, _) = stopped(rt, alloc, steps);
+    let (disk, _, _) = stopped(rt, alloc, which, steps);
     let least = disk.crash(&none).expect(rt, "memory");
-    let (disk, acked, len) = stopped(rt, alloc, steps);
+    let (disk, acked, len) = stopped(rt, alloc, which, steps);
     let pick = pick_of(rt, alloc, &disk, &least, tail);
     assert!(rt; disk.chance_free(&pick).expect(rt, "memory"));
     let mut image = disk.crash(&pick).expect(rt, "memory");
@@ -146,7 +181,21 @@ fn a_stop_after_each_step_of_a_long_run(rt: HostRuntime) {
     assert!(rt; 2 < journal.segments());
     for made in 0..=steps {
         for tail in [Tail::Nothing, Tail::AllSent, Tail::LastByteChanged] {
-            crash(&rt, alloc, made, tail);
+            crash(&rt, alloc, Kind::Long, made, tail);
+        }
+    }
+}
+
+#[test]
+fn a_stop_after_each_step_of_a_run_that_leaves_stalled_segments(rt: HostRuntime) {
+    let alloc = rt.alloc();
+    let (journal, steps) = short_run(&rt, alloc, 1_000);
+    assert!(rt; 6 <= steps && steps < 1_000);
+    assert!(rt; 1 < journal.segments());
+    assert!(rt; 1 <= journal.left_by_stall());
+    for made in 0..=steps {
+        for tail in [Tail::Nothing, Tail::AllSent, Tail::AllButLast] {
+            crash(&rt, alloc, Kind::Short, made, tail);
         }
     }
 }

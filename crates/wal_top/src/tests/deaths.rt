@@ -104,3 +104,48 @@ fn a_failing_sync_of_a_script_is_made_good_by_the_next_segment(
     let disk = check_command(&rt, alloc, rig, &["replay"], script, Status::Done, text)?;
     check_crash(&rt, alloc, disk, "a = 1\nend batches 1 next 11\n")
 }
+
+#[test]
+fn one_failing_operation_of_the_journal_changes_no_reply(rt: HostRuntime) -> Result<(), Fail> {
+    let alloc = rt.alloc();
+    let made_good = "s0 commit 10 1 synced\nend visible 11 batches 1 acked 1 segments 2 closed\n";
+    for (first, end, text, status) in [
+        (0, 1, made_good, Status::Done),
+        (1, 2, made_good, Status::Done),
+        (2, 3, made_good, Status::Done),
+        // The sync as the journal is closed.
+        (
+            3,
+            4,
+            "s0 commit 10 1 synced\nend visible 11 batches 1 acked 1 segments 1 closed\n",
+            Status::Done,
+        ),
+        (
+            0,
+            9,
+            "s0 commit 10 1 synced\nend visible 11 batches 1 acked 1 segments 10 closed\n",
+            Status::Done,
+        ),
+        (
+            0,
+            10,
+            "s0 commit 10 1 unsynced\nend visible 11 batches 1 acked 0 segments 10 dead\n",
+            Status::Disk,
+        ),
+    ] {
+        let mut rig = Rig::new(alloc)?;
+        for number in first..end {
+            rig.fail_op(&rt, number);
+        }
+        check_command(
+            &rt,
+            alloc,
+            rig,
+            &["replay"],
+            b"commit 0 sync set a 1\n",
+            status,
+            text,
+        )?;
+    }
+    Ok(())
+}

@@ -8,9 +8,11 @@ use Rattle.log_writer.specs.Writer.{Writer}
 use Rattle.log_writer.specs.Fits.{SameFile, place_of_writer, Fits}
 use Rattle.failover_writer.specs.State.{State, JournalView}
 use Rattle.failover_writer.specs.Ranges.{StandsFor}
-use Rattle.failover_writer.specs.Stepping.{IsBehind, begun}
+use Rattle.std.proofs.Common.{ℕ, ◌+◌}
+use Rattle.failover_writer.specs.Stepping.{IsBehind, begun, left_behind}
 use Rattle.failover_writer.specs.Keeping.{Passes}
 use Rattle.failover_writer.specs.Inside.{IsInOrder}
+use Rattle.failover_writer.proofs.Accounted.{left_few}
 use Rattle.failover_writer.proofs.Passes.{passes_same}
 use Rattle.failover_writer.proofs.BeginsNext.{next_fits, begins_first, begun_stands, begun_in_order, begun_passes}
 use Rattle.failover_writer.proofs.journal.Journal.begin_next.Goals as goal
@@ -22,30 +24,30 @@ begin-requires-clause-fits g c =
     let tells = g.D.Disk.tells in
     let v = g.D.Disk.view c.self.inside.disk in (
       held.0,
-      next_fits tells (record { wal = c.self.inside.wal; base = c.self.inside.base; next = c.self.inside.next; threshold = c.self.inside.threshold; queue = c.self.inside.records; want = c.self.inside.want; segments = c.self.inside.writers.items; dead = c.self.inside.dead }) v c.side_at.result (record { wal = c.self.inside.wal; index = c.len-index.result }) c.self.inside.acked c.in_ok-writer.writer
+      next_fits tells (record { wal = c.self.inside.wal; base = c.self.inside.base; next = c.self.inside.next; threshold = c.self.inside.threshold; queue = c.self.inside.records; want = c.self.inside.want; segments = c.self.inside.writers.items; dead = c.self.inside.dead; left_by_stall = c.self.inside.left_by_stall }) v c.side_at.result (record { wal = c.self.inside.wal; index = c.len-index.result }) c.self.inside.acked c.in_ok-writer.writer
           (grind (arith, c.side_at.ensures, c.len-index.ensures)) (grind (arith, c.len-index.ensures)) c.self.invariant.acked few
           (λ records. c.in_ok-writer.ensures.fits tells records v) held.0 held.1,
       held.1.queue,
     )
 
 -- the journal as it was
-abbrev state_then : (g : _) (c : goal.In-Ok g) → State
-state_then g c = record { wal = c.self.inside.wal; base = c.self.inside.base; next = c.self.inside.next; threshold = c.self.inside.threshold; queue = c.self.inside.records; want = c.self.inside.want; segments = c.self.inside.writers.items; dead = c.self.inside.dead }
+abbrev state_then : (g : _) (c : goal.After-self-1 g) → State
+state_then g c = record { wal = c.self.inside.wal; base = c.self.inside.base; next = c.self.inside.next; threshold = c.self.inside.threshold; queue = c.self.inside.records; want = c.self.inside.want; segments = c.self.inside.writers.items; dead = c.self.inside.dead; left_by_stall = c.self.inside.left_by_stall }
 
-pushed : (g : _) (c : goal.In-Ok g) → c.push.new.self.items ≡ c.self.inside.writers.items ++ c.begin.new.self ∷ []
+pushed : (g : _) (c : goal.After-self-1 g) → c.push.new.self.items ≡ c.self.inside.writers.items ++ c.begin.new.self ∷ []
 pushed g c = search rules
 
-begins : (g : _) (c : goal.In-Ok g) → (id : OpId) × begun (state_then g c) id c.begin.new.self × Starts (record { place = place_of_writer c.begin.new.self; act = creating }) c.side_at.result id (g.D.Disk.view c.self.inside.disk) (g.D.Disk.view c.begin.new.disk)
+begins : (g : _) (c : goal.After-self-1 g) → (id : OpId) × begun (state_then g c) id c.begin.new.self × Starts (record { place = place_of_writer c.begin.new.self; act = creating }) c.side_at.result id (g.D.Disk.view c.self.inside.disk) (g.D.Disk.view c.begin.new.disk)
     × (place_of_writer c.begin.new.self ≡ place_of_writer c.in_ok-writer.writer)
 begins g c =
     begins_first (state_then g c) c.side_at.result (record { wal = c.self.inside.wal; index = c.len-index.result }) _ c.self.inside.acked _ _ c.in_ok-begin.field-0 c.in_ok-writer.writer c.begin.new.self
     (g.D.Disk.view c.self.inside.disk) (g.D.Disk.view c.begin.new.disk) (grind (arith, c.side_at.ensures, c.len-index.ensures)) (grind (arith, c.len-index.ensures)) c.self.invariant.acked
     c.in_ok-writer.ensures.made c.in_ok-begin.ensures.starts
 
-few_then : (g : _) (c : goal.In-Ok g) → length c.self.inside.writers.items < 10
+few_then : (g : _) (c : goal.After-self-1 g) → length c.self.inside.writers.items < 10
 few_then g c = omega (arith, c.requires.few, ap (λ (h : JournalView _). length h.state.segments) c.self.view_is)
 
-fits_after : (g : _) (c : goal.In-Ok g) (records : List Batch) → StandsFor g.D.Disk.tells records (state_then g c) (g.D.Disk.view c.self.inside.disk) → Fits g.D.Disk.tells records c.begin.new.self (g.D.Disk.view c.begin.new.disk)
+fits_after : (g : _) (c : goal.After-self-1 g) (records : List Batch) → StandsFor g.D.Disk.tells records (state_then g c) (g.D.Disk.view c.self.inside.disk) → Fits g.D.Disk.tells records c.begin.new.self (g.D.Disk.view c.begin.new.disk)
 fits_after g c records stands =
     let tells = g.D.Disk.tells in
     let v = g.D.Disk.view c.self.inside.disk in
@@ -55,15 +57,46 @@ fits_after g c records stands =
     (λ records. c.in_ok-writer.ensures.fits tells records v) records stands)
     stands.queue
 
-others_same : (g : _) (c : goal.In-Ok g) (place : Place) → place ≢ place_of_writer c.begin.new.self → SameFile g.D.Disk.tells place (g.D.Disk.view c.self.inside.disk) (g.D.Disk.view c.begin.new.disk)
+others_same : (g : _) (c : goal.After-self-1 g) (place : Place) → place ≢ place_of_writer c.begin.new.self → SameFile g.D.Disk.tells place (g.D.Disk.view c.self.inside.disk) (g.D.Disk.view c.begin.new.disk)
 others_same g c place ne = c.in_ok-begin.ensures.others place (λ e. ne (e ∙ sym (begins g c).3))
 
-pub invariant_of-self-2 : goal.invariant_of-self-2
-invariant_of-self-2 g c =
+-- how many are left by a stall, now
+left_now : (g : _) (c : goal.After-self-1 g) → c.self.inside.left_by_stall + c.left_behind-left.result ≡ c.self.inside.left_by_stall + left_behind c.self.inside.writers.items
+left_now g c = ap (λ (n : ℕ). c.self.inside.left_by_stall + n) (c.left_behind-left.ensures ∙ ap (λ (h : JournalView _). left_behind h.state.segments) (sym c.self.view_is))
+
+-- the journal as it is, with these segments and so many left by a stall
+abbrev with_both : (g : _) (c : goal.After-self-1 g) → List Writer × ℕ → State
+with_both g c p = record (state_then g c) { segments = p.0; left_by_stall = p.1 }
+
+-- the segments and the count, as they become by the rule and as they are
+abbrev by_rule : (g : _) (c : goal.After-self-1 g) → List Writer × ℕ
+by_rule g c = (c.self.inside.writers.items ++ c.begin.new.self ∷ [], c.self.inside.left_by_stall + left_behind c.self.inside.writers.items)
+
+abbrev now_both : (g : _) (c : goal.After-self-1 g) → List Writer × ℕ
+now_both g c = (c.push.new.self.items, c.self.inside.left_by_stall + c.left_behind-left.result)
+
+both_are : (g : _) (c : goal.After-self-1 g) → by_rule g c ≡ now_both g c
+both_are g c = λ i. (sym (pushed g c) i, sym (left_now g c) i)
+
+pub overflow_add-self : goal.overflow_add-self
+overflow_add-self g c = record {
+  fits = omega (
+    arith,
+    c.self.invariant.sound.accounted.few,
+    c.requires.few,
+    ap (λ (h : JournalView _). length h.state.segments) c.self.view_is,
+    c.left_behind-left.ensures,
+    ap (λ (h : JournalView _). left_behind h.state.segments) c.self.view_is,
+    left_few c.self.inside.writers.items,
+  );
+}
+
+pub invariant_of-self-in-Ok : goal.invariant_of-self-in-Ok
+invariant_of-self-in-Ok g c =
     let first = begins g c in
     let v = g.D.Disk.view c.self.inside.disk in
     let new = g.D.Disk.view c.begin.new.disk in
-    subst (λ (l : List Writer). IsInOrder g.D.Disk.tells (record (state_then g c) { segments = l }) new c.self.inside.acked c.self.inside.first_busy c.self.inside.failed) (sym (pushed g c))
+    subst (λ (p : List Writer × ℕ). IsInOrder g.D.Disk.tells (with_both g c p) new c.self.inside.acked c.self.inside.first_busy c.self.inside.failed) (both_are g c)
     (begun_in_order g.D.Disk.tells (state_then g c) v new first.0 c.begin.new.self c.side_at.result creating (few_then g c) first.1 first.2 (others_same g c) c.self.inside.acked c.self.inside.first_busy
     c.self.inside.failed (ap (λ (h : JournalView _). h.state.dead) c.self.view_is ∙ c.requires.lives) (subst (λ (h : JournalView _). IsBehind h.state) (sym c.self.view_is) c.requires.behind) (fits_after g c) c.self.invariant)
 
@@ -73,7 +106,7 @@ returns-clause-keeps g c records stands =
     let v = g.D.Disk.view c.self.inside.disk in
     let new = g.D.Disk.view c.begin.new.disk in
     let stood : StandsFor g.D.Disk.tells records (state_then g c) v = subst (λ (h : JournalView _). StandsFor g.D.Disk.tells records h.state (g.D.Disk.view h.disk)) (sym c.self.view_is) stands in
-    subst (λ (l : List Writer). StandsFor g.D.Disk.tells records (record (state_then g c) { segments = l }) new) (sym (pushed g c))
+    subst (λ (p : List Writer × ℕ). StandsFor g.D.Disk.tells records (with_both g c p) new) (both_are g c)
     (begun_stands g.D.Disk.tells (state_then g c) v new first.0 c.begin.new.self c.side_at.result creating (few_then g c) first.1 first.2 (others_same g c) records stood (fits_after g c records stood))
 
 pub returns-clause-passes : goal.returns-clause-passes
@@ -81,8 +114,8 @@ returns-clause-passes g c =
     let first = begins g c in
     let v = g.D.Disk.view c.self.inside.disk in
     let new = g.D.Disk.view c.begin.new.disk in
-    subst (λ (h : JournalView _). Passes g.D.Disk.tells h.state (record (state_then g c) { segments = c.push.new.self.items }) (g.D.Disk.view h.disk) new) c.self.view_is
-    (subst (λ (l : List Writer). Passes g.D.Disk.tells (state_then g c) (record (state_then g c) { segments = l }) v new) (sym (pushed g c))
+    subst (λ (h : JournalView _). Passes g.D.Disk.tells h.state (with_both g c (now_both g c)) (g.D.Disk.view h.disk) new) c.self.view_is
+    (subst (λ (p : List Writer × ℕ). Passes g.D.Disk.tells (state_then g c) (with_both g c p) v new) (both_are g c)
     (begun_passes g.D.Disk.tells (state_then g c) v new first.0 c.begin.new.self c.side_at.result creating (few_then g c) first.1 first.2 (others_same g c) c.in_ok-begin.ensures.goes_on
     c.in_ok-begin.ensures.one_moment (fits_after g c)))
 

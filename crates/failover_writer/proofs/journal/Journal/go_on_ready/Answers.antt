@@ -23,10 +23,10 @@ pub returns-in-Dead-clause-ended : goal.returns-in-Dead-clause-ended
 returns-in-Dead-clause-ended g c =
     let held = c.self.invariant.stands in
     let at : slice_get c.self.inside.writers.items (length c.self.inside.writers.items - 1) ≡ Some c.in-Some.current.now = subst (λ (ws : List Writer). slice_get ws (length ws - 1) ≡ Some c.in-Some.current.now) c.deref.ensures.value (sym c.in-Some.ensures.value) in
-    let seen : c.view.result ≡ shown_to_monitor (record { wal = c.self.inside.wal; base = c.self.inside.base; next = c.self.inside.next; threshold = c.self.inside.threshold; queue = c.self.inside.records; want = c.self.inside.want; segments = c.self.inside.writers.items; dead = c.self.inside.dead }) c.in-Some.current.now = subst (λ (h : JournalView _). c.view.result ≡ shown_to_monitor h.state c.in-Some.current.now) (sym c.self.view_is) c.view.ensures in
-    let verdict = verdict_from IsToDie (record { wal = c.self.inside.wal; base = c.self.inside.base; next = c.self.inside.next; threshold = c.self.inside.threshold; queue = c.self.inside.records; want = c.self.inside.want; segments = c.self.inside.writers.items; dead = c.self.inside.dead }) c.view.result c.in-Some.current.now at seen (c.decide.ensures.dead.0 c.in-Dead.is) in
-    subst (λ (h : JournalView _). Dies h.state (record (record { wal = c.self.inside.wal; base = c.self.inside.base; next = c.self.inside.next; threshold = c.self.inside.threshold; queue = c.self.inside.records; want = c.self.inside.want; segments = c.self.inside.writers.items; dead = c.self.inside.dead }) { dead = Some (record { side = c.side_at.result; faults = c.self.inside.failed }) }) c.side_at.result c.self.inside.failed) c.self.view_is
-    (dies_now g.D.Disk.tells held.0 (record { wal = c.self.inside.wal; base = c.self.inside.base; next = c.self.inside.next; threshold = c.self.inside.threshold; queue = c.self.inside.records; want = c.self.inside.want; segments = c.self.inside.writers.items; dead = c.self.inside.dead }) (g.D.Disk.view c.self.inside.disk) c.side_at.result c.self.inside.failed held.1 verdict
+    let seen : c.view.result ≡ shown_to_monitor (record { wal = c.self.inside.wal; base = c.self.inside.base; next = c.self.inside.next; threshold = c.self.inside.threshold; queue = c.self.inside.records; want = c.self.inside.want; segments = c.self.inside.writers.items; dead = c.self.inside.dead; left_by_stall = c.self.inside.left_by_stall }) c.in-Some.current.now = subst (λ (h : JournalView _). c.view.result ≡ shown_to_monitor h.state c.in-Some.current.now) (sym c.self.view_is) c.view.ensures in
+    let verdict = verdict_from IsToDie (record { wal = c.self.inside.wal; base = c.self.inside.base; next = c.self.inside.next; threshold = c.self.inside.threshold; queue = c.self.inside.records; want = c.self.inside.want; segments = c.self.inside.writers.items; dead = c.self.inside.dead; left_by_stall = c.self.inside.left_by_stall }) c.view.result c.in-Some.current.now at seen (c.decide.ensures.dead.0 c.in-Dead.is) in
+    subst (λ (h : JournalView _). Dies h.state (record (record { wal = c.self.inside.wal; base = c.self.inside.base; next = c.self.inside.next; threshold = c.self.inside.threshold; queue = c.self.inside.records; want = c.self.inside.want; segments = c.self.inside.writers.items; dead = c.self.inside.dead; left_by_stall = c.self.inside.left_by_stall }) { dead = Some (record { side = c.side_at.result; faults = c.self.inside.failed }) }) c.side_at.result c.self.inside.failed) c.self.view_is
+    (dies_now g.D.Disk.tells held.0 (record { wal = c.self.inside.wal; base = c.self.inside.base; next = c.self.inside.next; threshold = c.self.inside.threshold; queue = c.self.inside.records; want = c.self.inside.want; segments = c.self.inside.writers.items; dead = c.self.inside.dead; left_by_stall = c.self.inside.left_by_stall }) (g.D.Disk.view c.self.inside.disk) c.side_at.result c.self.inside.failed held.1 verdict
     (grind (arith, c.side_at.ensures, c.len.ensures)) c.self.invariant.failed)
 
 pub returns-in_ok-begin_next-in-Switch-clause-went : goal.returns-in_ok-begin_next-in-Switch-clause-went

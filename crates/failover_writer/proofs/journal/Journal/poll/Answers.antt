@@ -12,7 +12,7 @@ returns-in-Pending-clause-polled g c =
     let is = answered_at _ c.args.self.now.state c.args.index c.index_mut-writer.result.now c.poll-answer.new.self c.poll-answer.result same c.requires.busy c.index_mut-writer.ensures.value c.poll-answer.ensures.answered
     c.poll-answer.ensures.synced in
     polls_at g.D.Disk.tells c.args.index _ c.args.self.now.state (g.D.Disk.view c.self.inside.disk) (g.D.Disk.view c.args.self.now.disk) (g.D.Disk.view c.poll-answer.new.disk) c.index_mut-writer.result.now
-    c.poll-answer.new.self is.0 is.1 c.poll-answer.result true same (ap (λ (held : JournalView _). g.D.Disk.view held.disk) c.self.view_is) is.2 (c.poll-answer.ensures.polled is.0 is.1 is.2.phase) (c.poll-answer.ensures.takes is.0 is.1 is.2.phase) (c.poll-answer.ensures.asks is.0 is.1 is.2.phase) (sym (ap is_pending c.in-Pending.is))
+    c.poll-answer.new.self is.0 is.1 c.poll-answer.result true same (ap (λ (held : JournalView _). g.D.Disk.view held.disk) c.self.view_is) is.2 (c.poll-answer.ensures.polled is.0 is.1 is.2.phase) (c.poll-answer.ensures.takes is.0 is.1 is.2.phase) (c.poll-answer.ensures.asks is.0 is.1 is.2.phase) c.poll-answer.ensures.goes_on (sym (ap is_pending c.in-Pending.is))
 
 pub returns-in-Pending-clause-keeps : goal.returns-in-Pending-clause-keeps
 returns-in-Pending-clause-keeps g c records stands =
@@ -41,7 +41,7 @@ returns-in-Done-clause-polled g c =
     let is = answered_at _ c.args.self.now.state c.args.index c.index_mut-writer.result.now c.poll-answer.new.self c.poll-answer.result same c.requires.busy c.index_mut-writer.ensures.value c.poll-answer.ensures.answered
     c.poll-answer.ensures.synced in
     polls_at g.D.Disk.tells c.args.index _ c.args.self.now.state (g.D.Disk.view c.self.inside.disk) (g.D.Disk.view c.args.self.now.disk) (g.D.Disk.view c.poll-answer.new.disk) c.index_mut-writer.result.now
-    c.poll-answer.new.self is.0 is.1 c.poll-answer.result false same (ap (λ (held : JournalView _). g.D.Disk.view held.disk) c.self.view_is) is.2 (c.poll-answer.ensures.polled is.0 is.1 is.2.phase) (c.poll-answer.ensures.takes is.0 is.1 is.2.phase) (c.poll-answer.ensures.asks is.0 is.1 is.2.phase) (sym (ap is_pending c.in-Done.is))
+    c.poll-answer.new.self is.0 is.1 c.poll-answer.result false same (ap (λ (held : JournalView _). g.D.Disk.view held.disk) c.self.view_is) is.2 (c.poll-answer.ensures.polled is.0 is.1 is.2.phase) (c.poll-answer.ensures.takes is.0 is.1 is.2.phase) (c.poll-answer.ensures.asks is.0 is.1 is.2.phase) c.poll-answer.ensures.goes_on (sym (ap is_pending c.in-Done.is))
 
 pub returns-in-Done-clause-keeps : goal.returns-in-Done-clause-keeps
 returns-in-Done-clause-keeps g c records stands =
@@ -70,7 +70,7 @@ returns-in-Failed-clause-polled g c =
     let is = answered_at _ c.args.self.now.state c.args.index c.index_mut-writer.result.now c.poll-answer.new.self c.poll-answer.result same c.requires.busy c.index_mut-writer.ensures.value c.poll-answer.ensures.answered
     c.poll-answer.ensures.synced in
     polls_at g.D.Disk.tells c.args.index _ c.args.self.now.state (g.D.Disk.view c.self.inside.disk) (g.D.Disk.view c.args.self.now.disk) (g.D.Disk.view c.poll-answer.new.disk) c.index_mut-writer.result.now
-    c.poll-answer.new.self is.0 is.1 c.poll-answer.result false same (ap (λ (held : JournalView _). g.D.Disk.view held.disk) c.self.view_is) is.2 (c.poll-answer.ensures.polled is.0 is.1 is.2.phase) (c.poll-answer.ensures.takes is.0 is.1 is.2.phase) (c.poll-answer.ensures.asks is.0 is.1 is.2.phase) (sym (ap is_pending c.in-Failed.is))
+    c.poll-answer.new.self is.0 is.1 c.poll-answer.result false same (ap (λ (held : JournalView _). g.D.Disk.view held.disk) c.self.view_is) is.2 (c.poll-answer.ensures.polled is.0 is.1 is.2.phase) (c.poll-answer.ensures.takes is.0 is.1 is.2.phase) (c.poll-answer.ensures.asks is.0 is.1 is.2.phase) c.poll-answer.ensures.goes_on (sym (ap is_pending c.in-Failed.is))
 
 pub returns-in-Failed-clause-keeps : goal.returns-in-Failed-clause-keeps
 returns-in-Failed-clause-keeps g c records stands =

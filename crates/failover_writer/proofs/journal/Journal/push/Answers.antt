@@ -43,7 +43,7 @@ invariant_of-self g c =
       rested = in_order.rested;
       first_busy = in_order.first_busy;
       wal = in_order.wal;
-      sound = sound_beside _ _ refl refl refl (λ none. absurd (omega (arith, none, ap (λ (bs : List Batch). length bs) c.push.ensures.records, length-append c.self.inside.records.records (c.args.added ∷ [])))) in_order.sound;
+      sound = sound_beside _ _ refl refl refl refl (λ none. absurd (omega (arith, none, ap (λ (bs : List Batch). length bs) c.push.ensures.records, length-append c.self.inside.records.records (c.args.added ∷ [])))) in_order.sound;
     }
 
 pub invariant_of-self-else-sync : goal.invariant_of-self-else-sync
@@ -57,5 +57,5 @@ invariant_of-self-else-sync g c =
       rested = in_order.rested;
       first_busy = in_order.first_busy;
       wal = in_order.wal;
-      sound = sound_beside _ _ refl refl refl (λ none. absurd (omega (arith, none, ap (λ (bs : List Batch). length bs) c.push.ensures.records, length-append c.self.inside.records.records (c.args.added ∷ [])))) in_order.sound;
+      sound = sound_beside _ _ refl refl refl refl (λ none. absurd (omega (arith, none, ap (λ (bs : List Batch). length bs) c.push.ensures.records, length-append c.self.inside.records.records (c.args.added ∷ [])))) in_order.sound;
     }

@@ -22,7 +22,7 @@ returns-then-sync-clause-keeps g c f is records stands =
     let first = c.requires.next c.in-Some.filled.now there ∙ ap (λ (held : JournalView _). held.state.next) (sym c.self.view_is) in
     let pushed = c.push_node.ensures.records c.in-Some.filled.now there in
     let queue = queue_end (records ++ added ∷ []) c.push_node.new.self (queue_pushed records added _ c.push_node.new.self before.queue c.push_node.ensures.start pushed) in
-    let now : State = record { wal = c.self.inside.wal; base = c.self.inside.base; next = c.end-end.result; threshold = c.self.inside.threshold; queue = c.push_node.new.self; want = c.end-all.result; segments = c.self.inside.writers.items; dead = c.self.inside.dead } in
+    let now : State = record { wal = c.self.inside.wal; base = c.self.inside.base; next = c.end-end.result; threshold = c.self.inside.threshold; queue = c.push_node.new.self; want = c.end-all.result; segments = c.self.inside.writers.items; dead = c.self.inside.dead; left_by_stall = c.self.inside.left_by_stall } in
     subst (λ (x : Filled). StandsFor g.D.Disk.tells (records ++ x.rec ∷ []) now (g.D.Disk.view c.self.inside.disk)) (sym (only is there))
     (pushed_stands g.D.Disk.tells records added _ c.push_node.new.self c.end-end.result c.end-all.result (g.D.Disk.view c.self.inside.disk) before first (omega (arith, c.count.ensures.count, c.count.ensures.some))
     (subst (λ (bytes : List ℕ). SpellsBatch bytes added) c.bytes.ensures.written c.bytes.ensures.spells) c.push_node.ensures.start pushed c.end-end.ensures.end (omega (arith, c.end-all.ensures, queue, length-append records (added ∷ []))))
@@ -34,7 +34,7 @@ returns-else-sync-clause-keeps g c f is records stands =
     let before = subst (λ (held : JournalView _). StandsFor g.D.Disk.tells records held.state (g.D.Disk.view held.disk)) (sym c.self.view_is) stands in
     let first = c.requires.next c.in-Some.filled.now there ∙ ap (λ (held : JournalView _). held.state.next) (sym c.self.view_is) in
     let pushed = c.push_node.ensures.records c.in-Some.filled.now there in
-    let now : State = record { wal = c.self.inside.wal; base = c.self.inside.base; next = c.end-end.result; threshold = c.self.inside.threshold; queue = c.push_node.new.self; want = c.self.inside.want; segments = c.self.inside.writers.items; dead = c.self.inside.dead } in
+    let now : State = record { wal = c.self.inside.wal; base = c.self.inside.base; next = c.end-end.result; threshold = c.self.inside.threshold; queue = c.push_node.new.self; want = c.self.inside.want; segments = c.self.inside.writers.items; dead = c.self.inside.dead; left_by_stall = c.self.inside.left_by_stall } in
     subst (λ (x : Filled). StandsFor g.D.Disk.tells (records ++ x.rec ∷ []) now (g.D.Disk.view c.self.inside.disk)) (sym (only is there))
     (pushed_stands g.D.Disk.tells records added _ c.push_node.new.self c.end-end.result c.self.inside.want (g.D.Disk.view c.self.inside.disk) before first (omega (arith, c.count.ensures.count, c.count.ensures.some))
     (subst (λ (bytes : List ℕ). SpellsBatch bytes added) c.bytes.ensures.written c.bytes.ensures.spells) c.push_node.ensures.start pushed c.end-end.ensures.end (omega (arith, before.want)))
@@ -53,7 +53,7 @@ invariant_of-self g c =
       rested = in_order.rested;
       first_busy = in_order.first_busy;
       wal = in_order.wal;
-      sound = sound_beside _ _ refl refl refl (λ none. absurd (omega (arith, none, pushed, length-append c.self.inside.records.records (added ∷ [])))) in_order.sound;
+      sound = sound_beside _ _ refl refl refl refl (λ none. absurd (omega (arith, none, pushed, length-append c.self.inside.records.records (added ∷ [])))) in_order.sound;
     }
 
 pub invariant_of-self-else-sync : goal.invariant_of-self-else-sync
@@ -70,5 +70,5 @@ invariant_of-self-else-sync g c =
       rested = in_order.rested;
       first_busy = in_order.first_busy;
       wal = in_order.wal;
-      sound = sound_beside _ _ refl refl refl (λ none. absurd (omega (arith, none, pushed, length-append c.self.inside.records.records (added ∷ [])))) in_order.sound;
+      sound = sound_beside _ _ refl refl refl refl (λ none. absurd (omega (arith, none, pushed, length-append c.self.inside.records.records (added ∷ [])))) in_order.sound;
     }

@@ -40,5 +40,5 @@ invariant_of-self g c =
       rested = in_order.rested;
       first_busy = in_order.first_busy;
       wal = in_order.wal;
-      sound = sound_beside _ _ refl refl refl (λ none. omega (arith, none, c.release.ensures.end)) in_order.sound;
+      sound = sound_beside _ _ refl refl refl refl (λ none. omega (arith, none, c.release.ensures.end)) in_order.sound;
     }

@@ -19,7 +19,7 @@ invariant_of-self g c =
       rested = in_order.rested;
       first_busy = in_order.first_busy;
       wal = in_order.wal;
-      sound = sound_beside _ _ refl refl refl (λ none. omega (
+      sound = sound_beside _ _ refl refl refl refl (λ none. omega (
         arith,
         none,
         c.reserve.ensures.start,

@@ -4,6 +4,9 @@ use Rattle.std.specs.Prelude.{count_by}
 use Rattle.failover_writer.specs.State.{is_broken, most_synced}
 use Rattle.log_writer.specs.Writer.{Writer}
 use Rattle.failover_writer.proofs.StandsFor.{nothing_stands}
+use Rattle.std.proofs.Common.{subst}
+use Rattle.failover_writer.specs.Sound.{AreAccounted}
+use Rattle.failover_writer.proofs.Accounted.{none_accounted}
 use Rattle.failover_writer.proofs.IsSoundJournal.{sound_alive}
 use Rattle.failover_writer.proofs.journal.Journal.start.Goals as goal
 
@@ -23,5 +26,5 @@ invariant_of-result g c =
       rested = tt;
       first_busy = omega arith;
       wal = c.requires.wal;
-      sound = sound_alive _ c.requires.threshold.0 c.requires.threshold.1 refl (λ _. none);
+      sound = sound_alive _ c.requires.threshold.0 c.requires.threshold.1 refl (λ _. none) (subst (λ (ws : List Writer). AreAccounted ws 0) (sym none) none_accounted);
     }

@@ -41,6 +41,7 @@ begin-requires-clause-held g c =
         want = c.self.inside.want;
         segments = c.self.inside.writers.items;
         dead = c.self.inside.dead;
+        left_by_stall = c.self.inside.left_by_stall;
       });
       want = c.self.inside.want;
       acked = acked (record {
@@ -52,6 +53,7 @@ begin-requires-clause-held g c =
         want = c.self.inside.want;
         segments = c.self.inside.writers.items;
         dead = c.self.inside.dead;
+        left_by_stall = c.self.inside.left_by_stall;
       });
     } =
     subst (λ (h : JournalView _). c.goal-goal.result ≡ record { len = len h.state; want = h.state.want; acked = acked h.state })
@@ -65,6 +67,7 @@ begin-requires-clause-held g c =
       want = c.self.inside.want;
       segments = c.self.inside.writers.items;
       dead = c.self.inside.dead;
+      left_by_stall = c.self.inside.left_by_stall;
     }) (g.D.Disk.view c.self.inside.disk) found.earlier
     c.index_mut.result.now
     (found.segments_are ∙ ap (λ (w : Writer). found.earlier ++ w ∷ []) (sym current_is)) held.1 in
@@ -81,6 +84,7 @@ state_then g c = record {
   want = c.self.inside.want;
   segments = c.self.inside.writers.items;
   dead = c.self.inside.dead;
+  left_by_stall = c.self.inside.left_by_stall;
 }
 
 goal_then : (g : _) (c : goal.In_ok-begin g) → c.goal-goal.result ≡ record
@@ -183,5 +187,6 @@ returns-in_err-begin-clause-passes g c =
       want = here.want;
       segments = l;
       dead = here.dead;
+      left_by_stall = here.left_by_stall;
     }) same ∙ ap (λ (h : JournalView _). h.state) c.self.view_is)
     (c.in_err-begin.ensures.err.1 ∙ ap (λ (h : JournalView _). g.D.Disk.view h.disk) c.self.view_is)

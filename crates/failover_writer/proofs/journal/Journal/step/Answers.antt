@@ -12,6 +12,11 @@ use Rattle.failover_writer.specs.Lasting.{Lasts, Survives}
 use Rattle.failover_writer.proofs.Passes.{passes_still}
 use Rattle.failover_writer.proofs.Survives.{survives}
 use Rattle.failover_writer.proofs.StepRule.{idle_of, waited_of, dead_of, harmed_of, smooth_of}
+use Rattle.disk_face.proofs.Laws.{goes_on_from}
+use Rattle.failover_writer.specs.Sound.{CountsLeaveFew}
+use Rattle.failover_writer.proofs.Accounted.{counts_leave_few}
+use Rattle.failover_writer.proofs.Covers.{rose_by_none}
+use Rattle.failover_writer.proofs.Failures.{covers_of, unstalled_of}
 use Rattle.failover_writer.proofs.Falls.{falls}
 use Rattle.failover_writer.proofs.Lasts.{goal_kept, lasts_none, records_are}
 use Rattle.failover_writer.proofs.journal.Journal.step.Goals as goal
@@ -29,6 +34,7 @@ returns-in-Some-clause-rule g c = record {
   one_told = tt;
   other_told = tt;
   taken = omega arith;
+  counted = rose_by_none (g.D.Disk.view c.args.self.now.disk) (g.D.Disk.view c.args.self.now.disk) (goes_on_from (g.D.Disk.view c.args.self.now.disk));
   asks = no_calls (g.D.Disk.view c.args.self.now.disk);
 }
 
@@ -43,40 +49,41 @@ returns-then-not-is_up-clause-rule g c =
       one_told = tt;
       other_told = tt;
       taken = omega arith;
+      counted = rose_by_none (g.D.Disk.view c.args.self.now.disk) (g.D.Disk.view c.args.self.now.disk) (goes_on_from (g.D.Disk.view c.args.self.now.disk));
       asks = no_calls (g.D.Disk.view c.args.self.now.disk);
     })
 
 -- the step that `advance` did
-steps_by : (g : _) (c : goal.After-advance g) → StepsBy c.args.self.now.state c.advance.new.self.state (g.D.Disk.view c.args.self.now.disk)
-    (g.D.Disk.view c.advance.new.self.disk) c.advance.result
+steps_by : (g : _) (c : goal.After-a_journal_at_hand g) → StepsBy c.args.self.now.state c.advance-answer.new.self.state (g.D.Disk.view c.args.self.now.disk)
+    (g.D.Disk.view c.advance-answer.new.self.disk) c.advance-answer.result
 steps_by g c =
-    subst (λ (held : JournalView _). StepsBy held.state c.advance.new.self.state (g.D.Disk.view held.disk)
-    (g.D.Disk.view c.advance.new.self.disk) c.advance.result) c.is_up.ensures.same c.advance.ensures.rule
+    subst (λ (held : JournalView _). StepsBy held.state c.advance-answer.new.self.state (g.D.Disk.view held.disk)
+    (g.D.Disk.view c.advance-answer.new.self.disk) c.advance-answer.result) c.is_up.ensures.same c.advance-answer.ensures.rule
 
 pub returns-clause-idle : goal.returns-clause-idle
-returns-clause-idle g c = idle_of c.args.self.now.state c.advance.new.self.state (g.D.Disk.view c.args.self.now.disk)
-    (g.D.Disk.view c.advance.new.self.disk) c.advance.result (steps_by g c)
+returns-clause-idle g c = idle_of c.args.self.now.state c.advance-answer.new.self.state (g.D.Disk.view c.args.self.now.disk)
+    (g.D.Disk.view c.advance-answer.new.self.disk) c.advance-answer.result (steps_by g c)
 
 pub returns-clause-waited : goal.returns-clause-waited
-returns-clause-waited g c = waited_of c.args.self.now.state c.advance.new.self.state (g.D.Disk.view c.args.self.now.disk)
-    (g.D.Disk.view c.advance.new.self.disk) c.advance.result (steps_by g c)
+returns-clause-waited g c = waited_of c.args.self.now.state c.advance-answer.new.self.state (g.D.Disk.view c.args.self.now.disk)
+    (g.D.Disk.view c.advance-answer.new.self.disk) c.advance-answer.result (steps_by g c)
 
 pub returns-clause-dead : goal.returns-clause-dead
-returns-clause-dead g c = dead_of c.args.self.now.state c.advance.new.self.state (g.D.Disk.view c.args.self.now.disk)
-    (g.D.Disk.view c.advance.new.self.disk) c.advance.result (steps_by g c)
+returns-clause-dead g c = dead_of c.args.self.now.state c.advance-answer.new.self.state (g.D.Disk.view c.args.self.now.disk)
+    (g.D.Disk.view c.advance-answer.new.self.disk) c.advance-answer.result (steps_by g c)
 
-passes : (g : _) (c : goal.After-advance g) → Passes g.D.Disk.tells c.args.self.now.state c.advance.new.self.state
-    (g.D.Disk.view c.args.self.now.disk) (g.D.Disk.view c.advance.new.self.disk)
+passes : (g : _) (c : goal.After-a_journal_at_hand g) → Passes g.D.Disk.tells c.args.self.now.state c.advance-answer.new.self.state
+    (g.D.Disk.view c.args.self.now.disk) (g.D.Disk.view c.advance-answer.new.self.disk)
 passes g c =
-    subst (λ (held : JournalView _). Passes g.D.Disk.tells held.state c.advance.new.self.state (g.D.Disk.view held.disk)
-    (g.D.Disk.view c.advance.new.self.disk)) c.is_up.ensures.same c.advance.ensures.passes
+    subst (λ (held : JournalView _). Passes g.D.Disk.tells held.state c.advance-answer.new.self.state (g.D.Disk.view held.disk)
+    (g.D.Disk.view c.advance-answer.new.self.disk)) c.is_up.ensures.same c.advance-answer.ensures.passes
 
-keeps : (g : _) (c : goal.After-advance g) → KeepsRecords g.D.Disk.tells g.D.Disk.view c.args.self.now c.advance.new.self
-keeps g c = subst (λ (held : JournalView _). KeepsRecords g.D.Disk.tells g.D.Disk.view held c.advance.new.self) c.is_up.ensures.same c.advance.ensures.keeps
+keeps : (g : _) (c : goal.After-a_journal_at_hand g) → KeepsRecords g.D.Disk.tells g.D.Disk.view c.args.self.now c.advance-answer.new.self
+keeps g c = subst (λ (held : JournalView _). KeepsRecords g.D.Disk.tells g.D.Disk.view held c.advance-answer.new.self) c.is_up.ensures.same c.advance-answer.ensures.keeps
 
-goes_on : (g : _) (c : goal.After-advance g) → GoesOn (g.D.Disk.view c.args.self.now.disk) (g.D.Disk.view c.advance.new.self.disk)
-goes_on g c = subst (λ (held : JournalView _). GoesOn (g.D.Disk.view held.disk) (g.D.Disk.view c.advance.new.self.disk))
-    c.is_up.ensures.same c.advance.ensures.goes_on
+goes_on : (g : _) (c : goal.After-a_journal_at_hand g) → GoesOn (g.D.Disk.view c.args.self.now.disk) (g.D.Disk.view c.advance-answer.new.self.disk)
+goes_on g c = subst (λ (held : JournalView _). GoesOn (g.D.Disk.view held.disk) (g.D.Disk.view c.advance-answer.new.self.disk))
+    c.is_up.ensures.same c.advance-answer.ensures.goes_on
 
 -- ---- what it leaves as it was, and what is left to do
 
@@ -89,7 +96,7 @@ returns-clause-want g c = (goal_kept (steps_by g c).rule).want
 pub returns-clause-falls : goal.returns-clause-falls
 returns-clause-falls g c =
     let stands = subst (λ (held : JournalView _). Stands g.D.Disk.tells held.state (g.D.Disk.view held.disk)) c.self.view_is c.self.invariant.stands in
-    falls c.args.self.now.state c.advance.new.self.state (g.D.Disk.view c.args.self.now.disk) (g.D.Disk.view c.advance.new.self.disk) c.advance.result
+    falls c.args.self.now.state c.advance-answer.new.self.state (g.D.Disk.view c.args.self.now.disk) (g.D.Disk.view c.advance-answer.new.self.disk) c.advance-answer.result
     (omega (arith, stands.1.want, records_are g.D.Disk.tells stands.0 c.args.self.now.state (g.D.Disk.view c.args.self.now.disk) stands.1))
     stands.1.few (goes_on g c) (steps_by g c)
 
@@ -103,13 +110,15 @@ returns-then-not-is_up-clause-lasts g c = subst (Lasts g.D.Disk.tells g.D.Disk.v
 pub returns-clause-lasts : goal.returns-clause-lasts
 returns-clause-lasts g c =
     let old = c.args.self.now in
-    let new = c.advance.new.self in
+    let new = c.advance-answer.new.self in
     let by = steps_by g c in
     record {
       setting = (goal_kept by.rule).keeps;
       acked = (passes g c).acked;
-      harmed = harmed_of old.state new.state (g.D.Disk.view old.disk) (g.D.Disk.view new.disk) c.advance.result by;
-      smooth = smooth_of old.state new.state (g.D.Disk.view old.disk) (g.D.Disk.view new.disk) c.advance.result by;
+      harmed = harmed_of old.state new.state (g.D.Disk.view old.disk) (g.D.Disk.view new.disk) c.advance-answer.result by;
+      smooth = smooth_of old.state new.state (g.D.Disk.view old.disk) (g.D.Disk.view new.disk) c.advance-answer.result by;
+      covers = covers_of old.state new.state (g.D.Disk.view old.disk) (g.D.Disk.view new.disk) c.advance-answer.result by (goes_on g c);
+      unstalled = unstalled_of old.state new.state (g.D.Disk.view old.disk) (g.D.Disk.view new.disk) c.advance-answer.result by;
       keeps = keeps g c;
       passes = passes g c;
       goes_on = goes_on g c;
@@ -131,4 +140,15 @@ returns-then-not-is_up-clause-survives g c =
     (passes_still g.D.Disk.tells old.state old.state (g.D.Disk.view old.disk) refl refl refl))
 
 pub returns-clause-survives : goal.returns-clause-survives
-returns-clause-survives g c = survives g.D.Disk.tells g.D.Disk.view c.args.self.now c.advance.new.self (keeps g c) (passes g c)
+returns-clause-survives g c = survives g.D.Disk.tells g.D.Disk.view c.args.self.now c.advance-answer.new.self (keeps g c) (passes g c)
+
+pub returns-in-Some-clause-few : goal.returns-in-Some-clause-few
+returns-in-Some-clause-few g c = subst (λ (h : JournalView _). CountsLeaveFew h.state) c.self.view_is (counts_leave_few _ c.self.invariant.sound)
+
+pub returns-then-not-is_up-clause-few : goal.returns-then-not-is_up-clause-few
+returns-then-not-is_up-clause-few g c =
+    subst (λ (h : JournalView _). CountsLeaveFew h.state) (sym c.if-not-is_up.ensures.same)
+    (subst (λ (h : JournalView _). CountsLeaveFew h.state) c.self.view_is (counts_leave_few _ c.self.invariant.sound))
+
+pub returns-clause-few : goal.returns-clause-few
+returns-clause-few g c = counts_leave_few _ c.a_journal_at_hand.ensures.sound
