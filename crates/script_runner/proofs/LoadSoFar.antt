@@ -6,7 +6,7 @@ use Rattle.commit_pipeline.specs.Openings.{Opening}
 use Rattle.commit_pipeline.specs.declared.standing.Standing.{Standing}
 use Rattle.script_runner.specs.declared.transcript.Transcript.{Transcript}
 use Rattle.script_runner.specs.Transcripts.{any_limit, lines_text, with_lines, IsSilentTranscript}
-use Rattle.script_runner.specs.Rounds.{AllowsStalls, PlaysOn}
+use Rattle.script_runner.specs.Rounds.{PlaysOn}
 use Rattle.script_runner.specs.Works.{AnswersLoad}
 use Rattle.script_runner.proofs.RoundsSoFar.{RoundsSoFar, no_round_yet, round_more, all_played}
 
@@ -19,9 +19,9 @@ pub record LoadSoFar (opening : Opening) (ss : List Standing) (all rest : List R
   pub so : RoundsSoFar opening ss all rest mid unsaid noted
   pub limited_is : limited ≡ noted.limited
 
-pub no_load_yet : (opening : Opening) (ss : List Standing) (all : List Round) → NameSessions (length ss) all → AllowsStalls opening all
+pub no_load_yet : (opening : Opening) (ss : List Standing) (all : List Round) → NameSessions (length ss) all
     → LoadSoFar opening ss all all ss false
-no_load_yet opening ss all named may = record { noted = unsaid; so = no_round_yet opening ss all unsaid named may; limited_is = refl }
+no_load_yet opening ss all named = record { noted = unsaid; so = no_round_yet opening ss all unsaid named; limited_is = refl }
 
 pub load_more : (opening : Opening) (ss : List Standing) (all old_rest rest : List Round) (round : Round) (mid met : List Standing) (before now : Bool)
     (empty said : Transcript) → LoadSoFar opening ss all old_rest mid before → old_rest ≡ round ∷ rest → IsSilentTranscript empty

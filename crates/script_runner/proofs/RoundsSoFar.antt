@@ -14,13 +14,16 @@ pub record RoundsSoFar (opening : Opening) (ss : List Standing) (all rest : List
   pub front : List Round
   pub is : front ++ rest ≡ all
   pub named : NameSessions (length ss) rest
-  pub may : AllowsStalls opening rest
   pub so : PlaysAll opening ss front mid before after
 
 pub no_round_yet : (opening : Opening) (ss : List Standing) (all : List Round) (transcript : Transcript) → NameSessions (length ss) all
-    → AllowsStalls opening all → RoundsSoFar opening ss all all ss transcript transcript
-no_round_yet opening ss all transcript named may =
-    record { front = []; is = refl; named = named; may = may; so = none_played opening ss transcript }
+    → RoundsSoFar opening ss all all ss transcript transcript
+no_round_yet opening ss all transcript named = record { front = []; is = refl; named = named; so = none_played opening ss transcript }
+
+-- what the next round may stall, and those after it
+pub stalls_next : (opening : Opening) (old_rest rest : List Round) (round : Round) → AllowsStalls opening old_rest → old_rest ≡ round ∷ rest
+    → AllowsPolls opening round.stalls × AllowsStalls opening rest
+stalls_next opening old_rest rest round may e = let all : AllowsStalls opening (round ∷ rest) = subst (AllowsStalls opening) e may in (all.0, all.1)
 
 module _ (opening : Opening) (ss : List Standing) (all old_rest rest : List Round) (round : Round) (mid : List Standing) (before between : Transcript)
     (so : RoundsSoFar opening ss all old_rest mid before between) (e : old_rest ≡ round ∷ rest) where
@@ -30,20 +33,15 @@ module _ (opening : Opening) (ss : List Standing) (all old_rest rest : List Roun
       let named : NameSessions (length ss) (round ∷ rest) = subst (NameSessions (length ss)) e so.named in
       subst (λ (n : ℕ). LinesAreOfSome n round.lines) (sym (plays_count opening so.front so.so.replies ss mid so.so.plays)) named.0
 
-  pub next_may : AllowsPolls opening round.stalls
-  next_may = let may : AllowsStalls opening (round ∷ rest) = subst (AllowsStalls opening) e so.may in may.0
-
   -- it is played
   pub round_more : (met : List Standing) (after : Transcript) → PlaysOn opening round.lines mid met between after
       → RoundsSoFar opening ss all rest met before after
   round_more met after on =
       let named : NameSessions (length ss) (round ∷ rest) = subst (NameSessions (length ss)) e so.named in
-      let may : AllowsStalls opening (round ∷ rest) = subst (AllowsStalls opening) e so.may in
       record {
         front = so.front ++ round ∷ [];
         is = append_assoc so.front (round ∷ []) rest ∙ ap (λ (l : List Round). so.front ++ l) (sym e) ∙ so.is;
         named = named.1;
-        may = may.1;
         so = one_more_played opening so.front round ss mid met before between after so.so on;
       }
 

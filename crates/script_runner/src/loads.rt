@@ -2,10 +2,9 @@
 
 ghost use Rattle.std.specs.Prelude.{length, IfOk};
 ghost use Rattle.session_script.specs.Script.{NameSessions};
-ghost use Rattle.script_runner.specs.Rounds.{AllowsStalls};
 ghost use Rattle.script_runner.specs.Works.{AnswersLoad, CountsLive};
 
-use crate::rounds::run_round;
+use crate::rounds::run_load_round;
 use crate::transcript::Transcript;
 use commit_pipeline::{Gate, PipeName, Pipeline, Session, Sessions};
 use disk_face::{Disk, StallDisk};
@@ -16,7 +15,7 @@ use std::sync::ledger::Ledger;
 use std::thread::Threads;
 use wal_base::NoMemory;
 
-/// Plays the rounds of a load, each made once the one before has been played. Of its replies no line is kept.
+/// Plays the rounds of a load, the lines of each made once the one before has been played. Of its replies no line is kept.
 /// Answers whether one of them told a limit.
 pub(crate) fn run_load<
     D: StallDisk + Send,
@@ -31,14 +30,13 @@ pub(crate) fn run_load<
     mut sessions: Sessions<N, M>,
     mut load: Load,
 ) -> Result<(Sessions<N, M>, bool), NoMemory>
-    requires named { NameSessions (length sessions.items) load }
-    requires may { AllowsStalls N.opening load }
+    requires { NameSessions (length sessions.items) load }
     ensures { IfOk result (λ ended. AnswersLoad N.opening sessions.items load ended.0.items ended.1) }
 {
     let mut limited = false;
-    while let Some(round) = load.next_round(alloc)? {
+    while let Some(round) = load.next_round() {
         let mut transcript = Transcript::silent();
-        sessions = run_round(rt, alloc, pipe, sessions, round, &mut transcript)?;
+        sessions = run_load_round(rt, alloc, pipe, sessions, round, &mut transcript)?;
         limited = limited || transcript.limited;
     }
     Ok((sessions, limited))

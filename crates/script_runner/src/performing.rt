@@ -102,7 +102,6 @@ fn perform_load<
 ) -> Result<(Sessions<N, M>, Told), NoMemory>
     requires some { 1 ≤ length sessions.items }
     requires named { NameSessions (length sessions.items) load }
-    requires may { AllowsStalls N.opening load }
     ensures { IfOk result (λ done. Performs N.opening load (KeepsCount N.opening) sessions.items done.0.items done.1) }
 {
     let (mut sessions, limited) = run_load(rt, alloc, pipe, sessions, load)?;

@@ -1,14 +1,16 @@
 //! Rounds, played one after another.
 
-ghost use Rattle.std.specs.Prelude.{length, IfOk};
+ghost use Rattle.std.specs.Prelude.{length, IfOk, OnOk};
 ghost use Rattle.session_script.specs.Script.{LinesAreOfSome, NameSessions};
+ghost use Rattle.commit_pipeline.specs.Meeting.{HaveMet};
+ghost use Rattle.script_runner.specs.Transcripts.{NotesAnswers};
 ghost use Rattle.script_runner.specs.Rounds.{AllowsPolls, AllowsStalls, PlaysOn, PlaysAll};
 
 use crate::transcript::Transcript;
 use commit_pipeline::{Gate, PipeName, Pipeline, Sessions};
 use disk_face::StallDisk;
-use session_rounds::play_round;
-use session_script::{Round, Rounds, Stalls};
+use session_rounds::{Answers, play_load_round, play_round};
+use session_script::{LoadRound, Round, Rounds, Stalls};
 use std::alloc::Global;
 use std::collections::VecDeque;
 use std::sync::Wait;
@@ -66,9 +68,47 @@ pub(crate) fn run_round<
     let Round { stalls, lines } = round;
     leave_polls(rt, pipe, stalls);
     let (mut sessions, answers) = play_round(rt, alloc, pipe, sessions, lines)?;
-    pipe.meet(rt, &mut sessions)?;
-    transcript.note_all(answers)?;
+    end_round(rt, pipe, &mut sessions, answers, transcript)?;
     Ok(sessions)
+}
+
+/// Plays a round of a load in the same way. It stalls nothing, and each session makes its lines itself.
+pub(crate) fn run_load_round<
+    D: StallDisk + Send,
+    G: Gate + Sync,
+    N: PipeName + Send + Sync,
+    M: Ledger + Send + Sync,
+    R: Threads + Wait + Sync,
+>(
+    rt: &R,
+    alloc: Global,
+    pipe: &Pipeline<'_, D, G, N, M>,
+    sessions: Sessions<N, M>,
+    round: LoadRound,
+    transcript: &mut Transcript,
+) -> Result<Sessions<N, M>, NoMemory>
+    requires named { LinesAreOfSome (length sessions.items) round.lines }
+    ensures { IfOk result (λ met. PlaysOn N.opening round.lines sessions.items met.items
+        transcript.old transcript.new) }
+{
+    let (mut sessions, answers) = play_load_round(rt, alloc, pipe, sessions, round)?;
+    end_round(rt, pipe, &mut sessions, answers, transcript)?;
+    Ok(sessions)
+}
+
+/// Has the sessions meet at the end of a round, and adds its replies to the transcript.
+fn end_round<D: StallDisk, G: Gate, N: PipeName, M: Ledger, R: Wait>(
+    rt: &R,
+    pipe: &Pipeline<'_, D, G, N, M>,
+    sessions: &mut Sessions<N, M>,
+    answers: Answers,
+    transcript: &mut Transcript,
+) -> Result<(), NoMemory>
+    ensures met { OnOk result (HaveMet sessions.old.items sessions.new.items) }
+    ensures notes { OnOk result (NotesAnswers answers transcript.old transcript.new) }
+{
+    pipe.meet(rt, sessions)?;
+    transcript.note_all(answers)
 }
 
 /// Leaves the polls of a round's stalls, in their order.

@@ -120,6 +120,41 @@ pub all_dealt : (ss : List Standing) (all left : List Line) (ts : List Course) �
 all_dealt ss all left ts so none =
     subst (λ (l : List Line). AreDealt ss l ts) (ap (λ (l : List Line). l ++ so.rest) (sym none) ∙ so.is) so.dealt
 
+-- ---- lines that are still to be made
+
+-- an item in front of more, and the one behind them all
+get_in_front : {A : Type 0} (xs ys : List A) (i : ℕ) (x : A) → slice_get xs i ≡ Some x → slice_get (xs ++ ys) i ≡ Some x
+get_in_front [] ys i x e = absurd cc
+get_in_front (y ∷ xs) ys zero x e = e
+get_in_front (y ∷ xs) ys (suc i) x e = get_in_front xs ys i x e
+
+get_behind : {A : Type 0} (xs : List A) (y : A) → slice_get (xs ++ y ∷ []) (length xs) ≡ Some y
+get_behind [] y = refl
+get_behind (x ∷ xs) y = get_behind xs y
+
+-- An item is in front, or the one behind.
+front_or_behind : {A : Type 0} (xs : List A) (y : A) (i : ℕ) (x : A) → slice_get (xs ++ y ∷ []) i ≡ Some x
+    → (slice_get xs i ≡ Some x) ⊎ ((i ≡ length xs) × (y ≡ x))
+front_or_behind [] y zero x e = inr (refl, cc)
+front_or_behind [] y (suc i) x e = absurd cc
+front_or_behind (z ∷ xs) y zero x e = inl e
+front_or_behind (z ∷ xs) y (suc i) x e = elim (front_or_behind xs y i x e) [ inl front ↦ inl front | inr behind ↦ inr (ap suc behind.0, behind.1) ]
+
+-- One session more has its lines.
+pub one_shared : (ss : List Standing) (lines own : List Line) (ts : List Course) (n : ℕ) (s : Standing) (t : Course) → AreDealt ss lines ts
+    → n ≡ length ts → own ≡ lines_of_session n lines → t ≡ turn_with s own → AreDealt (ss ++ s ∷ []) lines (ts ++ t ∷ [])
+one_shared ss lines own ts n s t dealt count its is = record {
+  all = omega (arith, length-append ss (s ∷ []), length-append ts (t ∷ []), dealt.all);
+  each = λ i x e. elim (front_or_behind ss s i x e) [
+    | inl front ↦ get_in_front ts (t ∷ []) i (turn_with x (lines_of_session i lines)) (dealt.each i x front)
+    | inr behind ↦
+        let here : i ≡ length ts = behind.0 ∙ sym dealt.all in
+        ap (slice_get (ts ++ t ∷ [])) here ∙ get_behind ts t
+        ∙ ap (λ (u : Course). Some u) (is ∙ ap (turn_with s) (its ∙ ap (λ (m : ℕ). lines_of_session m lines) (count ∙ sym here))
+        ∙ ap (λ (y : Standing). turn_with y (lines_of_session i lines)) behind.1)
+  ];
+}
+
 -- ---- how many each session has
 
 -- A line at a place is of one of the sessions.

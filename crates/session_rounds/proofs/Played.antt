@@ -17,7 +17,7 @@ use Rattle.session_rounds.specs.declared.answers.Answer.{Answer}
 use Rattle.session_rounds.specs.declared.course.Course.{Course}
 use Rattle.session_rounds.specs.Acts.{DoesLines}
 use Rattle.session_rounds.specs.Playing.{answers_of, AnswersPlayed}
-use Rattle.session_rounds.specs.Turns.{turn_with, session_of, answers_in, AreDealt, PlaysTurn, PlayAll, NoneStarved}
+use Rattle.session_rounds.specs.Turns.{turn_with, session_of, answers_in, AreDealt, PlaysTurn, PlayAll, NoneStarved, PlaysTurns}
 
 -- Of two numbers the one is below the other, or not.
 below_or : (a b : ℕ) → (a < b) ⊎ (b ≤ a)
@@ -267,16 +267,26 @@ round_played opening lines ss ts ts' named dealt plays none =
       answers_are = from.answers_are;
     }
 
--- A round is answered, where the turns came back as they were played and none ran out of memory.
-pub round_ended : {E : Type 0} (opening : Opening) (lines : List Line) (ss : List Standing) (ts ts' back : List Course)
-    (ended : Result (Vec Standing × List Answer) E) → LinesAreOfSome (length ss) lines → AreDealt ss lines ts → PlayAll opening ts ts'
-    → back ≡ ts' → IfOk ended (λ e. e.0.items ≡ map session_of back) → IfOk ended (λ e. e.1 ≡ flat_map answers_in back)
-    → OnOk ended (NoneStarved back) → IfOk ended (λ e. AnswersPlayed opening lines ss e.0.items e.1)
-round_ended opening lines ss ts ts' back (Ok e) named dealt plays same sessions answers none =
-    subst (λ (s' : List Standing). AnswersPlayed opening lines ss s' e.1) (sym (sessions ∙ ap (map session_of) same))
-    (subst (λ (a : List Answer). AnswersPlayed opening lines ss (map session_of ts') a) (sym (answers ∙ ap (flat_map answers_in) same))
-    (round_played opening lines ss ts ts' named dealt plays (subst NoneStarved same none)))
-round_ended opening lines ss ts ts' back (Err e) named dealt plays same sessions answers none = tt
+-- Turns are played, where they came back as they were played and none ran out of memory.
+pub turns_played : {E : Type 0} (opening : Opening) (ts ts' back : List Course) (ended : Result (Vec Standing × List Answer) E)
+    → PlayAll opening ts ts' → back ≡ ts' → IfOk ended (λ e. e.0.items ≡ map session_of back) → IfOk ended (λ e. e.1 ≡ flat_map answers_in back)
+    → OnOk ended (NoneStarved back) → IfOk ended (λ e. PlaysTurns opening ts e.0.items e.1)
+turns_played opening ts ts' back (Ok e) plays same sessions answers none = record {
+  ended = ts';
+  plays = plays;
+  none = subst NoneStarved same none;
+  sessions_are = sessions ∙ ap (map session_of) same;
+  answers_are = answers ∙ ap (flat_map answers_in) same;
+}
+turns_played opening ts ts' back (Err e) plays same sessions answers none = tt
+
+-- A round is answered, where turns with its lines are.
+pub round_ended : (opening : Opening) (lines : List Line) (ss ss' : List Standing) (ts : List Course) (answers : List Answer)
+    → LinesAreOfSome (length ss) lines → AreDealt ss lines ts → PlaysTurns opening ts ss' answers → AnswersPlayed opening lines ss ss' answers
+round_ended opening lines ss ss' ts answers named dealt plays =
+    subst (λ (s' : List Standing). AnswersPlayed opening lines ss s' answers) (sym plays.sessions_are)
+    (subst (λ (a : List Answer). AnswersPlayed opening lines ss (map session_of plays.ended) a) (sym plays.answers_are)
+    (round_played opening lines ss ts plays.ended named dealt plays.plays plays.none))
 
 -- What is lent whole and comes back is all that there is.
 pub wrote_back : {A : Type 0} (count : ℕ) (new items : List A) → count ≡ length items → length new ≡ length items

@@ -1,7 +1,7 @@
 -- The lines of a turn, answered one after another.
-use Rattle.std.specs.Prelude.{◌≡◌, List, [], ◌∷◌, ◌++◌, map, reverse}
+use Rattle.std.specs.Prelude.{◌≡◌, List, [], ◌∷◌, ◌++◌, map, Option, IfSome, Some}
 use Rattle.std.proofs.Common.{refl, sym, ap, ◌∙◌, subst, append_assoc}
-use Rattle.std.proofs.lemmas.List.{map-append, append-nil, reverse-append}
+use Rattle.std.proofs.lemmas.List.{map-append, append-nil}
 use Rattle.session_script.specs.declared.script.Line.{Line}
 use Rattle.session_script.specs.declared.replies.Said.{Said}
 use Rattle.session_script.specs.Legal.{Replied}
@@ -11,7 +11,7 @@ use Rattle.session_rounds.specs.declared.answers.Answer.{Answer}
 use Rattle.session_rounds.specs.declared.course.Course.{Course}
 use Rattle.session_rounds.specs.Acts.{Does, DoesLines}
 use Rattle.session_rounds.specs.Playing.{answers_of}
-use Rattle.session_rounds.specs.Turns.{PlaysTurn}
+use Rattle.session_rounds.specs.Turns.{with_line, PlaysTurn}
 
 -- A line is done after others.
 does_push : (opening : Opening) (replies : List Replied) (reply : Replied) (s mid s' : Standing) → DoesLines opening s replies mid
@@ -28,27 +28,19 @@ pub record AnsweredSoFar (opening : Opening) (t : Course) (left : List Line) (an
   pub does : DoesLines opening t.session replies s
 
 -- None is yet.
-pub none_answered : (opening : Opening) (t : Course) (left : List Line) (answers : List Answer) (s : Standing) → left ≡ t.lines
-    → answers ≡ t.answers → s ≡ t.session → AnsweredSoFar opening t left answers s
+pub none_answered : (opening : Opening) (t : Course) → AnsweredSoFar opening t t.lines t.answers t.session
 unfolding DoesLines
-none_answered opening t left answers s lines_is answers_is session_is = record {
-  replies = [];
-  lines_are = lines_is;
-  answers_are = answers_is ∙ sym (append-nil t.answers);
-  does = session_is;
-}
+none_answered opening t = record { replies = []; lines_are = refl; answers_are = sym (append-nil t.answers); does = refl }
 
 -- One more is.
-pub one_more : (opening : Opening) (t : Course) (before after : List Line) (line : Line) (said : Said) (old new : List Answer)
-    (s s' : Standing) → AnsweredSoFar opening t (reverse before) old s → before ≡ after ++ line ∷ [] → Does opening s line.act said s'
-    → new ≡ old ++ record { session = line.session; said = said } ∷ [] → AnsweredSoFar opening t (reverse after) new s'
-one_more opening t before after line said old new s s' so taken does pushed =
-    let reply : Replied = record { line = line; said = said } in
-    let next : reverse before ≡ line ∷ reverse after = ap reverse taken ∙ reverse-append after (line ∷ []) in record {
+pub one_more : (opening : Opening) (t : Course) (left : List Line) (line : Line) (said : Said) (old new : List Answer) (s s' : Standing)
+    → AnsweredSoFar opening t (line ∷ left) old s → Does opening s line.act said s'
+    → new ≡ old ++ record { session = line.session; said = said } ∷ [] → AnsweredSoFar opening t left new s'
+one_more opening t left line said old new s s' so does pushed =
+    let reply : Replied = record { line = line; said = said } in record {
       replies = so.replies ++ reply ∷ [];
-      lines_are = ap (λ (l : List Line). l ++ reverse after) (map-append (λ (r : Replied). r.line) so.replies (reply ∷ []))
-          ∙ append_assoc (map (λ (r : Replied). r.line) so.replies) (line ∷ []) (reverse after)
-          ∙ ap (λ (l : List Line). map (λ (r : Replied). r.line) so.replies ++ l) (sym next) ∙ so.lines_are;
+      lines_are = ap (λ (l : List Line). l ++ left) (map-append (λ (r : Replied). r.line) so.replies (reply ∷ []))
+          ∙ append_assoc (map (λ (r : Replied). r.line) so.replies) (line ∷ []) left ∙ so.lines_are;
       answers_are = pushed ∙ ap (λ (l : List Answer). l ++ record { session = line.session; said = said } ∷ []) so.answers_are
           ∙ append_assoc t.answers (answers_of so.replies) (record { session = line.session; said = said } ∷ [])
           ∙ ap (λ (l : List Answer). t.answers ++ l)
@@ -56,13 +48,22 @@ one_more opening t before after line said old new s s' so taken does pushed =
       does = does_push opening so.replies reply t.session s s' so.does does;
     }
 
+-- The next line is taken.
+pub taken : (opening : Opening) (t old new own : Course) (next : Option Line) (line : Line) → AnsweredSoFar opening t old.lines old.answers old.session
+    → IfSome next (λ l. old ≡ with_line l new) → next ≡ Some line → own ≡ new
+    → AnsweredSoFar opening t (line ∷ own.lines) own.answers own.session
+taken opening t old new own next line so comes is same =
+    subst (λ (u : Course). AnsweredSoFar opening t (line ∷ u.lines) u.answers u.session) (sym same)
+    (subst (λ (u : Course). AnsweredSoFar opening t u.lines u.answers u.session)
+    (subst (λ (o : Option Line). IfSome o (λ l. old ≡ with_line l new)) is comes) so)
+
 -- All are.
-pub all_answered : (opening : Opening) (t t' : Course) (left : List Line) → AnsweredSoFar opening t (reverse left) t'.answers t'.session
-    → left ≡ [] → PlaysTurn opening t t'
-all_answered opening t t' left so none = record {
+pub all_answered : (opening : Opening) (t t' : Course) → AnsweredSoFar opening t t'.lines t'.answers t'.session → t'.lines ≡ []
+    → PlaysTurn opening t t'
+all_answered opening t t' so none = record {
   replies = so.replies;
   lines_are = sym (append-nil (map (λ (r : Replied). r.line) so.replies))
-      ∙ ap (λ (l : List Line). map (λ (r : Replied). r.line) so.replies ++ reverse l) (sym none) ∙ so.lines_are;
+      ∙ ap (λ (l : List Line). map (λ (r : Replied). r.line) so.replies ++ l) (sym none) ∙ so.lines_are;
   answers_are = so.answers_are;
   does = so.does;
 }

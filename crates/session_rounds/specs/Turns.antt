@@ -1,6 +1,6 @@
 -- The turns of the sessions in a round: the session, its lines that are still to do, and what was answered so far.
 use Rattle.std.specs.Prelude.{◌≡◌, ℕ, ◌<◌, Bool, false, ltb, List, [], ◌∷◌, ◌++◌, length, map, Some, slice_get, slice_index, slice_index_or}
-use Rattle.std.specs.List.{AllByRecursion}
+use Rattle.std.specs.List.{AllByRecursion, flat_map}
 use Rattle.session_script.specs.declared.script.Line.{Line}
 use Rattle.session_script.specs.Legal.{Replied, lines_of_session}
 use Rattle.commit_pipeline.specs.Openings.{Opening}
@@ -59,3 +59,11 @@ pub record PlayAll (opening : Opening) (ts ts' : List Course) : Type 0 where
 -- No session ran out of memory.
 abbrev pub NoneStarved : List Course → Type 0
 NoneStarved ts = AllByRecursion (λ (t : Course). t.starved ≡ false) ts
+
+-- Turns were played, none of them ran out of memory, and these are their sessions and their answers.
+pub record PlaysTurns (opening : Opening) (ts : List Course) (ss' : List Standing) (answers : List Answer) : Type 0 where
+  pub ended : List Course
+  pub plays : PlayAll opening ts ended
+  pub none : NoneStarved ended
+  pub sessions_are : ss' ≡ map session_of ended
+  pub answers_are : answers ≡ flat_map answers_in ended

@@ -4,23 +4,23 @@ ghost use Rattle.std.specs.Prelude.{◌≡◌, ◌++◌, length, map, IfOk, OnOk
 ghost use Rattle.std.specs.List.{flat_map};
 ghost use Rattle.session_script.specs.Script.{LinesAreOfSome};
 ghost use Rattle.session_rounds.specs.Playing.{AnswersPlayed};
-ghost use Rattle.session_rounds.specs.Turns.{beginning, session_of, answers_in, CountsLines, AreDealt, NoneStarved};
+ghost use Rattle.session_rounds.specs.Turns.{beginning, session_of, answers_in, CountsLines, AreDealt, NoneStarved, PlaysTurns};
 
 use crate::answers::Answers;
 use crate::threads::play_all;
 use crate::turns::Turn;
 use commit_pipeline::{Gate, PipeName, Pipeline, Sessions};
 use disk_face::Disk;
-use session_script::{Line, Lines};
+use session_script::{Line, Lines, LoadRound};
 use std::alloc::Global;
 use std::sync::Wait;
 use std::sync::ledger::Ledger;
 use std::thread::Threads;
 use wal_base::NoMemory;
 
-/// Plays a round: each session that has lines does them in their order, beside the others: where one
-/// of them asks for a sync on a thread each, and else on a few. A session without a line costs no thread. The answers stand session by session.
-/// A session that runs out of memory stops, the others go on, and then `Err` is answered.
+/// Plays a round: each session that has lines does them in their order, beside the others: where one of them asks for a sync
+/// on a thread each, and else on a few. A session without a line costs no thread. The answers stand session by session. A
+/// session that runs out of memory stops, the others go on, and then `Err` is answered.
 pub fn play_round<
     D: Disk + Send,
     G: Gate + Sync,
@@ -37,7 +37,47 @@ pub fn play_round<
     requires { LinesAreOfSome (length sessions.items) lines }
     ensures { IfOk result (λ played. AnswersPlayed N.opening lines sessions.items played.0.items played.1) }
 {
-    let mut turns = deal(alloc, sessions, lines)?;
+    let turns = deal(alloc, sessions, lines)?;
+    play_turns(rt, alloc, pipe, turns)
+}
+
+/// Plays a round of a load in the same way. Each session makes its lines itself, before it does the first one.
+pub fn play_load_round<
+    D: Disk + Send,
+    G: Gate + Sync,
+    N: PipeName + Send + Sync,
+    M: Ledger + Send + Sync,
+    R: Threads + Wait + Sync,
+>(
+    rt: &R,
+    alloc: Global,
+    pipe: &Pipeline<'_, D, G, N, M>,
+    sessions: Sessions<N, M>,
+    round: LoadRound,
+) -> Result<(Sessions<N, M>, Answers), NoMemory>
+    requires { LinesAreOfSome (length sessions.items) round.lines }
+    ensures { IfOk result
+        (λ played. AnswersPlayed N.opening round.lines sessions.items played.0.items played.1) }
+{
+    let turns = share(alloc, sessions, &round)?;
+    play_turns(rt, alloc, pipe, turns)
+}
+
+/// Plays turns beside one another.
+fn play_turns<
+    D: Disk + Send,
+    G: Gate + Sync,
+    N: PipeName + Send + Sync,
+    M: Ledger + Send + Sync,
+    R: Threads + Wait + Sync,
+>(
+    rt: &R,
+    alloc: Global,
+    pipe: &Pipeline<'_, D, G, N, M>,
+    mut turns: Vec<Turn<N, M>>,
+) -> Result<(Sessions<N, M>, Answers), NoMemory>
+    ensures { IfOk result (λ played. PlaysTurns N.opening turns.items played.0.items played.1) }
+{
     play_all(rt, alloc, pipe, turns.as_mut_slice());
     gather(alloc, turns)
 }
@@ -89,6 +129,22 @@ fn begin_all<N: PipeName, M: Ledger>(
     for session in sessions {
         let room = rooms.get(turns.len()).copied().unwrap_or(0);
         turns.push(Turn::of(alloc, session, room)?)?;
+    }
+    Ok(turns)
+}
+
+/// Gives each session its lines of a round of a load, still to be made.
+pub(crate) fn share<N: PipeName, M: Ledger>(
+    alloc: Global,
+    sessions: Sessions<N, M>,
+    round: &LoadRound,
+) -> Result<Vec<Turn<N, M>>, NoMemory>
+    ensures { IfOk result (λ turns. AreDealt sessions.items round.now.lines turns.items) }
+{
+    let mut turns = Vec::with_capacity(alloc, sessions.len())?;
+    for session in sessions {
+        let own = round.lines_of(turns.len());
+        turns.push(Turn::to_make(alloc, session, own)?)?;
     }
     Ok(turns)
 }

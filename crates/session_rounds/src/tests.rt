@@ -1,19 +1,19 @@
 //! What a round comes to, by examples.
-ghost use Rattle.std.specs.Prelude.{◌≡◌, ◌+◌, ◌≤◌, length};
+ghost use Rattle.std.specs.Prelude.{◌≡◌, ◌+◌, ◌≤◌, length, IfSome};
 ghost use Rattle.batch_repr.specs.declared.limits.TheConstants.{NUMBER_FIRST, SESSIONS_MAX};
 ghost use Rattle.session_script.specs.Script.{LinesAreOfSome};
 ghost use Rattle.commit_pipeline.specs.Openings.{opening_on};
 ghost use Rattle.failover_writer.specs.State.{len};
 
-use crate::playing::{deal, gather};
+use crate::playing::{deal, gather, share};
 use crate::threads::middle;
-use crate::{Answer, Answers, play_round};
+use crate::{Answer, Answers, play_load_round, play_round};
 use batch_repr::{Batches, NUMBER_FIRST, Unwritten};
 use commit_pipeline::{NoGate, Parts, PipeName, Pipeline, Sessions};
 use disk_face::Disk;
 use failover_writer::Journal;
 use mem_disk::MemDisk;
-use session_script::{Act, Line, Lines, Said};
+use session_script::{Act, LOAD_SESSIONS, Line, Lines, Load, LoadRound, Said};
 use std::alloc::Global;
 use std::marker::Brand;
 use std::process::Abort;
@@ -56,12 +56,14 @@ fn get_line(rt: &impl Abort, alloc: Global, session: u32) -> Line
     }
 }
 
-/// Of so many sessions these have lines: so many from a first one on.
+/// Of so many sessions these have lines: so many from a first one on. Or the four sessions of a load of so many batches play
+/// its first round.
 #[derive(Clone, Copy)]
 struct Row {
     sessions: u32,
     first: u32,
     count: u32,
+    batches: u32,
 }
 
 /// The row of these numbers.
@@ -72,7 +74,19 @@ fn chosen(sessions: u32, first: u32, count: u32) -> Row
         sessions,
         first,
         count,
+        batches: 0,
     }
+}
+
+/// The round of a load that its four sessions play, if they do.
+fn load_of(row: Row) -> Option<LoadRound>
+    ensures { IfSome result (λ round. LinesAreOfSome row.sessions round.lines) }
+{
+    if row.sessions != LOAD_SESSIONS {
+        return None;
+    }
+    let mut load = Load::new(7, row.batches);
+    load.next_round()
 }
 
 /// The lines of a round: each session that has some, the last one first, sets its key, and then
@@ -170,8 +184,11 @@ fn with_names<
         panic!(rt; "memory");
     };
     let sessions = split_there(rt, alloc, sessions, row, split);
-    let lines = lines_of(rt, alloc, row);
-    let (sessions, answers) = play_round(rt, alloc, &pipe, sessions, lines).expect(rt, "memory");
+    let played = match load_of(row) {
+        Some(round) => play_load_round(rt, alloc, &pipe, sessions, round),
+        None => play_round(rt, alloc, &pipe, sessions, lines_of(rt, alloc, row)),
+    };
+    let (sessions, answers) = played.expect(rt, "memory");
     assert_eq!(rt; sessions.len(), row.sessions as usize);
     answers
 }
@@ -187,7 +204,11 @@ fn split_there<N: PipeName, M: Ledger>(
     requires row { (row.first + row.count ≤ row.sessions) × (row.sessions ≡ length sessions.items) }
     ensures { length result.items ≡ row.sessions }
 {
-    let turns = deal(alloc, sessions, lines_of(rt, alloc, row)).expect(rt, "memory");
+    let turns = match load_of(row) {
+        Some(round) => share(alloc, sessions, &round),
+        None => deal(alloc, sessions, lines_of(rt, alloc, row)),
+    };
+    let turns = turns.expect(rt, "memory");
     assert_eq!(rt; middle(turns.as_slice(), 2), split);
     assert!(rt; middle(turns.as_slice(), 1).is_none());
     let (sessions, _answers) = gather(alloc, turns).expect(rt, "memory");
@@ -261,4 +282,54 @@ fn sessions_without_a_line_answer_nothing(rt: HostRuntime) {
     plays(&rt, rt.alloc(), chosen(64, 0, 1), None);
     plays(&rt, rt.alloc(), chosen(64, 63, 1), None);
     plays(&rt, rt.alloc(), chosen(64, 40, 3), Some(41));
+}
+
+/// Asserts that it is the reply to the commit of this batch of a load.
+fn has_committed(rt: &impl Abort, answer: &Answer, index: usize) {
+    assert_eq!(rt; answer.session as usize, index % 4);
+    match &answer.said {
+        Said::Committed {
+            first: _,
+            count,
+            synced,
+        } => {
+            assert_eq!(rt; *count, if index % 8 == 7 { 2 } else { 1 });
+            assert_eq!(rt; *synced, index % 16 == 15);
+        }
+        _ => panic!(rt; "the reply to a commit"),
+    }
+}
+
+/// Plays the first round of a load, and asserts where it is split and that its batches are answered session by session.
+fn plays_load<R: Threads + Wait + Abort + Sync>(
+    rt: &R,
+    alloc: Global,
+    batches: u32,
+    split: Option<usize>,
+) {
+    let row = Row {
+        sessions: LOAD_SESSIONS,
+        first: 0,
+        count: 0,
+        batches,
+    };
+    let journal = new_journal(rt, alloc);
+    let answers = played(rt, alloc, journal, row, split);
+    let mut left = answers.as_slice().iter();
+    for session in 0..4usize {
+        for index in 0..batches as usize {
+            if index % 4 == session {
+                has_committed(rt, left.next().expect(rt, "an answer"), index);
+            }
+        }
+    }
+    assert!(rt; left.next().is_none());
+}
+
+#[test]
+fn the_sessions_of_a_load_make_their_own_lines(rt: HostRuntime) {
+    plays_load(&rt, rt.alloc(), 1, None);
+    plays_load(&rt, rt.alloc(), 2, Some(1));
+    plays_load(&rt, rt.alloc(), 7, Some(2));
+    plays_load(&rt, rt.alloc(), 1_000, Some(2));
 }

@@ -1,17 +1,18 @@
 //! The lines of a session of one round, answered one after another.
 
-ghost use Rattle.std.specs.Prelude.{◌≡◌, false, IfOk, OnOk};
+ghost use Rattle.std.specs.Prelude.{◌≡◌, [], ◌++◌, false, IfOk, IfSome, IfNone, OnOk};
 ghost use Rattle.session_script.specs.declared.script.Act.TheVariants.{Commit};
 ghost use Rattle.session_rounds.specs.Acts.{Does};
-ghost use Rattle.session_rounds.specs.Turns.{has_line, beginning, with_line, PlaysTurn};
+ghost use Rattle.session_rounds.specs.Turns.{has_line, beginning, turn_with, with_line, PlaysTurn};
 
 use crate::answers::{Answer, Answers};
 use crate::threads::Work;
 use batch_repr::Unnumbered;
 use commit_pipeline::{CommitFault, Gate, PipeName, Pipeline, Session};
 use disk_face::Disk;
-use session_script::{Act, Line, Lines, Said};
+use session_script::{Act, Line, LoadLines, Said};
 use std::alloc::Global;
+use std::collections::VecDeque;
 use std::marker::Model;
 use std::sync::Wait;
 use std::sync::ledger::Ledger;
@@ -21,26 +22,33 @@ use wal_base::NoMemory;
 #[derive(Drop)]
 pub(crate) struct Turn<N: PipeName, M: Ledger> {
     session: Session<N, M>,
-    /// Those that are still to do, the last one first.
-    lines: Lines,
+    /// Those that are still to do, the next one first.
+    lines: VecDeque<Line>,
+    /// Those after them, which the turn makes itself.
+    unmade: LoadLines,
     answers: Answers,
     starved: bool,
 }
 
 impl<N: PipeName, M: Ledger> Model for Turn<N, M> {
-    ghost use Rattle.std.specs.Prelude.{reverse};
+    ghost use Rattle.std.specs.Prelude.{◌++◌};
     ghost use Rattle.session_rounds.specs.declared.course.Course.{Course};
 
     ghost Value = { Course };
 
-    ghost view = { λ t. record { session = t.session; lines = reverse t.lines; answers = t.answers; starved = t.starved } };
+    ghost view = { λ t. record {
+      session = t.session;
+      lines = t.lines.items ++ t.unmade;
+      answers = t.answers;
+      starved = t.starved;
+    } };
 }
 
 impl<N: PipeName, M: Ledger> Work for Turn<N, M> {
     ghost has_work = { has_line };
 
     fn is_at_work(&self) -> bool {
-        !self.lines.is_empty()
+        !self.lines.is_empty() || !self.unmade.is_empty()
     }
 }
 
@@ -55,8 +63,26 @@ impl<N: PipeName, M: Ledger> Turn<N, M> {
     {
         Ok(Turn {
             session,
-            lines: Lines::with_capacity(alloc, room)?,
+            lines: VecDeque::with_capacity(alloc, room)?,
+            unmade: LoadLines::none(),
             answers: Answers::with_capacity(alloc, room)?,
+            starved: false,
+        })
+    }
+
+    /// A session with lines that it makes itself, and room for their answers.
+    pub(crate) fn to_make(
+        alloc: Global,
+        session: Session<N, M>,
+        unmade: LoadLines,
+    ) -> Result<Turn<N, M>, NoMemory>
+        ensures { IfOk result (λ turn. turn ≡ turn_with session unmade) }
+    {
+        Ok(Turn {
+            session,
+            lines: VecDeque::new(alloc),
+            answers: Answers::with_capacity(alloc, unmade.len())?,
+            unmade,
             starved: false,
         })
     }
@@ -65,22 +91,23 @@ impl<N: PipeName, M: Ledger> Turn<N, M> {
     pub(crate) fn put_first(&mut self, line: Line) -> Result<(), NoMemory>
         ensures { OnOk result (self.new ≡ with_line line self.old) }
     {
-        self.lines.push(line).map_err(|_| NoMemory)
+        self.lines.push_front(line)?;
+        Ok(())
     }
 
     /// How many lines are still to do.
     pub(crate) fn lines_left(&self) -> usize {
-        self.lines.len()
+        self.lines.len().saturating_add(self.unmade.len())
     }
 
     /// Whether one of its lines is a commit that waits for a sync.
     pub(crate) fn asks_for_sync(&self) -> bool {
-        for line in self.lines.as_slice() {
+        for line in self.lines.iter() {
             if matches!(line.act, Act::Commit { sync: true, .. }) {
                 return true;
             }
         }
-        false
+        self.unmade.ask_for_sync()
     }
 
     /// Answers its lines in their order, each before the next one is begun. On out of memory the rest
@@ -105,7 +132,7 @@ impl<N: PipeName, M: Ledger> Turn<N, M> {
     ) -> Result<(), NoMemory>
         ensures { OnOk result (PlaysTurn N.opening self.old self.new) }
     {
-        while let Some(line) = self.lines.pop() {
+        while let Some(line) = self.next_line(alloc)? {
             let number = line.session;
             let said = answer(rt, alloc, pipe, &mut self.session, line.act)?;
             let answered = Answer {
@@ -117,6 +144,17 @@ impl<N: PipeName, M: Ledger> Turn<N, M> {
         Ok(())
     }
 
+    /// Takes the next line, which is made first where it is not made yet. `None` exactly where none is left.
+    fn next_line(&mut self, alloc: Global) -> Result<Option<Line>, NoMemory>
+        ensures some { IfOk result
+            (λ next. IfSome next (λ line. self.old ≡ with_line line self.new)) }
+        ensures none { IfOk result
+            (λ next. IfNone next ((self.old.lines ≡ []) × (self.new ≡ self.old))) }
+    {
+        refill(alloc, &mut self.lines, &mut self.unmade)?;
+        Ok(self.lines.pop_front())
+    }
+
     /// Its session and the answers, unless it ran out of memory.
     pub(crate) fn into_answers(self) -> Result<(Session<N, M>, Answers), NoMemory>
         ensures session { IfOk result (λ ended. ended.0 ≡ self.session) }
@@ -126,6 +164,7 @@ impl<N: PipeName, M: Ledger> Turn<N, M> {
         let Turn {
             session,
             lines: _,
+            unmade: _,
             answers,
             starved,
         } = self;
@@ -134,6 +173,18 @@ impl<N: PipeName, M: Ledger> Turn<N, M> {
         }
         Ok((session, answers))
     }
+}
+
+/// Makes the lines that come next, where those before them are done.
+fn refill(alloc: Global, lines: &mut VecDeque<Line>, unmade: &mut LoadLines) -> Result<(), NoMemory>
+    ensures same { OnOk result (lines.new.items ++ unmade.new ≡ lines.old.items ++ unmade.old) }
+    ensures made { OnOk result (lines.new.items ≡ [] → unmade.new ≡ []) }
+{
+    if lines.is_empty() && !unmade.is_empty() {
+        *lines = VecDeque::from(unmade.make(alloc)?.into_vec());
+        *unmade = LoadLines::none();
+    }
+    Ok(())
 }
 
 /// Does an act for a session, and answers what is said of it. A batch is written as it is committed.

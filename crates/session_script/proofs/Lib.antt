@@ -4,6 +4,7 @@ mod Counting
 mod Cuts
 mod Drafting
 mod EntriesSoFar
+mod EveryNth
 mod Examples
 mod Exhausted
 mod InOrder

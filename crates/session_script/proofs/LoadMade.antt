@@ -1,5 +1,5 @@
 -- What is made of a load step by step: digits, a value, the entries of a batch, the lines of a round.
-use Rattle.std.proofs.Common.{◌≡◌, ℕ, zero, suc, ◌+◌, ◌-◌, ◌/◌, ◌%◌, ◌<◌, ◌≤◌, min, ◌*◌, ◌==◌, false, List, [], ◌∷◌, ◌++◌, length, drop, Option, Some, None, refl, sym, ap, ◌∙◌, arith, subst, append_assoc, append-nil, add-one}
+use Rattle.std.proofs.Common.{◌≡◌, ℕ, zero, suc, ◌+◌, ◌-◌, ◌/◌, ◌%◌, ◌<◌, ◌≤◌, ◌*◌, ◌==◌, Bool, false, List, [], ◌∷◌, ◌++◌, length, drop, Option, Some, None, refl, sym, ap, ◌∙◌, arith, subst, append_assoc, append-nil, add-one}
 use Rattle.std.specs.Prelude.{IfNone, IfSome, slice_set}
 use Rattle.std.specs.Option.{IsSome}
 use Rattle.std.specs.Fmt.{digit_glyph}
@@ -9,12 +9,14 @@ use Rattle.std.proofs.lemmas.List.{drop-set}
 use Rattle.std.proofs.lemmas.List.FromFn.{map-range_with_len_more}
 use Rattle.wal_base.specs.declared.entry.Entry.{Entry}
 use Rattle.wal_base.specs.declared.entry.Entry.TheVariants.{Set, Delete}
-use Rattle.session_script.specs.declared.load.TheConstants.{LOAD_ROUND, LOAD_SESSIONS}
+use Rattle.session_script.specs.declared.every_nth.EveryNth.{EveryNth}
+use Rattle.session_script.specs.declared.load.TheConstants.{LOAD_SESSIONS}
 use Rattle.session_script.specs.declared.script.Act.TheVariants.{Commit}
 use Rattle.session_script.specs.declared.script.Line.{Line}
 use Rattle.session_script.specs.declared.script.Round.{Round}
 use Rattle.session_script.specs.declared.script.StallLine.{StallLine}
-use Rattle.session_script.specs.Load.{last_digits, load_key, load_value, load_entries, load_line, load_lines, load_round}
+use Rattle.session_script.specs.Load.{last_digits, load_key, load_value, load_entries, load_line}
+use Rattle.session_script.specs.EveryNth.{line_at, lines_before}
 
 -- ---- digits
 
@@ -78,29 +80,25 @@ is_made (Some x) P none holds = refl
 value_of : {X : Type 0} (made : Option X) (x y : X) → made ≡ Some x → IfSome made (λ z. z ≡ y) → x ≡ y
 value_of made x y is holds = subst (λ o. IfSome o (λ z. z ≡ y)) is holds
 
-pub commits : (seed i : ℕ) (made : Option (List Entry)) (entries batch : List Entry) → made ≡ Some batch → IfSome made (λ b. b ≡ entries)
-    → entries ≡ load_entries seed i
-    → record { session = i % LOAD_SESSIONS; act = Commit (i % 16 == 15) batch } ≡ load_line seed i
+pub commits : (seed i : ℕ) (sync : Bool) (made : Option (List Entry)) (entries batch : List Entry) → sync ≡ (i % 16 == 15) → made ≡ Some batch
+    → IfSome made (λ b. b ≡ entries) → entries ≡ load_entries seed i
+    → record { session = i % LOAD_SESSIONS; act = Commit sync batch } ≡ load_line seed i
 unfolding load_line
-commits seed i made entries batch is holds are =
-    ap (λ (es : List Entry). let line : Line = record { session = i % LOAD_SESSIONS; act = Commit (i % 16 == 15) es } in line)
+commits seed i sync made entries batch tells is holds are =
+    ap (λ (b : Bool). let line : Line = record { session = i % LOAD_SESSIONS; act = Commit b batch } in line) tells
+    ∙ ap (λ (es : List Entry). let line : Line = record { session = i % LOAD_SESSIONS; act = Commit (i % 16 == 15) es } in line)
     (value_of made batch entries is holds ∙ are)
 
 -- ---- the lines of a round
 
-pub lines_more : (seed from index : ℕ) (lines more : List Line) (line : Line) → from ≤ index → lines ≡ load_lines seed from (index - from)
-    → line ≡ load_line seed index → more ≡ lines ++ line ∷ [] → more ≡ load_lines seed from (index + 1 - from)
-lines_more seed from index lines more line le is this are =
-    let next : index + 1 - from ≡ index - from + 1 = omega arith in
-    rw next (are ∙ ap (λ (ls : List Line). ls ++ line ∷ []) is ∙ ap (λ (l : Line). load_lines seed from (index - from) ++ l ∷ []) this
-    ∙ sym (map-range_with_len_more (load_line seed) from (index - from) index (omega arith)))
+pub lines_more : (b : EveryNth) (place : ℕ) (lines more : List Line) (line : Line) → lines ≡ lines_before b place → line ≡ line_at b place
+    → more ≡ lines ++ line ∷ [] → more ≡ lines_before b (place + 1)
+lines_more b place lines more line is this are =
+    are ∙ ap (λ (ls : List Line). ls ++ line ∷ []) is ∙ ap (λ (l : Line). lines_before b place ++ l ∷ []) this
+    ∙ sym (map-range_with_len_more (line_at b) 0 place place (omega arith))
 
-pub round_made : (seed batches round count : ℕ) (stalls : List StallLine) (lines : List Line) → stalls ≡ []
-    → count ≡ min LOAD_ROUND (batches - LOAD_ROUND * round) → lines ≡ load_lines seed (LOAD_ROUND * round) count
-    → record { stalls = stalls; lines = lines } ≡ load_round seed batches round
-unfolding load_round
-round_made seed batches round count stalls lines none is are =
-    let all : lines ≡ load_lines seed (LOAD_ROUND * round) (min LOAD_ROUND (batches - LOAD_ROUND * round)) =
-    are ∙ ap (λ (n : ℕ). load_lines seed (LOAD_ROUND * round) n) is in
+pub round_made : (round : Round) (stalls : List StallLine) (lines all : List Line) → stalls ≡ [] → lines ≡ all
+    → record { stalls = []; lines = all } ≡ round → record { stalls = stalls; lines = lines } ≡ round
+round_made round stalls lines all none are is =
     ap (λ (ss : List StallLine). let made : Round = record { stalls = ss; lines = lines } in made) none
-    ∙ ap (λ (ls : List Line). let made : Round = record { stalls = []; lines = ls } in made) all
+    ∙ ap (λ (ls : List Line). let made : Round = record { stalls = []; lines = ls } in made) are ∙ is

@@ -13,12 +13,12 @@ use Rattle.session_script.specs.declared.load.TheConstants.{LOAD_ROUND, LOAD_SES
 use Rattle.session_script.specs.declared.script.Line.{Line}
 use Rattle.session_script.specs.declared.script.Round.{Round}
 use Rattle.session_script.specs.Script.{is_commit, numbers_taken, rounds_commits, rounds_numbers, NamesItsSessions}
-use Rattle.session_script.specs.Load.{load_line, load_round, load_rounds, load_script_of}
+use Rattle.session_script.specs.Load.{load_line, load_lines, load_round, load_rounds, load_script_of}
 use Rattle.session_script.proofs.LoadEntries.{counts_of}
 
 -- ---- the rounds that are left
 
-pub left_more : (seed batches r : ℕ) → r < div_ceil batches LOAD_ROUND
+left_more : (seed batches r : ℕ) → r < div_ceil batches LOAD_ROUND
     → drop r (load_rounds seed batches) ≡ load_round seed batches r ∷ drop (r + 1) (load_rounds seed batches)
 unfolding load_rounds
 left_more seed batches r below =
@@ -27,6 +27,15 @@ left_more seed batches r below =
     drop-cons rounds r (made r) (omega (arith, length-map-range_with_len made 0 (div_ceil batches LOAD_ROUND)))
     ∙ ap (λ (x : Round). x ∷ drop (suc r) rounds) (get_or-map-range_with_len made 0 (div_ceil batches LOAD_ROUND) r r (made r) below (omega arith))
     ∙ ap (λ (n : ℕ). made r ∷ drop n rounds) (sym (add-one r))
+
+-- The same, where it is made of so many batches.
+pub next_of : (seed batches r count : ℕ) → r < div_ceil batches LOAD_ROUND → count ≡ min LOAD_ROUND (batches - LOAD_ROUND * r)
+    → drop r (load_rounds seed batches)
+    ≡ record { stalls = []; lines = load_lines seed (LOAD_ROUND * r) count } ∷ drop (r + 1) (load_rounds seed batches)
+unfolding load_round
+next_of seed batches r count below is =
+    left_more seed batches r below
+    ∙ ap (λ (n : ℕ). record { stalls = []; lines = load_lines seed (LOAD_ROUND * r) n } ∷ drop (r + 1) (load_rounds seed batches)) (sym is)
 
 pub left_none : (seed batches r : ℕ) → div_ceil batches LOAD_ROUND ≤ r → drop r (load_rounds seed batches) ≡ []
 unfolding load_rounds

@@ -8,5 +8,6 @@ pub mod Drafts
 pub mod Replies
 pub mod Legal
 pub mod Load
+pub mod EveryNth
 pub mod Lasting
 pub mod Theorems

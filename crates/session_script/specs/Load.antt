@@ -1,8 +1,8 @@
 -- The batches of a generated load, and what is printed at its end (docs/FORMATS.md, "The generated load").
-use Rattle.std.specs.Prelude.{ℕ, zero, suc, ◌+◌, ◌-◌, ◌*◌, ◌/◌, ◌%◌, ◌^◌, ◌<◌, ◌≤◌, ◌==◌, min, false, List, [], ◌∷◌, ◌++◌, length, map, count_by, is_some, codes, if◌then◌else◌}
+use Rattle.std.specs.Prelude.{ℕ, zero, suc, ◌+◌, ◌-◌, ◌*◌, ◌/◌, ◌%◌, ◌^◌, ◌==◌, min, false, List, [], ◌∷◌, ◌++◌, length, map, count_by, is_some, codes, if◌then◌else◌}
 use Rattle.std.specs.Fmt.{decimal, digit_glyph}
 use Rattle.std.specs.Int.{div_ceil}
-use Rattle.std.specs.List.{repeat, flat_map, range_with_len}
+use Rattle.std.specs.List.{repeat, range_with_len}
 use Rattle.wal_base.specs.declared.entry.Entry.{Entry}
 use Rattle.wal_base.specs.declared.entry.Entry.TheVariants.{Set, Delete}
 use Rattle.batch_repr.specs.declared.batch.Batch.{Batch}
@@ -84,16 +84,8 @@ load_end_line end =
     codes "load batches " ++ decimal end.batches ++ codes " visible " ++ decimal end.visible ++ codes " live " ++ decimal end.live ++ codes
     " acked " ++ decimal end.acked ++ codes " segments " ++ decimal end.segments ++ codes " last " ++ word_of_number end.last ++ codes "\n"
 
--- ---- inside: the texts of which the batches of a round are parts
+-- ---- inside
 
 -- the key that batch i sets, and then the value
 abbrev pub key_and_value : ℕ → ℕ → List ℕ
 key_and_value seed i = load_key i ++ load_value seed i
-
--- those of so many batches, from batch i on, one after the other
-unfoldable pub keys_and_values : ℕ → ℕ → ℕ → List ℕ
-keys_and_values seed i count = flat_map (key_and_value seed) (range_with_len i count)
-
--- whether batch i is one of so many, from another on
-abbrev pub IsAmong : ℕ → ℕ → ℕ → Type 0
-IsAmong from count i = (from ≤ i) × (i < from + count)

@@ -10,15 +10,18 @@
 //! lines say into rounds. The bytes are copied once, and a key, a value or a note is a part of the copy.
 //! `replies` has the replies and the last line of a run.
 //!
-//! A load is a script that nobody writes: `load` makes its batches from a seed and their numbers, a round at a time, and
-//! `load_end` has the line that is printed at its end.
+//! A load is a script that nobody writes: `load` hands it out a round at a time, `load_lines` makes the lines of one session
+//! of a round, or of all, from a seed and the numbers of their batches, and `load_end` has the line that is printed at its
+//! end.
 #![tactic(auto)]
 
 mod digits;
 mod entries;
+mod every_nth;
 mod fault;
 mod load;
 mod load_end;
+mod load_lines;
 mod pieces;
 mod reading;
 mod replies;
@@ -29,10 +32,11 @@ mod words;
 
 pub use fault::ScriptFault;
 pub use load::{
-    LOAD_BATCH_STEP, LOAD_KEYS, LOAD_ROUND, LOAD_SEED_STEP, LOAD_SESSIONS, Load, load_key,
-    load_number, load_script,
+    LOAD_BATCH_STEP, LOAD_KEYS, LOAD_ROUND, LOAD_SEED_STEP, LOAD_SESSIONS, Load, LoadRound,
+    load_key, load_number, load_script,
 };
 pub use load_end::{LoadEnd, put_load_end};
+pub use load_lines::LoadLines;
 pub use reading::read_script;
 pub use replies::{RunEnd, Said, put_reply, put_run_end};
 pub use script::{Act, Line, Lines, POLLS_MAX, Round, Rounds, Script, StallLine, Stalls};

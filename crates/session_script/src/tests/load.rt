@@ -1,6 +1,11 @@
-use super::shown;
-use crate::{Act, Load, LoadEnd, load_key, load_number, load_script, put_load_end};
+ghost use Rattle.std.specs.Prelude.{◌≤◌};
+
+use super::{put_line, shown};
+use crate::{
+    Act, Lines, Load, LoadEnd, LoadLines, load_key, load_number, load_script, put_load_end,
+};
 use std::alloc::Global;
+use std::process::Abort;
 use std::test::Fail;
 use wal_base::{Buf, NoMemory};
 
@@ -62,9 +67,9 @@ fn committed(alloc: Global, act: Act) -> Result<(bool, u32), NoMemory> {
 /// Makes all rounds that are left, and counts them, their lines, how many of these are synced, and the entries.
 fn counts(alloc: Global, load: &mut Load) -> Result<[u64; 4], NoMemory> {
     let [mut rounds, mut lines, mut synced, mut entries] = [0u64; 4];
-    while let Some(round) = load.next_round(alloc)? {
+    while let Some(round) = load.next_round() {
         rounds = rounds.wrapping_add(1);
-        for line in round.lines.into_vec() {
+        for line in round.make(alloc)?.lines.into_vec() {
             let (sync, count) = committed(alloc, line.act)?;
             lines = lines.wrapping_add(1);
             synced = synced.wrapping_add(u64::from(sync));
@@ -84,22 +89,109 @@ fn rounds_are_made_until_none_is_left(rt: HostRuntime) -> Result<(), Fail> {
     ] {
         let mut load = Load::new(7, batches);
         assert_eq!(rt; counts(rt.alloc(), &mut load)?, expected);
-        assert!(rt; load.next_round(rt.alloc())?.is_none());
+        assert!(rt; load.next_round().is_none());
     }
     Ok(())
 }
 
-/// Makes the only round of a load, once more where it was refused memory. An allocation is refused only where that is asked
+/// Adds the lines of one session.
+fn put_lines_of(out: &mut Buf, alloc: Global, lines: Lines, session: u32) -> Result<(), NoMemory> {
+    for line in lines.into_vec() {
+        if line.session == session {
+            put_line(out, alloc, line)?;
+        }
+    }
+    Ok(())
+}
+
+/// Asserts that a session makes the lines of its own, so many.
+fn check_session(
+    rt: &impl Abort,
+    alloc: Global,
+    batches: u32,
+    session: u32,
+    count: u64,
+) -> Result<(), Fail>
+    requires { 1 ≤ batches }
+{
+    let mut all = Buf::new(alloc)?;
+    for round in load_script(alloc, 7, batches)?.rounds.into_vec() {
+        put_lines_of(&mut all, alloc, round.lines, session)?;
+    }
+    let mut own = Buf::new(alloc)?;
+    let mut made = 0u64;
+    let mut load = Load::new(7, batches);
+    while let Some(round) = load.next_round() {
+        let lines = round.lines_of(session as usize);
+        made = made.wrapping_add(lines.len() as u64);
+        assert_eq!(rt; lines.is_empty(), lines.len() == 0);
+        put_lines_of(&mut own, alloc, lines.make(alloc)?, session)?;
+    }
+    assert_eq!(rt; made, count);
+    assert!(rt; own.as_slice() == all.as_slice());
+    Ok(())
+}
+
+/// Asserts that so many sessions make the lines of their own.
+fn check_sessions(
+    rt: &impl Abort,
+    alloc: Global,
+    batches: u32,
+    counts: [u64; 5],
+) -> Result<(), Fail>
+    requires { 1 ≤ batches }
+{
+    for session in 0..5u32 {
+        check_session(rt, alloc, batches, session, counts[session as usize])?;
+    }
+    Ok(())
+}
+
+#[test]
+fn each_session_makes_its_own_lines(rt: HostRuntime) -> Result<(), Fail> {
+    check_sessions(&rt, rt.alloc(), 1, [1, 0, 0, 0, 0])?;
+    check_sessions(&rt, rt.alloc(), 6, [2, 2, 1, 1, 0])?;
+    check_sessions(&rt, rt.alloc(), 16, [4, 4, 4, 4, 0])?;
+    check_sessions(&rt, rt.alloc(), 2_007, [502, 502, 502, 501, 0])?;
+    Ok(())
+}
+
+/// Whether one of the lines of a session waits for a sync, in the first round of a load.
+fn asks_for_sync(batches: u32, session: usize) -> bool {
+    let mut load = Load::new(7, batches);
+    match load.next_round() {
+        Some(round) => round.lines_of(session).ask_for_sync(),
+        None => false,
+    }
+}
+
+#[test]
+fn only_the_last_session_asks_for_syncs(rt: HostRuntime) {
+    assert!(rt; !LoadLines::none().ask_for_sync());
+    assert!(rt; !asks_for_sync(15, 3));
+    for batches in [16, 1_000] {
+        assert!(rt; asks_for_sync(batches, 3));
+        for session in 0..3usize {
+            assert!(rt; !asks_for_sync(batches, session));
+        }
+    }
+}
+
+/// Makes the lines of a session, once more where it was refused memory. An allocation is refused only where that is asked
 /// for: `rt try --test --fail-alloc N`.
 #[test]
-fn a_round_that_was_refused_memory_is_made_later(rt: HostRuntime) -> Result<(), Fail> {
+fn lines_that_were_refused_memory_are_made_later(rt: HostRuntime) -> Result<(), Fail> {
     let mut load = Load::new(7, 8);
-    let made = match load.next_round(rt.alloc()) {
-        Ok(made) => made,
-        Err(NoMemory) => load.next_round(rt.alloc())?,
+    let lines = match load.next_round() {
+        Some(round) => round.lines_of(3),
+        None => LoadLines::none(),
     };
-    assert!(rt; made.is_some());
-    assert!(rt; load.next_round(rt.alloc())?.is_none());
+    let made = match lines.make(rt.alloc()) {
+        Ok(made) => made,
+        Err(NoMemory) => lines.make(rt.alloc())?,
+    };
+    assert_eq!(rt; made.len(), 2);
+    assert!(rt; load.next_round().is_none());
     Ok(())
 }
 

@@ -3,8 +3,8 @@ use Rattle.std.specs.Prelude.{length}
 use Rattle.script_runner.proofs.LoadSoFar.{LoadSoFar}
 use Rattle.script_runner.proofs.loads.run_load.Given as goal
 
-abbrev pub invariant-loop-sessions : goal.invariant-loop-sessions
-invariant-loop-sessions g l = LoadSoFar g.N.PipeName.opening l.initial.sessions.items l.initial.load l.load l.sessions.items l.limited
+abbrev pub invariant-loop-round : goal.invariant-loop-round
+invariant-loop-round g l = LoadSoFar g.N.PipeName.opening l.initial.sessions.items l.initial.load l.load l.sessions.items l.limited
 
-abbrev pub decreases-loop-sessions : goal.decreases-loop-sessions
-decreases-loop-sessions g l = length l.load
+abbrev pub decreases-loop-round : goal.decreases-loop-round
+decreases-loop-round g l = length l.load

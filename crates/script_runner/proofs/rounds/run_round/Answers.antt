@@ -5,11 +5,12 @@ use Rattle.script_runner.proofs.rounds.run_round.Goals as goal
 pub returns : goal.returns
 returns g c =
     let played = c.in_ok-sessions.ensures in
+    let ended = c.in_ok-end_round.ensures in
     record {
       replies = played.replies;
       mid = c.in_ok-sessions.sessions.items;
       plays = played.plays;
-      met = c.in_ok-meet.ensures.met;
-      notes = answers_noted c.in_ok-sessions.answers played.replies c.args.transcript.now c.note_all.new.self played.answers_are
-          c.in_ok-note_all.ensures;
+      met = ended.met;
+      notes = answers_noted c.in_ok-sessions.answers played.replies c.args.transcript.now c.end_round.new.transcript played.answers_are
+          ended.notes;
     }

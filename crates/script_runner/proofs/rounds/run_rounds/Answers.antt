@@ -1,7 +1,8 @@
 -- Round by round.
-use Rattle.std.proofs.Common.{List, subst, sym, ◌∙◌}
+use Rattle.std.proofs.Common.{◌≡◌, List, subst, sym, ◌∙◌}
 use Rattle.session_script.specs.declared.script.Round.{Round}
-use Rattle.script_runner.proofs.RoundsSoFar.{RoundsSoFar, no_round_yet, next_named, next_may, round_more}
+use Rattle.script_runner.specs.Rounds.{AllowsStalls}
+use Rattle.script_runner.proofs.RoundsSoFar.{RoundsSoFar, no_round_yet, stalls_next, next_named, round_more}
 use Rattle.script_runner.proofs.rounds.run_rounds.Goals as goal
 
 pub loop-round-init : goal.loop-round-init
@@ -9,22 +10,31 @@ loop-round-init g c =
     let opening = g.N.PipeName.opening in
     let ss = c.args.sessions.items in
     let transcript = c.args.transcript.now in
-    subst (λ (l : List Round). RoundsSoFar opening ss c.args.rounds l ss transcript transcript)
-    (sym (c.from-left.ensures.0 ∙ c.into_vec.ensures))
-    (no_round_yet opening ss c.args.rounds transcript c.requires.named c.requires.may)
+    let all : c.args.rounds ≡ c.from-left.result.items = sym (c.from-left.ensures.0 ∙ c.into_vec.ensures) in
+    record {
+      so = subst (λ (l : List Round). RoundsSoFar opening ss c.args.rounds l ss transcript transcript) all
+          (no_round_yet opening ss c.args.rounds transcript c.requires.named);
+      may = subst (AllowsStalls opening) all c.requires.may;
+    }
 
 pub run_round-requires-clause-named : goal.run_round-requires-clause-named
 run_round-requires-clause-named g c κs within =
     next_named g.N.PipeName.opening c.args.sessions.items c.args.rounds c.loop-round.left.items c.pop_front.new.self.items c.in-Some.round
-    c.loop-round.sessions.items c.args.transcript.now c.loop-round.transcript c.loop-round.invariant c.in-Some.ensures.items
+    c.loop-round.sessions.items c.args.transcript.now c.loop-round.transcript c.loop-round.invariant.so c.in-Some.ensures.items
 
 pub run_round-requires-clause-may : goal.run_round-requires-clause-may
 run_round-requires-clause-may g c κs within =
-    next_may g.N.PipeName.opening c.args.sessions.items c.args.rounds c.loop-round.left.items c.pop_front.new.self.items c.in-Some.round
-    c.loop-round.sessions.items c.args.transcript.now c.loop-round.transcript c.loop-round.invariant c.in-Some.ensures.items
+    let next = stalls_next g.N.PipeName.opening c.loop-round.left.items c.pop_front.new.self.items c.in-Some.round c.loop-round.invariant.may
+    c.in-Some.ensures.items in
+    next.0
 
 pub loop-round-preserved : goal.loop-round-preserved
 loop-round-preserved g c =
-    round_more g.N.PipeName.opening c.args.sessions.items c.args.rounds c.loop-round.left.items c.pop_front.new.self.items c.in-Some.round
-    c.loop-round.sessions.items c.args.transcript.now c.loop-round.transcript c.loop-round.invariant c.in-Some.ensures.items
-    c.in_ok-sessions.sessions.items c.run_round.new.transcript c.in_ok-sessions.ensures
+    let next = stalls_next g.N.PipeName.opening c.loop-round.left.items c.pop_front.new.self.items c.in-Some.round c.loop-round.invariant.may
+    c.in-Some.ensures.items in
+    record {
+      so = round_more g.N.PipeName.opening c.args.sessions.items c.args.rounds c.loop-round.left.items c.pop_front.new.self.items c.in-Some.round
+          c.loop-round.sessions.items c.args.transcript.now c.loop-round.transcript c.loop-round.invariant.so c.in-Some.ensures.items
+          c.in_ok-sessions.sessions.items c.run_round.new.transcript c.in_ok-sessions.ensures;
+      may = next.1;
+    }

@@ -1,0 +1,5 @@
+use Rattle.session_rounds.specs.Turns.{AreDealt}
+use Rattle.session_rounds.proofs.playing.share.Given as goal
+
+abbrev pub invariant-loop-session : goal.invariant-loop-session
+invariant-loop-session g l = AreDealt l.yielded l.round.lines l.turns.items
