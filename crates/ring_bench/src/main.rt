@@ -1,5 +1,5 @@
 //! Hands batches from hand to hand between threads, over the commit ring and over an `ArrayQueue` of the same capacity:
-//! with no word 2,000 batches by 4 threads, and it prints what each run came to; with a word after the program's name
+//! with no word 100,000 batches by 4 threads, and it prints what each run came to; with a word after the program's name
 //! many batches by 1, 2 and 4 threads, with the microseconds of both.
 //!
 //! Stands on `commit_queue` for the ring, on `shard_gate` and `memtable_shards` for the shards where batches are applied
@@ -18,8 +18,6 @@ mod locked;
 mod queue_run;
 mod ring_name;
 mod ring_run;
-#[cfg(test)]
-mod tests;
 mod worker;
 
 use batch_repr::NUMBER_FIRST;
@@ -32,7 +30,7 @@ use std::{env, io};
 /// How many threads and batches there are where no times are asked for.
 const FEW_THREADS: u32 = 4;
 
-const FEW: u64 = 2_000;
+const FEW: u64 = 100_000;
 
 /// How many batches there are where times are asked for. One table takes no more than 1,048,576.
 const MANY: u64 = 1_000_000;

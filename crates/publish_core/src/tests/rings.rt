@@ -1,7 +1,5 @@
 //! The ring as it fills and is freed, and the marks in each order.
 
-use super::draws::Draws;
-use super::{Tally, run_helpful};
 use crate::{Core, CoreEvent};
 use std::process::Abort;
 use std::test::Fail;
@@ -202,17 +200,6 @@ fn eight_batches_are_published_in_sequence_however_they_are_marked(
             assert_eq!(rt; core.kept.published, published as u64);
         }
         assert_eq!(rt; published, 8);
-    }
-    Ok(())
-}
-
-#[test]
-fn long_lists_go_round_the_ring(rt: HostRuntime) -> Result<(), Fail> {
-    let mut draws = Draws::new(17);
-    let mut tally = Tally::new();
-    for _ in 0u32..2 {
-        let tail = run_helpful(&rt, rt.alloc(), &mut draws, &mut tally, 40_000)?;
-        assert!(rt; tail > 64, "{tail} batches were taken");
     }
     Ok(())
 }
