@@ -10,6 +10,7 @@
 #![tactic(auto)]
 
 mod answers;
+mod beside;
 mod course;
 mod playing;
 mod theorems;

@@ -5,13 +5,13 @@ ghost use denote.Param.Send.{IsSend, IsSync};
 ghost use Rattle.session_rounds.specs.Turns.{PlayAll};
 ghost use Rattle.session_rounds.specs.Threads.{at_work, SomeIsAtWork, IsMiddle, MayLeave, EachIsLeft};
 
+use crate::beside::join_mut;
 use crate::turns::Turn;
 use commit_pipeline::{Gate, PipeName, Pipeline};
 use disk_face::Disk;
 use std::alloc::Global;
 use std::sync::Wait;
 use std::sync::ledger::Ledger;
-use std::thread;
 use std::thread::Threads;
 
 /// So many threads at most play a round in which no session asks for a sync. Its sessions wait for no disk, so more of
@@ -65,7 +65,7 @@ pub(crate) fn play_all<
 /// Calls `play` with each of the turns. They are halved as long as both halves have work to do and may have a thread each,
 /// so that there is at most one thread for each turn that has some, and none for those without.
 #[cycle(halves)]
-fn share_out<R: Threads + Sync, T: Work + Send, F: Fn(&mut T) + Sync>(
+fn share_out<R: Threads + Wait + Sync, T: Work + Send, F: Fn(&mut T) + Sync>(
     rt: &R,
     play: &F,
     turns: &mut [T],
@@ -85,7 +85,7 @@ fn share_out<R: Threads + Sync, T: Work + Send, F: Fn(&mut T) + Sync>(
 
 /// Shares out two parts of the turns on two threads: each of them has work to do.
 #[cycle(halves)]
-fn play_beside<R: Threads + Sync, T: Work + Send, F: Fn(&mut T) + Sync>(
+fn play_beside<R: Threads + Wait + Sync, T: Work + Send, F: Fn(&mut T) + Sync>(
     rt: &R,
     play: &F,
     front: &mut [T],
@@ -106,7 +106,7 @@ fn play_beside<R: Threads + Sync, T: Work + Send, F: Fn(&mut T) + Sync>(
         requires { IsSync R.row × IsSync F.row × IsSend T.row × F.IsAlwaysCallable play.now }
         ensures { EachIsLeft (MayLeave F.Fn play.entry.now) back.entry.now back.exit.now }
     { share_out(rt, play, back, lanes.div_ceil(2)) };
-    thread::join_mut(rt, &mut first, &mut second);
+    join_mut(rt, &mut first, &mut second);
 }
 
 /// Calls `play` with turns one after another.
