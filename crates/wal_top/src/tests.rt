@@ -2,6 +2,7 @@ ghost use Rattle.std.specs.Prelude.{◌≤◌, length};
 
 mod commands;
 mod deaths;
+mod faults;
 mod gates;
 mod halts;
 mod orders;
@@ -128,39 +129,63 @@ fn ran_over<S: Source, K: Sink, R: Threads + Wait + Sync>(
     Ok((status, disk))
 }
 
-/// The status of a run over these streams and a new disk.
-fn status_of<S: Source, K: Sink, R: Threads + Wait + Sync>(
-    rt: &R,
-    alloc: Global,
-    words: &[&str],
-    source: &mut S,
-    sink: &mut K,
-) -> Status {
-    let Ok(rig) = Rig::new(alloc) else {
-        return Status::NoMemory;
-    };
-    match ran_over(rt, alloc, words, source, sink, rig) {
-        Ok((status, _)) => status,
-        Err(_) => Status::NoMemory,
+/// The words and the streams of a run.
+#[derive(Drop)]
+struct Given {
+    words: Vec<String>,
+    source: MemSource,
+    sink: MemSink,
+}
+
+impl Given {
+    fn new(alloc: Global, words: &[&str], script: &[u8]) -> Result<Given, NoMemory> {
+        let words = words_of(alloc, words)?;
+        let source = MemSource::new(Blob::copy_of(alloc, script)?);
+        let sink = MemSink::new(alloc)?;
+        Ok(Given {
+            words,
+            source,
+            sink,
+        })
     }
 }
 
-/// Asserts what a replay of a script writes, and its status.
-fn check<R: Threads + Wait + Sync + Abort>(
+/// What a run came to.
+#[derive(Drop)]
+struct Told {
+    status: Status,
+    sink: MemSink,
+    disk: MemDisk,
+}
+
+/// What a run over a disk comes to.
+fn tell<R: Threads + Wait + Sync>(rt: &R, alloc: Global, given: Given, disk: MemDisk) -> Told {
+    let Given {
+        words,
+        mut source,
+        mut sink,
+    } = given;
+    let Ran { status, disk } = run(rt, alloc, &words, &mut source, &mut sink, disk, &NoGate);
+    Told { status, sink, disk }
+}
+
+/// What a command comes to over a disk.
+fn told_of<R: Threads + Wait + Sync>(
     rt: &R,
     alloc: Global,
+    rig: Rig,
+    words: &[&str],
     script: &[u8],
-    status: Status,
-    text: &[u8],
-) -> Result<(), Fail> {
-    let mut source = MemSource::new(Blob::copy_of(alloc, script)?);
-    let mut sink = MemSink::new(alloc)?;
-    assert_eq!(rt;
-        status_of(rt, alloc, &["replay"], &mut source, &mut sink),
-        status
-    );
-    assert_eq!(rt; sink.written(), text);
-    Ok(())
+) -> Result<Told, NoMemory> {
+    let given = Given::new(alloc, words, script)?;
+    Ok(tell(rt, alloc, given, rig.disk))
+}
+
+/// Asserts what a run wrote, and its status. Answers the disk.
+fn check_told(rt: &impl Abort, told: Told, status: Status, text: &str) -> MemDisk {
+    assert!(rt; told.sink.written() == text.as_bytes());
+    assert_eq!(rt; told.status, status);
+    told.disk
 }
 
 /// Asserts what a command writes over a disk, and its status. Answers the disk.
@@ -173,12 +198,8 @@ fn check_command<R: Threads + Wait + Sync + Abort>(
     status: Status,
     text: &str,
 ) -> Result<MemDisk, Fail> {
-    let mut source = MemSource::new(Blob::copy_of(alloc, script)?);
-    let mut sink = MemSink::new(alloc)?;
-    let (ended, disk) = ran_over(rt, alloc, words, &mut source, &mut sink, rig)?;
-    assert!(rt; sink.written() == text.as_bytes());
-    assert_eq!(rt; ended, status);
-    Ok(disk)
+    let told = told_of(rt, alloc, rig, words, script)?;
+    Ok(check_told(rt, told, status, text))
 }
 
 /// Asserts what a replay over a new disk writes, and its status. Answers the disk.

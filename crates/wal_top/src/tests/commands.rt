@@ -1,9 +1,8 @@
 //! Commands and their words.
 
-use super::{Rig, check_command, check_crash, segment_at, status_of};
+use super::{Rig, check_command, check_crash, segment_at, told_of};
 use crate::Status;
 use std::test::Fail;
-use wal_base::{Blob, MemSink, MemSource};
 
 const COMMANDS: &[&[&str]] = &[
     &["replay"],
@@ -103,12 +102,8 @@ fn each_list_of_words_is_a_command_or_none(rt: HostRuntime) -> Result<(), Fail> 
     let alloc = rt.alloc();
     for (lists, status) in [(COMMANDS, Status::Done), (OTHERS, Status::Usage)] {
         for words in lists {
-            let mut source = MemSource::new(Blob::copy_of(alloc, b"")?);
-            let mut sink = MemSink::new(alloc)?;
-            assert_eq!(rt;
-                status_of(&rt, alloc, words, &mut source, &mut sink),
-                status
-            );
+            let told = told_of(&rt, alloc, Rig::new(alloc)?, words, b"")?;
+            assert_eq!(rt; told.status, status);
         }
     }
     Ok(())

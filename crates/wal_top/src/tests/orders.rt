@@ -1,13 +1,12 @@
 //! Sessions of one round, which act in any order.
 
-use super::status_of;
+use super::{Rig, told_of};
 use crate::Status;
 use std::alloc::Global;
 use std::process::Abort;
 use std::sync::Wait;
 use std::test::Fail;
 use std::thread::Threads;
-use wal_base::{Blob, MemSink, MemSource};
 
 /// Asserts that a replay over a new disk is done, and that what it writes is one of these texts.
 fn check_orders<R: Threads + Wait + Sync + Abort>(
@@ -16,11 +15,9 @@ fn check_orders<R: Threads + Wait + Sync + Abort>(
     script: &str,
     texts: &[&str],
 ) -> Result<(), Fail> {
-    let mut source = MemSource::new(Blob::copy_of(alloc, script.as_bytes())?);
-    let mut sink = MemSink::new(alloc)?;
-    let status = status_of(rt, alloc, &["replay"], &mut source, &mut sink);
-    assert_eq!(rt; status, Status::Done);
-    let written = sink.written();
+    let told = told_of(rt, alloc, Rig::new(alloc)?, &["replay"], script.as_bytes())?;
+    assert_eq!(rt; told.status, Status::Done);
+    let written = told.sink.written();
     assert!(rt; texts.iter().any(|text| text.as_bytes() == written));
     Ok(())
 }

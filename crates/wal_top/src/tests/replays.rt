@@ -1,14 +1,16 @@
 use super::{
-    FIRST_LOG, Rig, check, check_command, check_log, log_at, ran_over, segment_at, words_of,
+    FIRST_LOG, Given, Rig, Told, check_command, check_crash, check_log, check_replay, check_told,
+    log_at, segment_at, told_of,
 };
 use crate::{NoGate, Ran, Status, run};
 use disk_face::{CallLog, Disk, DiskErr, DiskOp, Names, OpId, Progress, SegName, Side};
+use mem_disk::MemDisk;
 use std::alloc::{AllocError, Global};
 use std::process::Abort;
 use std::sync::Wait;
 use std::test::Fail;
 use std::thread::Threads;
-use wal_base::{Blob, MemSink, MemSource, NoMemory};
+use wal_base::NoMemory;
 
 #[test]
 fn a_script_gives_its_text(rt: HostRuntime) -> Result<(), Fail> {
@@ -37,7 +39,7 @@ fn a_script_gives_its_text(rt: HostRuntime) -> Result<(), Fail> {
             "script line 3\n",
         ),
     ] {
-        check(&rt, rt.alloc(), script.as_bytes(), status, text.as_bytes())?;
+        check_replay(&rt, rt.alloc(), script, status, text)?;
     }
     Ok(())
 }
@@ -55,28 +57,36 @@ fn a_run_leaves_its_log(rt: HostRuntime) -> Result<(), Fail> {
     check_log(&rt, alloc, rig, b"", Status::Done, end, None)
 }
 
-#[test]
-fn a_failing_segment_is_followed_by_the_next(rt: HostRuntime) -> Result<(), Fail> {
+/// Asserts that a run goes on with the next segment where the operation of that number fails, and what the first segment
+/// then has.
+fn check_next<R: Threads + Wait + Sync + Abort>(
+    rt: &R,
+    alloc: Global,
+    number: u64,
+    first: Option<&[u8]>,
+) -> Result<(), Fail> {
     let script = b"commit 0 nosync set a 1\n";
     let text = "s0 commit 10 1\nend visible 11 batches 1 acked 1 segments 2 closed\n";
-    let alloc = rt.alloc();
-    // Which operation fails: the creation, the write or the sync.
-    for (number, first) in [(0, None), (1, Some(b"".as_slice())), (2, Some(FIRST_LOG))] {
-        let mut rig = Rig::new(alloc)?;
-        rig.fail_op(&rt, number);
-        let disk = check_command(&rt, alloc, rig, &["replay"], script, Status::Done, text)?;
-        assert!(rt; segment_at(&disk, 0) == first);
-        assert!(rt; segment_at(&disk, 1) == Some(FIRST_LOG));
-        let rig = Rig::after_crash(&rt, alloc, disk);
-        let store = "a = 1\nend batches 1 next 11\n";
-        check_command(&rt, alloc, rig, &["recover"], b"", Status::Done, store)?;
-    }
-    Ok(())
+    let mut rig = Rig::new(alloc)?;
+    rig.fail_op(rt, number);
+    let disk = check_command(rt, alloc, rig, &["replay"], script, Status::Done, text)?;
+    assert!(rt; segment_at(&disk, 0) == first);
+    assert!(rt; segment_at(&disk, 1) == Some(FIRST_LOG));
+    check_crash(rt, alloc, disk, "a = 1\nend batches 1 next 11\n")
 }
 
 #[test]
-fn ten_failing_segments_end_the_journal(rt: HostRuntime) -> Result<(), Fail> {
-    let script = b"commit 0 nosync set a 1\ncommit 0 nosync set a 2\nget 0 a\n";
+fn a_failing_segment_is_followed_by_the_next(rt: HostRuntime) -> Result<(), Fail> {
+    // The creation, the write and the sync.
+    check_next(&rt, rt.alloc(), 0, None)?;
+    check_next(&rt, rt.alloc(), 1, Some(b""))?;
+    check_next(&rt, rt.alloc(), 2, Some(FIRST_LOG))
+}
+
+const TWO_BATCHES: &[u8] = b"commit 0 nosync set a 1\ncommit 0 nosync set a 2\nget 0 a\n";
+
+#[test]
+fn ten_failing_syncs_end_the_journal(rt: HostRuntime) -> Result<(), Fail> {
     let alloc = rt.alloc();
     // The second write fails, and then the sync of each segment, so the journal dies as it is closed.
     let mut rig = Rig::new(alloc)?;
@@ -85,62 +95,80 @@ fn ten_failing_segments_end_the_journal(rt: HostRuntime) -> Result<(), Fail> {
     }
     let text =
         "s0 commit 10 1\ns0 commit 11 1\ns0 get a = 2 @12\nend visible 12 batches 2 acked 0 segments 10 dead\n";
-    let disk = check_command(&rt, alloc, rig, &["replay"], script, Status::Disk, text)?;
-    let rig = Rig::after_crash(&rt, alloc, disk);
-    let store = "end batches 0 next 10\n";
-    check_command(&rt, alloc, rig, &["recover"], b"", Status::Done, store)?;
-    // Each creation fails, so the journal dies within the first commit.
+    let words = &["replay"];
+    let disk = check_command(&rt, alloc, rig, words, TWO_BATCHES, Status::Disk, text)?;
+    check_crash(&rt, alloc, disk, "end batches 0 next 10\n")
+}
+
+#[test]
+fn ten_failing_creations_end_the_journal(rt: HostRuntime) -> Result<(), Fail> {
+    let alloc = rt.alloc();
+    // The journal dies within the first commit.
     let mut rig = Rig::new(alloc)?;
     for number in 0..10 {
         rig.fail_op(&rt, number);
     }
     let text =
         "s0 commit 10 1\ns0 commit dead\ns0 get a = 1 @11\nend visible 11 batches 1 acked 0 segments 10 dead\n";
-    let disk = check_command(&rt, alloc, rig, &["replay"], script, Status::Disk, text)?;
+    let words = &["replay"];
+    let disk = check_command(&rt, alloc, rig, words, TWO_BATCHES, Status::Disk, text)?;
     assert!(rt; segment_at(&disk, 0).is_none());
+    Ok(())
+}
+
+/// Asserts what a run writes where the creation of segment 0 is pending so often, and what the two segments then have.
+fn check_hanging<R: Threads + Wait + Sync + Abort>(
+    rt: &R,
+    alloc: Global,
+    polls: u32,
+    text: &str,
+    first: &[u8],
+    second: Option<&[u8]>,
+) -> Result<(), Fail> {
+    let mut rig = Rig::new(alloc)?;
+    rig.stall(Side::Primary, polls);
+    let script = b"commit 0 nosync set a 1\n";
+    let disk = check_command(rt, alloc, rig, &["replay"], script, Status::Done, text)?;
+    assert!(rt; segment_at(&disk, 0) == Some(first));
+    assert!(rt; segment_at(&disk, 1) == second);
     Ok(())
 }
 
 #[test]
 fn an_operation_hangs_from_the_third_pending_poll_on(rt: HostRuntime) -> Result<(), Fail> {
-    let script = b"commit 0 nosync set a 1\n";
-    let alloc = rt.alloc();
-    // The creation of segment 0 is pending so often.
     let one = "s0 commit 10 1\nend visible 11 batches 1 acked 1 segments 1 closed\n";
+    check_hanging(&rt, rt.alloc(), 2, one, FIRST_LOG, None)?;
     let two = "s0 commit 10 1\nend visible 11 batches 1 acked 1 segments 2 closed\n";
-    for (polls, text, first, second) in [
-        (2, one, FIRST_LOG, None),
-        (3, two, b"".as_slice(), Some(FIRST_LOG)),
-    ] {
-        let mut rig = Rig::new(alloc)?;
-        rig.stall(Side::Primary, polls);
-        let disk = check_command(&rt, alloc, rig, &["replay"], script, Status::Done, text)?;
-        assert!(rt; segment_at(&disk, 0) == Some(first));
-        assert!(rt; segment_at(&disk, 1) == second);
-    }
-    Ok(())
+    check_hanging(&rt, rt.alloc(), 3, two, b"", Some(FIRST_LOG))
+}
+
+/// Asserts that a run has three segments where the creation of segment 0 hangs, an operation of that number fails, and
+/// so many polls of the other side are pending, and what segment 1 then has.
+fn check_three<R: Threads + Wait + Sync + Abort>(
+    rt: &R,
+    alloc: Global,
+    fails: u64,
+    hangs: u32,
+    second: Option<&[u8]>,
+) -> Result<(), Fail> {
+    let script = b"commit 0 nosync set a 1\n";
+    let text = "s0 commit 10 1\nend visible 11 batches 1 acked 1 segments 3 closed\n";
+    let mut rig = Rig::new(alloc)?;
+    rig.stall(Side::Primary, 3);
+    rig.stall(Side::Secondary, hangs);
+    rig.fail_op(rt, fails);
+    let disk = check_command(rt, alloc, rig, &["replay"], script, Status::Done, text)?;
+    assert!(rt; segment_at(&disk, 0) == Some(b"".as_slice()));
+    assert!(rt; segment_at(&disk, 1) == second);
+    assert!(rt; segment_at(&disk, 2) == Some(FIRST_LOG));
+    check_crash(rt, alloc, disk, "a = 1\nend batches 1 next 11\n")
 }
 
 #[test]
 fn a_living_run_has_three_segments(rt: HostRuntime) -> Result<(), Fail> {
-    let script = b"commit 0 nosync set a 1\n";
-    let text = "s0 commit 10 1\nend visible 11 batches 1 acked 1 segments 3 closed\n";
-    let alloc = rt.alloc();
-    // The creation of segment 0 hangs, and that of segment 1 fails, or hangs too and ends once segment 2 is begun.
-    for (fails, hangs, second) in [(1, 0, None), (1_000, 3, Some(b"".as_slice()))] {
-        let mut rig = Rig::new(alloc)?;
-        rig.stall(Side::Primary, 3);
-        rig.stall(Side::Secondary, hangs);
-        rig.fail_op(&rt, fails);
-        let disk = check_command(&rt, alloc, rig, &["replay"], script, Status::Done, text)?;
-        assert!(rt; segment_at(&disk, 0) == Some(b"".as_slice()));
-        assert!(rt; segment_at(&disk, 1) == second);
-        assert!(rt; segment_at(&disk, 2) == Some(FIRST_LOG));
-        let rig = Rig::after_crash(&rt, alloc, disk);
-        let store = "a = 1\nend batches 1 next 11\n";
-        check_command(&rt, alloc, rig, &["recover"], b"", Status::Done, store)?;
-    }
-    Ok(())
+    // The creation of segment 1 fails, or hangs too and ends once segment 2 is begun.
+    check_three(&rt, rt.alloc(), 1, 0, None)?;
+    check_three(&rt, rt.alloc(), 1_000, 3, Some(b""))
 }
 
 /// A disk that answers so many polls of one operation on the primary side pending.
@@ -199,6 +227,41 @@ impl<D: Disk> Disk for Late<D> {
     ghost sound = { λ d p f told is. D.sound d.inner p f told is };
 }
 
+/// A disk on which the sync of segment 0 hangs and the nine creations after it fail. In the step that finds the last of
+/// them failed, the sync is done at its twelfth poll.
+fn late_disk(rt: &impl Abort, alloc: Global) -> Result<Late<MemDisk>, NoMemory> {
+    let mut rig = Rig::new(alloc)?;
+    for number in 3..12 {
+        rig.fail_op(rt, number);
+    }
+    Ok(Late {
+        inner: rig.disk,
+        op: 2,
+        polls: 11,
+        log: CallLog::new(),
+    })
+}
+
+/// What a run over such a disk comes to.
+fn tell_late<R: Threads + Wait + Sync>(
+    rt: &R,
+    alloc: Global,
+    given: Given,
+    late: Late<MemDisk>,
+) -> Told {
+    let Given {
+        words,
+        mut source,
+        mut sink,
+    } = given;
+    let Ran { status, disk } = run(rt, alloc, &words, &mut source, &mut sink, late, &NoGate);
+    Told {
+        status,
+        sink,
+        disk: disk.inner,
+    }
+}
+
 /// Asserts what a replay of a script of one commit writes where a late sync covers it as the journal dies.
 fn check_late<R: Threads + Wait + Sync + Abort>(
     rt: &R,
@@ -206,28 +269,10 @@ fn check_late<R: Threads + Wait + Sync + Abort>(
     script: &[u8],
     text: &str,
 ) -> Result<(), Fail> {
-    let mut rig = Rig::new(alloc)?;
-    // The sync of segment 0 hangs. The nine creations after it fail, and in the step that finds the last of them failed
-    // the sync is done at its twelfth poll.
-    for number in 3..12 {
-        rig.fail_op(rt, number);
-    }
-    let late = Late {
-        inner: rig.disk,
-        op: 2,
-        polls: 11,
-        log: CallLog::new(),
-    };
-    let words = words_of(alloc, &["replay"])?;
-    let mut source = MemSource::new(Blob::copy_of(alloc, script)?);
-    let mut sink = MemSink::new(alloc)?;
-    let Ran { status, disk } = run(rt, alloc, &words, &mut source, &mut sink, late, &NoGate);
-    assert!(rt; sink.written() == text.as_bytes());
-    assert_eq!(rt; status, Status::Disk);
-    let rig = Rig::after_crash(rt, alloc, disk.inner);
-    let store = "a = 1\nend batches 1 next 11\n";
-    check_command(rt, alloc, rig, &["recover"], b"", Status::Done, store)?;
-    Ok(())
+    let given = Given::new(alloc, &["replay"], script)?;
+    let told = tell_late(rt, alloc, given, late_disk(rt, alloc)?);
+    let disk = check_told(rt, told, Status::Disk, text);
+    check_crash(rt, alloc, disk, "a = 1\nend batches 1 next 11\n")
 }
 
 #[test]
@@ -246,31 +291,23 @@ fn a_commit_is_synced_by_a_late_sync_though_the_journal_dies(rt: HostRuntime) ->
 
 #[test]
 fn a_replay_goes_on_where_one_stopped(rt: HostRuntime) -> Result<(), Fail> {
-    let alloc = rt.alloc();
-    let mut rig = Rig::new(alloc)?;
-    for (script, text) in [
-        (
-            b"commit 0 nosync set a 1\n".as_slice(),
-            "s0 commit 10 1\nend visible 11 batches 1 acked 1 segments 1 closed\n",
-        ),
-        (
-            b"get 0 a\ncommit 0 nosync set b 2\nget 0 b\n".as_slice(),
-            "s0 get a = 1 @11\ns0 commit 11 1\ns0 get b = 2 @12\nend visible 12 batches 1 acked 1 segments 1 closed\n",
-        ),
-        (
-            b"get 0 b\n".as_slice(),
-            "s0 get b = 2 @12\nend visible 12 batches 0 acked 0 segments 0 closed\n",
-        ),
-    ] {
-        let disk = check_command(&rt, alloc, rig, &["replay"], script, Status::Done, text)?;
-        rig = Rig::after_crash(&rt, alloc, disk);
-    }
-    assert!(rt; log_at(&rig.disk, 1) == Some(FIRST_LOG));
-    assert_eq!(rt; log_at(&rig.disk, 2).map(|log| log.len()), Some(28));
-    assert!(rt; log_at(&rig.disk, 3).is_none());
-    let store = "a = 1\nb = 2\nend batches 2 next 12\n";
-    check_command(&rt, alloc, rig, &["recover"], b"", Status::Done, store)?;
-    Ok(())
+    let (alloc, words) = (rt.alloc(), &["replay"]);
+    let script = "commit 0 nosync set a 1\n";
+    let text = "s0 commit 10 1\nend visible 11 batches 1 acked 1 segments 1 closed\n";
+    let disk = check_replay(&rt, alloc, script, Status::Done, text)?;
+    let rig = Rig::after_crash(&rt, alloc, disk);
+    let script = b"get 0 a\ncommit 0 nosync set b 2\nget 0 b\n";
+    let text =
+        "s0 get a = 1 @11\ns0 commit 11 1\ns0 get b = 2 @12\nend visible 12 batches 1 acked 1 segments 1 closed\n";
+    let disk = check_command(&rt, alloc, rig, words, script, Status::Done, text)?;
+    let rig = Rig::after_crash(&rt, alloc, disk);
+    let script = b"get 0 b\n";
+    let text = "s0 get b = 2 @12\nend visible 12 batches 0 acked 0 segments 0 closed\n";
+    let disk = check_command(&rt, alloc, rig, words, script, Status::Done, text)?;
+    assert!(rt; log_at(&disk, 1) == Some(FIRST_LOG));
+    assert_eq!(rt; log_at(&disk, 2).map(|log| log.len()), Some(28));
+    assert!(rt; log_at(&disk, 3).is_none());
+    check_crash(&rt, alloc, disk, "a = 1\nb = 2\nend batches 2 next 12\n")
 }
 
 /// A script of batches whose values have so many bytes.
@@ -291,40 +328,57 @@ fn bytes_at(log: &[u8], places: &[usize; 3]) -> [Option<u8>; 3] {
     places.map(|place| log.get(place).copied())
 }
 
+/// Asserts how long the log of such batches is, and which bytes stand at some places.
+fn check_blocks<R: Threads + Wait + Sync + Abort>(
+    rt: &R,
+    alloc: Global,
+    lens: &[usize],
+    places: &[usize; 3],
+    types: [Option<u8>; 3],
+    len: usize,
+) -> Result<(), Fail> {
+    let disk = logged(rt, alloc, lens)?;
+    let log = log_at(&disk, 1).unwrap_or(&[]);
+    assert_eq!(rt; log.len(), len);
+    assert!(rt; bytes_at(log, places) == types);
+    Ok(())
+}
+
+/// The disk after a replay of such a script.
+fn logged<R: Threads + Wait + Sync + Abort>(
+    rt: &R,
+    alloc: Global,
+    lens: &[usize],
+) -> Result<MemDisk, Fail> {
+    let script = script_of(alloc, lens)?;
+    let told = told_of(rt, alloc, Rig::new(alloc)?, &["replay"], &script)?;
+    assert_eq!(rt; told.status, Status::Done);
+    Ok(told.disk)
+}
+
+// Before its value a record has 18 bytes, or 16 where the value is short. So the first script has one record of
+// 70,000 bytes, and the others one of 32,746 or 32,757 bytes and one of 17. A chunk's type is its byte 6.
 #[test]
 fn a_log_goes_on_in_the_next_block(rt: HostRuntime) -> Result<(), Fail> {
-    // Before its value a record has 18 bytes, or 16 where the value is short. So the first script has one record of
-    // 70,000 bytes, and the others one of 32,746 or 32,757 bytes and one of 17. A chunk's type is its byte 6.
-    let rows: [(&[usize], [usize; 3], [Option<u8>; 3], usize); 3] = [
-        (
-            &[69_982],
-            [6, 32_774, 65_542],
-            [Some(6), Some(7), Some(8)],
-            70_033,
-        ),
-        (
-            &[32_728, 1],
-            [6, 32_763, 32_774],
-            [Some(5), Some(6), Some(8)],
-            32_796,
-        ),
-        (
-            &[32_739, 1],
-            [6, 32_774, 32_796],
-            [Some(5), Some(5), None],
-            32_796,
-        ),
-    ];
-    for (lens, places, types, len) in rows {
-        let script = script_of(rt.alloc(), lens)?;
-        let mut source = MemSource::new(Blob::copy_of(rt.alloc(), &script)?);
-        let mut sink = MemSink::new(rt.alloc())?;
-        let rig = Rig::new(rt.alloc())?;
-        let (status, disk) = ran_over(&rt, rt.alloc(), &["replay"], &mut source, &mut sink, rig)?;
-        assert_eq!(rt; status, Status::Done);
-        let log = log_at(&disk, 1).unwrap_or(&[]);
-        assert_eq!(rt; log.len(), len);
-        assert!(rt; bytes_at(log, &places) == types);
-    }
-    Ok(())
+    let alloc = rt.alloc();
+    let types = [Some(6), Some(7), Some(8)];
+    check_blocks(&rt, alloc, &[69_982], &[6, 32_774, 65_542], types, 70_033)?;
+    let types = [Some(5), Some(6), Some(8)];
+    check_blocks(
+        &rt,
+        alloc,
+        &[32_728, 1],
+        &[6, 32_763, 32_774],
+        types,
+        32_796,
+    )?;
+    let types = [Some(5), Some(5), None];
+    check_blocks(
+        &rt,
+        alloc,
+        &[32_739, 1],
+        &[6, 32_774, 32_796],
+        types,
+        32_796,
+    )
 }

@@ -1,9 +1,12 @@
-use super::{Rig, check, check_command, check_log, status_of};
+use super::{Rig, check_command, check_log, ran_over, told_of};
 use crate::{Gate, GatePoint, NoGate, Status};
 use disk_face::{SegName, Side};
 use std::alloc::{AllocError, Global};
+use std::process::Abort;
+use std::sync::Wait;
 use std::test::Fail;
-use wal_base::{Blob, MemSink, MemSource, PutErr, ReadFault, Sink, Source};
+use std::thread::Threads;
+use wal_base::{Blob, MemSink, MemSource, NoMemory, PutErr, ReadFault, Sink, Source};
 
 const USAGE: &[u8] = b"usage: replay [--threshold N] | recover | dump | load SEED COUNT\n";
 
@@ -23,14 +26,15 @@ fn a_script_ends_at_its_greatest_length(rt: HostRuntime) -> Result<(), Fail> {
         (8_388_609, Status::Script, "script too long\n"),
     ] {
         let script = comment_of(rt.alloc(), len)?;
-        check(&rt, rt.alloc(), &script, status, text.as_bytes())?;
+        let rig = Rig::new(rt.alloc())?;
+        check_command(&rt, rt.alloc(), rig, &["replay"], &script, status, text)?;
     }
     Ok(())
 }
 
 #[test]
 fn other_words_are_no_command(rt: HostRuntime) -> Result<(), Fail> {
-    let mut sink = MemSink::new(rt.alloc())?;
+    let alloc = rt.alloc();
     for words in [
         &["replay", "--threshold", "0"][..],
         &["replay", "replay"][..],
@@ -39,13 +43,9 @@ fn other_words_are_no_command(rt: HostRuntime) -> Result<(), Fail> {
         &["--help"][..],
         &[][..],
     ] {
-        let mut source = MemSource::new(Blob::copy_of(rt.alloc(), b"get 0 a")?);
-        let start = sink.written().len();
-        assert_eq!(rt;
-            status_of(&rt, rt.alloc(), words, &mut source, &mut sink),
-            Status::Usage
-        );
-        assert!(rt; sink.written().get(start..) == Some(USAGE));
+        let told = told_of(&rt, alloc, Rig::new(alloc)?, words, b"get 0 a")?;
+        assert_eq!(rt; told.status, Status::Usage);
+        assert!(rt; told.sink.written() == USAGE);
     }
     Ok(())
 }
@@ -78,29 +78,51 @@ impl<K: Sink> Sink for Drip<K> {
     }
 }
 
+/// A source of this text, whose call of that number fails.
+fn failing_source(alloc: Global, text: &[u8], take: u64) -> Result<Drip<MemSource>, NoMemory> {
+    let mut source = Drip(MemSource::new(Blob::copy_of(alloc, text)?));
+    source.0.fail_at(take);
+    Ok(source)
+}
+
+/// A sink whose call of that number fails.
+fn failing_sink(alloc: Global, put: u64) -> Result<Drip<MemSink>, NoMemory> {
+    let mut sink = Drip(MemSink::new(alloc)?);
+    sink.0.fail_at(put);
+    Ok(sink)
+}
+
+/// Asserts how a run ends where these calls of the source and of the sink fail, and what is written then.
+fn check_streams<R: Threads + Wait + Sync + Abort>(
+    rt: &R,
+    alloc: Global,
+    take: u64,
+    put: u64,
+    status: Status,
+    written: &[u8],
+) -> Result<(), Fail> {
+    let script = b"commit 0 nosync set a 1\nget 0 a\n";
+    let mut source = failing_source(alloc, script, take)?;
+    let mut sink = failing_sink(alloc, put)?;
+    let rig = Rig::new(alloc)?;
+    let (ended, _) = ran_over(rt, alloc, &["replay"], &mut source, &mut sink, rig)?;
+    assert_eq!(rt; ended, status, "at {take} and {put}");
+    assert_eq!(rt; sink.0.written(), written, "at {take} and {put}");
+    Ok(())
+}
+
 #[test]
 fn a_failing_stream_ends_the_run(rt: HostRuntime) -> Result<(), Fail> {
-    let script = b"commit 0 nosync set a 1\nget 0 a\n";
+    let alloc = rt.alloc();
     let whole =
         b"s0 commit 10 1\ns0 get a = 1 @11\nend visible 11 batches 1 acked 1 segments 1 closed\n";
-    // Which call of the source and of the sink fails, and what comes then.
-    for (take, put, status, written) in [
-        (0, 1_000, Status::Read, b"read fault\n".as_slice()),
-        (10, 1_000, Status::Read, b"read fault\n".as_slice()),
-        (1_000, 0, Status::Write, b"".as_slice()),
-        (1_000, 5, Status::Write, &whole[..15]),
-        (0, 1, Status::Write, b"rea".as_slice()),
-        (1_000, 1_000, Status::Done, whole.as_slice()),
-    ] {
-        let mut source = Drip(MemSource::new(Blob::copy_of(rt.alloc(), script)?));
-        source.0.fail_at(take);
-        let mut sink = Drip(MemSink::new(rt.alloc())?);
-        sink.0.fail_at(put);
-        let ended = status_of(&rt, rt.alloc(), &["replay"], &mut source, &mut sink);
-        assert_eq!(rt; ended, status, "at {take} and {put}");
-        assert_eq!(rt; sink.0.written(), written, "at {take} and {put}");
-    }
-    Ok(())
+    let fault = b"read fault\n";
+    check_streams(&rt, alloc, 0, 1_000, Status::Read, fault)?;
+    check_streams(&rt, alloc, 10, 1_000, Status::Read, fault)?;
+    check_streams(&rt, alloc, 1_000, 0, Status::Write, b"")?;
+    check_streams(&rt, alloc, 1_000, 5, Status::Write, &whole[..15])?;
+    check_streams(&rt, alloc, 0, 1, Status::Write, &fault[..3])?;
+    check_streams(&rt, alloc, 1_000, 1_000, Status::Done, whole)
 }
 
 #[test]
