@@ -51,7 +51,7 @@ pub enum BatchFault {
 }
 
 /// Why no number was read.
-#[derive(Clone, Copy, Debug, PartialEq, Eq)]
+#[derive(Clone, Copy)]
 pub(crate) enum VarintFault {
     /// The bytes end within it.
     Ended,

@@ -9,7 +9,7 @@ use crate::numbers::{number_in, small_number_in};
 use stall_monitor::THRESHOLD_MAX;
 
 /// What is asked for.
-#[derive(Clone, Copy, Debug)]
+#[derive(Clone, Copy)]
 pub(crate) enum Asked<'a> {
     Replay { threshold: Option<&'a str> },
     Recover,

@@ -9,7 +9,7 @@ use std::alloc::Global;
 use wal_base::{Buf, NoMemory};
 
 /// The replies of a run so far.
-#[derive(Debug, Drop)]
+#[derive(Drop)]
 pub(crate) struct Transcript {
     /// Their lines, one after another, where they are kept.
     pub(crate) text: Option<Buf>,

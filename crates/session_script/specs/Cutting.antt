@@ -1,4 +1,4 @@
--- The pieces that are left of a text as it is cut (docs/FORMATS.md, "The whole script").
+-- The pieces that are left of a text as it is cut (docs/formats/program.md, "The whole script").
 use Rattle.std.specs.Prelude.{ℕ, ◌==◌, ◌||◌, Bool, true, false, List, []}
 use Rattle.std.specs.List.{slice_split}
 use Rattle.session_script.specs.declared.pieces.Cut.{Cut}

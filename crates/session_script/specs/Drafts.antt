@@ -1,4 +1,4 @@
--- A script as far as it is read (docs/FORMATS.md, "The whole script").
+-- A script as far as it is read (docs/formats/program.md, "The whole script").
 use Rattle.std.specs.Prelude.{◌≡◌, ◌⊎◌, ℕ, ◌+◌, max, true, false, List, [], ◌∷◌, ◌++◌, Option, Some, None}
 use Rattle.session_script.specs.declared.script.Round.{Round}
 use Rattle.session_script.specs.declared.script.Script.{Script}

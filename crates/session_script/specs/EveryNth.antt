@@ -1,4 +1,4 @@
--- Every so many-th batch of a load, and what is made of them.
+-- Every so many-th batch of a load, and what is made of them (docs/formats/program.md, "The generated load").
 use Rattle.std.specs.Prelude.{ℕ, ◌+◌, ◌*◌, List, map}
 use Rattle.std.specs.List.{flat_map, range_with_len}
 use Rattle.wal_base.specs.declared.entry.Entry.{Entry}

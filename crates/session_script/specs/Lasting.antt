@@ -1,4 +1,4 @@
--- A journal that died stays dead, as far as replies tell it (docs/FORMATS.md, "Which replies are legal").
+-- A journal that died stays dead, as far as replies tell it (docs/formats/program.md, "Which replies are legal").
 use Rattle.std.specs.Prelude.{ℕ, Bool, true, false, ◌||◌, List, [], ◌∷◌, IsTrue, IsFalse}
 use Rattle.std.specs.List.{list_any}
 use Rattle.session_script.specs.declared.replies.Said.{Said}

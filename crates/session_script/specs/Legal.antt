@@ -1,4 +1,4 @@
--- Which replies to a script are legal (docs/FORMATS.md, "Which replies are legal").
+-- Which replies to a script are legal (docs/formats/program.md, "Which replies are legal").
 use Rattle.std.specs.Prelude.{◌≡◌, ℕ, ◌+◌, ◌-◌, ◌<◌, ◌≤◌, ◌==◌, Bool, true, List, [], ◌∷◌, ◌++◌, length, map, take, drop, filter, Option, Some, None, slice_get, IsTrue}
 use Rattle.std.specs.List.{filter_map, flat_map}
 use Rattle.std.specs.List.Sorted.{IsPermutation}

@@ -1,4 +1,4 @@
--- What a line of a script says (docs/FORMATS.md, "The whole script").
+-- What a line of a script says (docs/formats/program.md, "The whole script").
 use Rattle.std.specs.Prelude.{◌≡◌, ◌⊎◌, ℕ, ◌<◌, ◌≤◌, Bool, true, false, List, [], ◌∷◌, length, Option, Some, None, codes, slice_get}
 use Rattle.std.specs.Fmt.{decimal}
 use Rattle.wal_base.specs.declared.entry.Entry.{Entry}

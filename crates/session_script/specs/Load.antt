@@ -1,4 +1,4 @@
--- The batches of a generated load, and what is printed at its end (docs/FORMATS.md, "The generated load").
+-- The batches of a generated load, and what is printed at its end (docs/formats/program.md, "The generated load").
 use Rattle.std.specs.Prelude.{ℕ, zero, suc, ◌+◌, ◌-◌, ◌*◌, ◌/◌, ◌%◌, ◌^◌, ◌==◌, min, false, List, [], ◌∷◌, ◌++◌, length, map, count_by, is_some, codes, if◌then◌else◌}
 use Rattle.std.specs.Fmt.{decimal, digit_glyph}
 use Rattle.std.specs.Int.{div_ceil}

@@ -1,4 +1,4 @@
--- What comes next among the words of a line, and what is left after it (docs/FORMATS.md, "The whole script").
+-- What comes next among the words of a line, and what is left after it (docs/formats/program.md, "The whole script").
 use Rattle.std.specs.Prelude.{◌≡◌, ℕ, ◌<◌, ◌≤◌, Bool, List, [], ◌∷◌, ◌++◌, length}
 use Rattle.std.specs.Fmt.{decimal}
 use Rattle.wal_base.specs.declared.entry.Entry.{Entry}

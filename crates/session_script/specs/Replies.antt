@@ -1,4 +1,4 @@
--- The lines of the replies (docs/FORMATS.md, "The replies").
+-- The lines of the replies (docs/formats/program.md, "The replies").
 use Rattle.std.specs.Prelude.{ℕ, Bool, true, false, List, [], ◌∷◌, ◌++◌, Option, Some, None, codes}
 use Rattle.std.specs.Fmt.{decimal}
 use Rattle.text_lines.specs.Printed.{printed}

@@ -1,4 +1,4 @@
--- A script: rounds of the acts of sessions (docs/FORMATS.md, "The whole script").
+-- A script: rounds of the acts of sessions (docs/formats/program.md, "The whole script").
 use Rattle.std.specs.Prelude.{◌≡◌, ◌≢◌, ℕ, ◌+◌, ◌<◌, ◌≤◌, max, sum_by, count_by, Bool, true, false, List, [], ◌∷◌, ◌++◌, length, map, fold, Option, Some, None}
 use Rattle.std.specs.List.{AllByRecursion, filter_map, slice_split}
 use Rattle.std.specs.Option.{option_to_list}

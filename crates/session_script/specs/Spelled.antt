@@ -1,4 +1,4 @@
--- Entries as their words stand in a script (docs/FORMATS.md, "The whole script").
+-- Entries as their words stand in a script (docs/formats/program.md, "The whole script").
 use Rattle.std.specs.Prelude.{ℕ, List}
 use Rattle.wal_base.specs.declared.entry.Entry.{Entry}
 use Rattle.batch_repr.specs.Building.{MakesBatch}

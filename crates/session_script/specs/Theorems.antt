@@ -1,4 +1,4 @@
--- Laws of scripts, of their replies and of loads, each as one statement (docs/FORMATS.md, "The whole script", "Which replies are legal"
+-- Laws of scripts, of their replies and of loads, each as one statement (docs/formats/program.md, "The whole script" and "Which replies are legal"
 -- and "The generated load").
 use Rattle.std.specs.Prelude.{◌≡◌, ◌⊎◌, ℕ, ◌+◌, ◌/◌, ◌<◌, ◌≤◌, List, [], ◌++◌, length, Bool, true, false, map}
 use Rattle.session_script.specs.declared.script.Script.{Script}

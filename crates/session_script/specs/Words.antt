@@ -1,4 +1,4 @@
--- Bytes cut into lines, words and entries (docs/FORMATS.md, "The whole script").
+-- Bytes cut into lines, words and entries (docs/formats/program.md, "The whole script").
 use Rattle.std.specs.Prelude.{◌≡◌, ◌≢◌, ℕ, ◌==◌, ◌||◌, ◌≤◌, List, [], ◌∷◌, All, codes}
 use Rattle.std.specs.List.{slice_split}
 use Rattle.std.specs.Str.{bytes_eq}

@@ -10,7 +10,7 @@ use std::marker::Model;
 use wal_base::{Blob, NoMemory};
 
 /// Where a text is cut.
-#[derive(Clone, Copy, Debug, PartialEq, Eq)]
+#[derive(Clone, Copy)]
 pub(crate) enum Cut {
     /// At each line feed.
     AtLineFeeds,
@@ -31,7 +31,7 @@ impl Cut {
 }
 
 /// The pieces of a text that are left. Contracts see the list of them.
-#[derive(Debug, Drop)]
+#[derive(Drop)]
 pub(crate) struct Pieces<'a> {
     cut: Cut,
     text: &'a Blob,

@@ -30,7 +30,7 @@ impl Round {
 }
 
 /// A script as far as it is read.
-#[derive(Debug, Drop)]
+#[derive(Drop)]
 struct Draft {
     /// The rounds that ended.
     ended: Rounds,

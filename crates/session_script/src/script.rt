@@ -64,7 +64,7 @@ pub struct Script {
 }
 
 /// What a line of a script says.
-#[derive(Debug, Drop)]
+#[derive(Drop)]
 pub(crate) enum Saying {
     /// A session acts.
     Does { line: Line },

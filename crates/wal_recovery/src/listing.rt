@@ -16,7 +16,7 @@ use std::alloc::Global;
 use wal_base::ListOf;
 
 /// A segment that is listed on a side.
-#[derive(Clone, Copy, Debug)]
+#[derive(Clone, Copy)]
 pub(crate) struct Found {
     pub(crate) side: Side,
     pub(crate) name: SegName,

@@ -188,7 +188,7 @@ fn next_after(from: u64, batches: &[Batch]) -> u64
 }
 
 /// What was merged, and the number that comes next.
-#[derive(Debug, Drop)]
+#[derive(Drop)]
 pub(crate) struct Merged {
     pub(crate) batches: Batches,
     pub(crate) next: u64,

@@ -9,7 +9,7 @@ use std::alloc::Global;
 use wal_base::{ListOf, NoMemory};
 
 /// The segments of one WAL, by their indexes.
-#[derive(Debug, Drop)]
+#[derive(Drop)]
 pub(crate) struct FoundWal {
     pub(crate) number: u64,
     pub(crate) segments: Vec<Found>,

@@ -13,14 +13,14 @@ use wal_base::{Buf, NoMemory};
 use wal_recovery::RecoverFault;
 
 /// What a run has to say: the whole text, and the status that goes with it.
-#[derive(Debug, Drop)]
+#[derive(Drop)]
 pub(crate) struct Said {
     pub(crate) status: Status,
     pub(crate) text: Buf,
 }
 
 /// What a run has to say, if memory allows, and the disk as it stands then.
-#[derive(Debug, Drop)]
+#[derive(Drop)]
 pub(crate) struct Answered<D> {
     pub(crate) said: Result<Said, NoMemory>,
     pub(crate) disk: D,
