@@ -99,30 +99,44 @@ fn show_timed<R: Clock + Print>(rt: &R, alloc: Global, shape: Shape) -> io::Resu
     println!(rt; "{} {} {} {}", list.insert, map.insert, list.read, map.read)
 }
 
+/// Runs both over few versions, and prints how many reads found one.
+fn show_few<R: Clock + Print>(rt: &R, alloc: Global) -> io::Result<()> {
+    let draws = had(Draws::new(alloc, FEW))?;
+    let list = list_timed(rt, alloc, &draws)?;
+    let map = map_timed(rt, alloc, &draws)?;
+    println!(rt; "list {}", list.found)?;
+    println!(rt; "map {}", map.found)
+}
+
+/// Runs both over all shapes of so many versions and keys.
+fn show_shapes<R: Clock + Print>(
+    rt: &R,
+    alloc: Global,
+    versions: u32,
+    keys: u32,
+) -> io::Result<()> {
+    for len in &LENGTHS {
+        for ordered in &[false, true] {
+            let shape = Shape {
+                versions,
+                keys,
+                len: *len,
+                ordered: *ordered,
+            };
+            show_timed(rt, alloc, shape)?;
+        }
+    }
+    Ok(())
+}
+
 fn main(rt: HostRuntime) -> io::Result<()> {
     let alloc = rt.alloc();
-    let times = env::args(&rt)?.skip(1).next().is_some();
-    if !times {
-        let draws = had(Draws::new(alloc, FEW))?;
-        let list = list_timed(&rt, alloc, &draws)?;
-        let map = map_timed(&rt, alloc, &draws)?;
-        println!(&rt; "list {}", list.found)?;
-        println!(&rt; "map {}", map.found)?;
-        return Ok(());
+    if env::args(&rt)?.skip(1).next().is_none() {
+        return show_few(&rt, alloc);
     }
-    for versions in MANY {
-        for keys in [KEYS, versions] {
-            for len in LENGTHS {
-                for ordered in [false, true] {
-                    let shape = Shape {
-                        versions,
-                        keys,
-                        len,
-                        ordered,
-                    };
-                    show_timed(&rt, alloc, shape)?;
-                }
-            }
+    for versions in &MANY {
+        for keys in &[KEYS, *versions] {
+            show_shapes(&rt, alloc, *versions, *keys)?;
         }
     }
     Ok(())
