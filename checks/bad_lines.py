@@ -1,4 +1,4 @@
-"""Lines that make a script bad (docs/FORMATS.md, "The script"), by what is wrong with them."""
+"""Lines that make a script bad (docs/formats/program.md, "The script"), by what is wrong with them."""
 
 KEY_LIMIT = 65_535
 VALUE_LIMIT = 1_048_576

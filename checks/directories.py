@@ -1,6 +1,6 @@
 """Directories, and what the commands say of them and leave there.
 
-The texts were worked out by hand from docs/FORMATS.md, and the segments are those of segments.py.
+The texts were worked out by hand from docs/formats, and the segments are those of segments.py.
 """
 
 import os

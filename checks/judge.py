@@ -1,6 +1,6 @@
 """A judge of replays: it reads a script and the text that answers it, and says which rule the text breaks, if it breaks one.
 
-It is written from docs/FORMATS.md ("The script", "Printed bytes", "The replies", "Which replies are legal", "The journal of a
+It is written from docs/formats/program.md ("The script", "Printed bytes", "The replies", "Which replies are legal", "The journal of a
 run", "Statuses"), and knows nothing of how the program comes to its replies. It takes each script for accepted. No script is so
 long that it commits more batches than a run may have, so the one limit that it looks for is that on numbers.
 """

@@ -1,4 +1,4 @@
-"""Batches and segments as docs/FORMATS.md has them, written a second time: to compare the program's log with, and to
+"""Batches and segments as docs/formats has them, written a second time: to compare the program's log with, and to
 make the directories that it recovers.
 """
 

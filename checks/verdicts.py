@@ -1,6 +1,6 @@
 """Scripts with texts that the judge is to accept and texts that it is to refuse.
 
-All were worked out by hand from docs/FORMATS.md. What a text that is refused does wrong is said by its name.
+All were worked out by hand from docs/formats. What a text that is refused does wrong is said by its name.
 """
 
 from dataclasses import dataclass

@@ -1,4 +1,4 @@
--- What a list is seen as.
+-- What a list is seen as (docs/formats/ring.md, "The shards").
 use Rattle.std.specs.Prelude.{◌≡◌, ◌⊎◌, ℕ, ◌+◌, ◌<◌, List, [], length, slice_index_or}
 use Rattle.arena_list.specs.Versions.{Version}
 

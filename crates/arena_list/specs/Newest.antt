@@ -1,4 +1,4 @@
--- The newest version of a key below a number.
+-- The newest version of a key below a number (docs/formats/ring.md, "The shards").
 use Rattle.std.specs.Prelude.{◌≡◌, ℕ, ◌<◌, ◌≤◌, List, Option, Some, None, Contains}
 use Rattle.arena_list.specs.declared.found.Found.{Found}
 use Rattle.arena_list.specs.declared.found.Found.TheVariants.{Nothing, Gone, Value}

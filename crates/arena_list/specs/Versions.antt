@@ -1,4 +1,4 @@
--- The versions of keys, and the order of a walk: by key ascending and, within a key, by number descending.
+-- The versions of keys, and the order of a walk: by key ascending and, within a key, by number descending (docs/formats/ring.md, "The shards").
 use Rattle.std.specs.Prelude.{◌≡◌, ◌⊎◌, ◌↔◌, ℕ, List, [], ◌∷◌, Option, Contains, option_map, ⊤}
 use Rattle.std.specs.declared.cmp.Ordering.{Ordering}
 use Rattle.std.specs.declared.cmp.Ordering.TheVariants.{Less}

@@ -1,4 +1,4 @@
--- Batches, the numbers that they use, and what a store answers after some of them (docs/FORMATS.md, "Batches and the store").
+-- Batches, the numbers that they use, and what a store answers after some of them (docs/formats/log.md, "Batches and the store").
 use Rattle.std.specs.Prelude.{◌≡◌, ℕ, ◌+◌, ◌<◌, Bool, true, false, List, [], ◌∷◌, Option, Some, None, count_by, filter, take, option_and_then}
 use Rattle.std.specs.List.{flat_map, last_or}
 use Rattle.std.specs.Str.{bytes_eq}

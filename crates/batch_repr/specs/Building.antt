@@ -1,4 +1,4 @@
--- Which entries fit one batch, and what a builder refuses (docs/FORMATS.md, "Limits").
+-- Which entries fit one batch, and what a builder refuses (docs/formats/log.md, "Limits").
 use Rattle.std.specs.Prelude.{◌≡◌, ℕ, ◌<◌, ◌≤◌, List, [], ◌∷◌, ◌++◌, length, All, Option, Some, None, Result, Ok, Err, nat_lt, if◌then◌else◌}
 use Rattle.wal_base.specs.declared.entry.Entry.{Entry}
 use Rattle.wal_base.specs.declared.entry.Entry.TheVariants.{Set, Delete, Note}

@@ -1,4 +1,4 @@
--- The limits of keys, values and notes (docs/FORMATS.md, "Limits").
+-- The limits of keys, values and notes (docs/formats/log.md, "Limits").
 use Rattle.std.specs.Prelude.{◌≤◌, length}
 use Rattle.wal_base.specs.declared.entry.Entry.{Entry}
 use Rattle.wal_base.specs.declared.entry.Entry.TheVariants.{Set, Delete, Note}

@@ -1,4 +1,4 @@
--- Reading a batch from left to right, and the fault that is met first (docs/FORMATS.md, "Reading a batch").
+-- Reading a batch from left to right, and the fault that is met first (docs/formats/log.md, "Reading a batch").
 use Rattle.std.specs.Prelude.{◌≡◌, ◌≢◌, ℕ, zero, suc, ◌+◌, ◌-◌, ◌*◌, ◌%◌, ◌^◌, ◌<◌, ◌≤◌, List, [], ◌∷◌, ◌++◌, length, get_or, take, drop, Result, Ok, Err, nat_lt, ◌==◌, if◌then◌else◌}
 use Rattle.std.specs.Int.{w32, w64, from_le_bytes}
 use Rattle.wal_base.specs.declared.entry.Entry.{Entry}

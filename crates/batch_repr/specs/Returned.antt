@@ -1,4 +1,4 @@
--- What a reader answers, beside what the bytes say. Out of memory may take the place of any answer (docs/FORMATS.md, "Reading a batch").
+-- What a reader answers, beside what the bytes say. Out of memory may take the place of any answer (docs/formats/log.md, "Reading a batch").
 use Rattle.std.specs.Prelude.{◌≡◌, Result, Ok, Err}
 use Rattle.batch_repr.specs.declared.fault.BatchFault.{BatchFault}
 use Rattle.batch_repr.specs.declared.fault.BatchFault.TheVariants as faults

@@ -1,4 +1,4 @@
--- The bytes that spell a batch, in any spelling that is read (docs/FORMATS.md, "The batch text").
+-- The bytes that spell a batch, in any spelling that is read (docs/formats/log.md, "The batch text").
 use Rattle.std.specs.Prelude.{◌≡◌, ℕ, ◌+◌, ◌*◌, ◌%◌, ◌^◌, ◌<◌, ◌≤◌, List, [], ◌∷◌, ◌++◌, length, All}
 use Rattle.std.specs.Int.{w32, w64, to_le_bytes}
 use Rattle.wal_base.specs.declared.entry.Entry.{Entry}

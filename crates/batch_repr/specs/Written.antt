@@ -1,4 +1,4 @@
--- The one spelling of a batch that is written (docs/FORMATS.md, "The batch text").
+-- The one spelling of a batch that is written (docs/formats/log.md, "The batch text").
 use Rattle.std.specs.Prelude.{ℕ, ◌+◌, ◌/◌, ◌%◌, zero, suc, List, [], ◌∷◌, ◌++◌, length, nat_lt, if◌then◌else◌}
 use Rattle.std.specs.Int.{w32, w64, to_le_bytes}
 use Rattle.std.specs.List.{flat_map}

@@ -1,4 +1,4 @@
--- A worked row of docs/FORMATS.md: a record of 17 bytes, framed at a segment's front with log number 1.
+-- A worked row of docs/formats: a record of 17 bytes, framed at a segment's front with log number 1.
 use Rattle.std.proofs.Common.{◌≡◌, ℕ, List, [], ◌∷◌, refl}
 use Rattle.crc_chunk.specs.Crc.{after_bits, checksum}
 use Rattle.crc_chunk.specs.Chunk.{covered, chunk}

@@ -1,4 +1,4 @@
--- How records are laid into the blocks of a segment (docs/FORMATS.md, "Framing").
+-- How records are laid into the blocks of a segment (docs/formats/log.md, "Framing").
 use Rattle.crc_chunk.specs.declared.chunk.TheConstants.{BLOCK, HEADER}
 use Rattle.std.specs.Prelude.{ℕ, zero, suc, ◌+◌, ◌-◌, ◌%◌, List, [], ◌∷◌, ◌++◌, length, replicate, take, drop, nat_lt, if◌then◌else◌}
 use Rattle.std.specs.Int.{div_ceil}

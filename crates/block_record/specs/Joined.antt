@@ -1,4 +1,4 @@
--- Records as places in the bytes of their segment, whose fragments are joined where they stand.
+-- Records as places in the bytes of their segment, whose fragments are joined where they stand (docs/formats/log.md, "Reading a segment").
 use Rattle.std.specs.Prelude.{◌≡◌, ℕ, ◌+◌, ◌-◌, ◌≤◌, List, [], ◌∷◌, length, drop, map}
 use Rattle.std.specs.List.{slice_range}
 use Rattle.crc_chunk.specs.declared.chunk.ChunkKind.{ChunkKind}

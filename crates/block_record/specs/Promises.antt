@@ -1,4 +1,4 @@
--- What the writer and the reader of records promise (docs/FORMATS.md, "Framing" and "Reading a segment").
+-- What the writer and the reader of records promise (docs/formats/log.md, "Framing" and "Reading a segment").
 use Rattle.crc_chunk.specs.declared.chunk.TheConstants.{HEADER}
 use Rattle.std.specs.Prelude.{◌≡◌, ℕ, ◌+◌, ◌≤◌, Bool, List, length}
 use Rattle.crc_chunk.specs.declared.chunk.ChunkKind.{ChunkKind}

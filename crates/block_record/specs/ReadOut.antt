@@ -1,4 +1,4 @@
--- The records that the longest chain of chunks spells (docs/FORMATS.md, "Reading a segment").
+-- The records that the longest chain of chunks spells (docs/formats/log.md, "Reading a segment").
 use Rattle.crc_chunk.specs.declared.chunk.TheConstants.{HEADER}
 use Rattle.std.specs.Prelude.{◌≡◌, ℕ, ◌+◌, ◌≤◌, Bool, true, false, not, ◌==◌, List, [], ◌∷◌, ◌++◌, length, map, take, drop, nat_lt, if◌then◌else◌}
 use Rattle.std.specs.List.{list_any}

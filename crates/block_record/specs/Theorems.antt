@@ -1,4 +1,4 @@
--- Laws of framing and reading, each as one statement (docs/FORMATS.md, "Framing" and "Reading a segment").
+-- Laws of framing and reading, each as one statement (docs/formats/log.md, "Framing" and "Reading a segment").
 use Rattle.crc_chunk.specs.declared.chunk.TheConstants.{BLOCK}
 use Rattle.std.specs.Prelude.{◌≡◌, ◌%◌, ◌≤◌, ◌∷◌, ◌++◌, [], ℕ, Bool, List, length, take}
 use Rattle.block_record.specs.declared.records.Rec.{Rec}

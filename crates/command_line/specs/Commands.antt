@@ -1,4 +1,4 @@
--- Which words are which command (docs/FORMATS.md, "Commands").
+-- Which words are which command (docs/formats/program.md, "Commands").
 use Rattle.std.specs.Prelude.{◌≡◌, ℕ, ◌-◌, ◌^◌, List, [], ◌∷◌, ◌++◌, codes}
 use Rattle.stall_monitor.specs.declared.verdict.TheConstants.{THRESHOLD_MAX}
 use Rattle.command_line.specs.declared.command.Command.{Command}

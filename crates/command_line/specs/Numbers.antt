@@ -1,4 +1,4 @@
--- The numbers among the words of the command line (docs/FORMATS.md, "Commands").
+-- The numbers among the words of the command line (docs/formats/program.md, "Commands").
 use Rattle.std.specs.Prelude.{◌≡◌, ℕ, ◌≤◌, List, length}
 use Rattle.std.specs.Str.Parse.{IsNumeral, digits_value}
 use Rattle.command_line.specs.declared.numbers.TheConstants.{DIGITS_MAX}

@@ -1,4 +1,4 @@
--- What a commit and a read do to a session (docs/FORMATS.md, "Sessions beside one another").
+-- What a commit and a read do to a session (docs/formats/ring.md, "Sessions beside one another").
 use Rattle.std.specs.Prelude.{◌≡◌, ℕ, ◌+◌, ◌<◌, ◌≤◌, Bool, List, ◌++◌, length, Result, Ok, Err, IsTrue}
 use Rattle.wal_base.specs.declared.entry.Entry.{Entry}
 use Rattle.batch_repr.specs.declared.batch.Batch.{Batch}

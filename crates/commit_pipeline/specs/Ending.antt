@@ -1,4 +1,4 @@
--- What the end of a pipeline tells (docs/FORMATS.md, "Sessions beside one another").
+-- What the end of a pipeline tells (docs/formats/ring.md, "Sessions beside one another").
 use Rattle.std.specs.Prelude.{◌≡◌, ◌≢◌, ℕ, ◌+◌, ◌<◌, ◌≤◌, Bool, List, [], ◌∷◌, ◌++◌, length, map, None, Contains}
 use Rattle.batch_repr.specs.declared.batch.Batch.{Batch}
 use Rattle.batch_repr.specs.declared.limits.TheConstants.{NUMBER_MAX, BATCHES_MAX}

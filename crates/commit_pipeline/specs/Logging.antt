@@ -1,4 +1,4 @@
--- How a journal is stepped (docs/FORMATS.md, "The commit").
+-- How a journal is stepped (docs/formats/ring.md, "The commit").
 use Rattle.std.specs.Prelude.{◌⊎◌, ℕ, ◌<◌, Result, IfOk}
 use Rattle.disk_face.specs.View.{DiskView}
 use Rattle.failover_writer.specs.declared.fault.Step.{Step}

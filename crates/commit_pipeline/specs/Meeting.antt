@@ -1,4 +1,4 @@
--- What sessions have seen once they have met (docs/FORMATS.md, "Sessions beside one another").
+-- What sessions have seen once they have met (docs/formats/ring.md, "Sessions beside one another").
 use Rattle.std.specs.Prelude.{◌≡◌, ℕ, ◌+◌, ◌≤◌, List, length, Option, None, Some, slice_get}
 use Rattle.failover_writer.specs.declared.fault.DeadMark.{DeadMark}
 use Rattle.commit_queue.specs.Rule.{IsPrefix}

@@ -1,4 +1,4 @@
--- A name that names nothing, which stands where no name is picked yet.
+-- A name that names nothing, which stands where no name is picked yet (docs/formats/ring.md, "What a pipeline holds").
 use Rattle.std.specs.Prelude.{[], None, false}
 use Rattle.atomic_table.specs.Seated.{TableId}
 use Rattle.record_flow.specs.Passes.{FlowId}

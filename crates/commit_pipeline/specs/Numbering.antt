@@ -1,4 +1,4 @@
--- What a try to number a batch does to a session's seat, and why it comes to what it comes to.
+-- What a try to number a batch does to a session's seat, and why it comes to what it comes to (docs/formats/ring.md, "The commit").
 use Rattle.std.specs.Prelude.{◌≡◌, ℕ, ◌+◌, ◌%◌, ◌<◌, ◌≤◌, Bool, List, ◌∷◌, ◌++◌, [], length, None, Some}
 use mathlib.Core.Option.{some}
 use lib.ListN.{get_elem?}

@@ -1,4 +1,4 @@
--- What a journal holds since the opening of a pipeline (docs/FORMATS.md, "What a pipeline holds").
+-- What a journal holds since the opening of a pipeline (docs/formats/ring.md, "What a pipeline holds").
 use Rattle.std.specs.Prelude.{◌≡◌, ◌⊎◌, ℕ, ◌≤◌, Bool, false, List, [], ◌∷◌, Some, None, IsTrue}
 use Rattle.batch_repr.specs.declared.batch.Batch.{Batch}
 use Rattle.batch_repr.specs.Batches.{IsContiguous, end_after}

@@ -1,4 +1,4 @@
--- What the parts of a pipeline are, and the sessions of a new one.
+-- What the parts of a pipeline are, and the sessions of a new one (docs/formats/ring.md, "What a pipeline holds").
 use Rattle.std.specs.Prelude.{◌≡◌, ℕ, ◌≤◌, List, [], ◌∷◌, ◌++◌, All, length}
 use Rattle.atomic_table.specs.Seated.{TableId}
 use Rattle.record_flow.specs.Passes.{FlowId}

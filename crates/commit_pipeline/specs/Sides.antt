@@ -1,4 +1,4 @@
--- What contracts see behind the two locks, and what is done there (docs/FORMATS.md, "The commit").
+-- What contracts see behind the two locks, and what is done there (docs/formats/ring.md, "The commit").
 use Rattle.std.specs.Prelude.{◌≡◌, ◌≤◌, ℕ, List, [], ◌∷◌, ◌++◌, Bool, Result}
 use Rattle.batch_repr.specs.declared.batch.Batch.{Batch}
 use Rattle.disk_face.specs.View.{DiskView}

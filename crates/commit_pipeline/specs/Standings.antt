@@ -1,4 +1,4 @@
--- What contracts see of a session, and what its calls do to it (docs/FORMATS.md, "Sessions beside one another").
+-- What contracts see of a session, and what its calls do to it (docs/formats/ring.md, "Sessions beside one another").
 use Rattle.std.specs.Prelude.{◌≡◌, ℕ, ◌+◌, ◌<◌, ◌≤◌, List, [], ◌∷◌, length, take}
 use mathlib.Core.Option.{some}
 use lib.ListN.{get_elem?}

@@ -1,4 +1,4 @@
--- What a stop leaves of a journal, at the end of each call of its pipeline (docs/FORMATS.md, "What a pipeline holds").
+-- What a stop leaves of a journal, at the end of each call of its pipeline (docs/formats/ring.md, "What a pipeline holds").
 use Rattle.std.specs.Prelude.{Bool, List, IsTrue}
 use Rattle.batch_repr.specs.declared.batch.Batch.{Batch}
 use Rattle.disk_face.specs.View.{DiskView, files}

@@ -1,4 +1,4 @@
-//! The law of what a journal holds since an opening (docs/FORMATS.md, "What a pipeline holds").
+//! The law of what a journal holds since an opening (docs/formats/ring.md, "What a pipeline holds").
 
 ghost use Rattle.commit_pipeline.specs.Theorems.{EachOpenedBaseIsKept};
 

@@ -1,4 +1,4 @@
--- What the calls ask and answer, over what a seat knows before and after.
+-- What the calls ask and answer, over what a seat knows before and after (docs/formats/ring.md, "The ring").
 use Rattle.std.specs.Prelude.{◌≡◌, ◌≢◌, ◌⊎◌, ◌↔◌, ℕ, suc, ◌+◌, ◌*◌, ◌%◌, ◌<◌, ◌≤◌, min, max, Bool, true, false, IsTrue, List, [], ◌++◌, length, Some, None, unwrap_or}
 use mathlib.Core.Option.{some}
 use lib.ListN.{get_elem?}

@@ -1,4 +1,4 @@
--- The rule of the table: its words, the shards at home and all views are one sound state of the ring's machine.
+-- The rule of the table: its words, the shards at home and all views are one sound state of the ring's machine (docs/formats/ring.md, "The ring").
 use Rattle.std.specs.Prelude.{◌≡◌, ◌≢◌, ℕ, zero, suc, ◌+◌, ◌*◌, ◌^◌, ◌<◌, ◌≤◌, List, [], length, Option, Some, None, slice_index, true}
 use mathlib.Core.Option.{some}
 use mathlib.Core.Option as maybe

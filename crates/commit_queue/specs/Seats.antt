@@ -1,4 +1,4 @@
--- What is seen of each kind of seat: the table that it is of, and what it knows.
+-- What is seen of each kind of seat: the table that it is of, and what it knows (docs/formats/ring.md, "The ring").
 use Rattle.std.specs.Prelude.{◌≡◌, ℕ, List, All, length, None}
 use Rattle.atomic_table.specs.Seated.{TableId}
 use Rattle.publish_core.specs.declared.seat.Kind.TheVariants.{Worker}

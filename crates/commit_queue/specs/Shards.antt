@@ -1,4 +1,4 @@
--- The versions of a table's shards: those of its opening, and those of the batches that were applied since.
+-- The versions of a table's shards: those of its opening, and those of the batches that were applied since (docs/formats/ring.md, "The shards of the table").
 use Rattle.std.specs.Prelude.{◌≡◌, ◌⊎◌, ◌↔◌, ℕ, ◌<◌, List, take, Some, Contains, slice_get, IsTrue}
 use mathlib.Core.Option.{some}
 use lib.ListN.{get_elem?}

@@ -1,4 +1,4 @@
--- What holds of each kind of seat between two calls, of its view and of the numbers that it keeps for the code.
+-- What holds of each kind of seat between two calls, of its view and of the numbers that it keeps for the code (docs/formats/ring.md, "The ring").
 use Rattle.std.specs.Prelude.{◌≡◌, ℕ, suc, ◌^◌, ◌<◌, ◌≤◌, List, [], ◌∷◌, length, Option, Some, None, true, false}
 use Rattle.publish_core.specs.declared.seat.Claim.TheVariants.{Free}
 use Rattle.publish_core.specs.declared.seat.Kind.TheVariants.{Note, Producer, Worker}

@@ -1,4 +1,4 @@
--- Which table a seat is of.
+-- Which table a seat is of (docs/formats/ring.md, "The ring").
 use Rattle.std.specs.Prelude.{◌≡◌}
 use Rattle.atomic_table.specs.declared.shared.Seat as seats
 use Rattle.atomic_table.specs.Seated.{TableId}

@@ -1,4 +1,4 @@
--- What each step tells, of the view before, the word found and the view after.
+-- What each step tells, of the view before, the word found and the view after (docs/formats/ring.md, "The ring").
 use Rattle.std.specs.Prelude.{◌≡◌, ◌≢◌, ℕ, suc, ◌+◌, ◌-◌, ◌*◌, ◌/◌, ◌%◌, ◌<◌, ◌≤◌, List, ◌∷◌, length, Some}
 use Rattle.atomic_table.specs.Table.{Me, Step, rest}
 use Rattle.batch_repr.specs.declared.batch.Batch.{Batch}

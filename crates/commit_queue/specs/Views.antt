@@ -1,4 +1,4 @@
--- What a seat knows after each kind of step.
+-- What a seat knows after each kind of step (docs/formats/ring.md, "The ring").
 use Rattle.std.specs.Prelude.{◌≡◌, ℕ, suc, ◌+◌, max, List, [], ◌∷◌, ◌++◌, length, Some, None, false, true, cond}
 use Rattle.batch_repr.specs.declared.batch.Batch.{Batch}
 use Rattle.arena_list.specs.Versions.{Version}

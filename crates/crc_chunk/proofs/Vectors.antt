@@ -1,4 +1,4 @@
--- The definitions at the examples of docs/FORMATS.md, as the checker computes them.
+-- The definitions at the examples of docs/formats, as the checker computes them.
 use Rattle.std.proofs.Common.{◌≡◌, [], ◌∷◌, refl, replicate}
 use Rattle.std.specs.Prelude.{codes}
 use Rattle.std.specs.List.{range_with_len}

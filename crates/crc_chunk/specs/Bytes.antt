@@ -1,4 +1,4 @@
--- Where bytes stand in others (docs/FORMATS.md, "Chunk").
+-- Where bytes stand in others (docs/formats/log.md, "Chunk").
 use Rattle.std.specs.Prelude.{◌≡◌, ℕ, List, length, take, drop}
 
 -- The part stands in the bytes at this place.

@@ -1,4 +1,4 @@
--- One chunk of a log: a header of eleven bytes, and a payload (docs/FORMATS.md, "Chunk").
+-- One chunk of a log: a header of eleven bytes, and a payload (docs/formats/log.md, "Chunk").
 use Rattle.crc_chunk.specs.declared.chunk.TheConstants.{BLOCK, HEADER}
 use Rattle.std.specs.Prelude.{◌≡◌, ℕ, ◌+◌, ◌%◌, ◌≤◌, List, ◌∷◌, ◌++◌, length}
 use Rattle.std.specs.Int.{w16, w32, to_le_bytes}

@@ -1,4 +1,4 @@
--- The checksum CRC-32C, bit by bit, and the form in which it is stored (docs/FORMATS.md, "Checksum").
+-- The checksum CRC-32C, bit by bit, and the form in which it is stored (docs/formats/log.md, "Checksum").
 use Rattle.std.specs.Prelude.{ℕ, ◌+◌, ◌/◌, ◌%◌, ◌^◌, ◌==◌, List, [], ◌∷◌, bit_xor, if◌then◌else◌}
 use Rattle.std.specs.List.{flat_map}
 use Rattle.std.specs.Int.{w32, bit_at, bit_not, rotate_right}

@@ -1,4 +1,4 @@
--- What zero bits leave of a register, which the tables of the checksum hold (docs/FORMATS.md, "Checksum").
+-- What zero bits leave of a register, which the tables of the checksum hold (docs/formats/log.md, "Checksum").
 use Rattle.std.specs.Prelude.{ℕ, zero, suc}
 use Rattle.crc_chunk.specs.Crc.{after_bit}
 

@@ -1,4 +1,4 @@
--- What an answer of a disk tells of its files, its counts and its calls (docs/FORMATS.md, "The disk").
+-- What an answer of a disk tells of its files, its counts and its calls (docs/formats/disk.md, "The disk").
 use Rattle.std.specs.Prelude.{◌≡◌, ℕ, Bool, List, length, Some, None, Result, IfOk, IsErrOf, IsTrue, Option}
 use Rattle.wal_base.specs.Faults.{Rose}
 use Rattle.disk_face.specs.declared.Side.{Side}

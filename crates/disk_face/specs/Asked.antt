@@ -1,4 +1,4 @@
--- What a row of calls asks of a disk in all (docs/FORMATS.md, "The disk").
+-- What a row of calls asks of a disk in all (docs/formats/disk.md, "The disk").
 use Rattle.std.specs.Prelude.{ℕ, ◌≤◌, ◌==◌, ◌&&◌, Bool, if◌then◌else◌, List, [], sum_by, Result, Ok, Err}
 use Rattle.disk_face.specs.declared.Side.{Side}
 use Rattle.disk_face.specs.declared.SegName.{SegName}

@@ -1,4 +1,4 @@
--- A number for each side (docs/FORMATS.md, "The disk").
+-- A number for each side (docs/formats/disk.md, "The disk").
 use Rattle.std.specs.Prelude.{◌≡◌, ℕ, ◌+◌, ◌<◌, Bool, MatchBool}
 use Rattle.disk_face.specs.declared.Side.{Side}
 use Rattle.disk_face.specs.View.{by_side}

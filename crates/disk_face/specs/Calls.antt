@@ -1,4 +1,4 @@
--- What the calls of a disk do to what it means (docs/FORMATS.md, "The disk").
+-- What the calls of a disk do to what it means (docs/formats/disk.md, "The disk").
 use Rattle.std.specs.Prelude.{◌≡◌, ◌≢◌, ℕ, suc, ◌+◌, ◌-◌, ◌≤◌, ◌^◌, min, Bool, true, false, List, [], ◌∷◌, ◌++◌, length, take, drop, Option, Some, None, IsTrue}
 use Rattle.disk_face.specs.declared.Side.{Side}
 use Rattle.disk_face.specs.declared.OpId.{OpId}

@@ -1,4 +1,4 @@
--- Sides, numbers and names are equal exactly where their tests say so (docs/FORMATS.md, "Segment names").
+-- Sides, numbers and names are equal exactly where their tests say so (docs/formats/log.md, "Segment names").
 use Rattle.std.proofs.Common.{◌≡◌, ◌==◌, ◌&&◌, ℕ, Bool, true, false, refl, arith}
 use Rattle.std.proofs.lemmas.Bool.Decides.{nat_tests}
 use Rattle.disk_face.specs.declared.Side.{Side}

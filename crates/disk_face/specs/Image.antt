@@ -1,4 +1,4 @@
--- What a crash may leave of the files, and when no torn chunk passes for a whole one (docs/FORMATS.md, "Images").
+-- What a crash may leave of the files, and when no torn chunk passes for a whole one (docs/formats/disk.md, "Images").
 use Rattle.std.specs.Prelude.{◌≡◌, ℕ, ◌≤◌, ◌%◌, ◌^◌, true, false, List, [], ◌++◌, take, drop, length, Option, Some, None, if◌then◌else◌}
 use Rattle.disk_face.specs.View.{Place, segment, table, File, Files, Dirs, DiskView, files}
 

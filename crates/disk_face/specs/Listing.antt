@@ -1,4 +1,4 @@
--- Listings of files, in ascending order (docs/FORMATS.md, "The disk" and "Tables").
+-- Listings of files, in ascending order (docs/formats/disk.md, "The disk" and "Tables").
 use Rattle.disk_face.specs.declared.names.TheConstants.{WAL_MAX, INDEX_MAX}
 use Rattle.std.specs.Prelude.{◌≡◌, ◌⊎◌, ◌↔◌, ℕ, ◌<◌, ◌≤◌, true, List, length, All, AllPairs, Contains, Some}
 use Rattle.disk_face.specs.declared.Side.{Side}

@@ -1,4 +1,4 @@
--- How a segment is named (docs/FORMATS.md, "Segment names").
+-- How a segment is named (docs/formats/log.md, "Segment names").
 use Rattle.std.specs.Prelude.{◌≡◌, ◌≢◌, ℕ, zero, suc, ◌-◌, List, [], ◌∷◌, ◌++◌, length, replicate, decimal, codes, Option, Some, IsAscii}
 use Rattle.disk_face.specs.declared.SegName.{SegName}
 use Rattle.disk_face.specs.Listing.{IsSegmentName}

@@ -1,4 +1,4 @@
--- The laws of a disk without files (docs/FORMATS.md, "The disk").
+-- The laws of a disk without files (docs/formats/disk.md, "The disk").
 use Rattle.std.specs.Prelude.{◌≡◌, true, false, None, Some, [], IsSome, Contains}
 use Rattle.disk_face.specs.View.{Place, File, IsFiniteFiles}
 use Rattle.disk_face.specs.Image.{IsSound}

@@ -1,4 +1,4 @@
--- A disk that stalls polls by itself, over another one (docs/FORMATS.md, "The disk").
+-- A disk that stalls polls by itself, over another one (docs/formats/disk.md, "The disk").
 use Rattle.std.specs.Prelude.{◌≡◌, ◌≢◌, ℕ, ◌+◌, ◌-◌, ◌^◌, ◌≤◌, min, Bool, List, ◌∷◌}
 use Rattle.disk_face.specs.declared.Side.{Side}
 use Rattle.disk_face.specs.declared.OpId.{OpId}

@@ -1,4 +1,4 @@
--- The disks of this crate, as contracts see them (docs/FORMATS.md, "The disk").
+-- The disks of this crate, as contracts see them (docs/formats/disk.md, "The disk").
 use Rattle.std.specs.Prelude.{◌≡◌, ℕ, ◌<◌, Bool, None, Result}
 use Rattle.disk_face.specs.declared.Side.{Side}
 use Rattle.disk_face.specs.declared.OpId.{OpId}

@@ -1,4 +1,4 @@
--- What the calls on tables and the removals do to a disk, over the same view (docs/FORMATS.md, "Tables").
+-- What the calls on tables and the removals do to a disk, over the same view (docs/formats/disk.md, "Tables").
 use Rattle.std.specs.Prelude.{◌≡◌, ◌≢◌, ℕ, ◌<◌, ◌≤◌, Bool, true, false, List, length, Option, Some, None, Result, IfOk, OnOk, IsSome, IsTrue}
 use Rattle.disk_face.specs.declared.Side.{Side}
 use Rattle.disk_face.specs.declared.SegName.{SegName}

@@ -1,4 +1,4 @@
--- What a disk means: its counts, its operations in flight, and its files at each moment so far (docs/FORMATS.md, "The disk").
+-- What a disk means: its counts, its operations in flight, and its files at each moment so far (docs/formats/disk.md, "The disk").
 use Rattle.std.specs.Prelude.{◌≡◌, ◌≢◌, ℕ, ◌≤◌, Bool, true, false, List, ◌++◌, Option, Some, None, IsSome, Contains}
 use Rattle.disk_face.specs.declared.Side.{Side}
 use Rattle.disk_face.specs.declared.Side.TheVariants.{Primary, Secondary}

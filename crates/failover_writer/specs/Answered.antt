@@ -1,4 +1,4 @@
--- What a step and a closing answer, and what their polls tell of the disk (docs/FORMATS.md, "The step of a journal").
+-- What a step and a closing answer, and what their polls tell of the disk (docs/formats/journal.md, "The step of a journal").
 use Rattle.std.specs.Prelude.{◌≡◌, ◌≢◌, ◌⊎◌, ℕ, ◌+◌, ◌<◌, ◌≤◌, Bool, [], ◌∷◌, length, Option, Some, None, Result, Ok, Err}
 use Rattle.std.specs.List.{AllByRecursion}
 use Rattle.wal_base.specs.Faults.{Rose, COUNT_END}

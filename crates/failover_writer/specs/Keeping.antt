@@ -1,4 +1,4 @@
--- What a stop leaves of a journal (docs/FORMATS.md, "What a stop leaves of a journal").
+-- What a stop leaves of a journal (docs/formats/journal.md, "What a stop leaves of a journal").
 use Rattle.batch_repr.specs.declared.limits.TheConstants.{NUMBER_FIRST}
 use Rattle.std.specs.Prelude.{◌≡◌, ◌≢◌, ◌↔◌, ℕ, ◌<◌, ◌≤◌, Bool, List, ◌++◌, length, take, map, Contains, Some, None, IsTrue}
 use Rattle.crc_chunk.specs.Chunk.{IsChunkOf}

@@ -1,4 +1,4 @@
--- What each call that steps a journal keeps: one step, several one after another, and a closing.
+-- What each call that steps a journal keeps: one step, several one after another, and a closing (docs/formats/journal.md, "The step of a journal").
 use Rattle.std.specs.Prelude.{◌⊎◌, ◌≤◌, Bool, List, IsTrue}
 use Rattle.batch_repr.specs.declared.batch.Batch.{Batch}
 use Rattle.disk_face.specs.View.{Files, DiskView, files, AtEachMoment}

@@ -1,4 +1,4 @@
--- Which segments a journal has, and which records they and the queue hold (docs/FORMATS.md, "The segments of a journal").
+-- Which segments a journal has, and which records they and the queue hold (docs/formats/journal.md, "The segments of a journal").
 use Rattle.disk_face.specs.declared.names.TheConstants.{WAL_MAX, INDEX_MAX}
 use Rattle.std.specs.Prelude.{◌≡◌, ◌≢◌, ℕ, suc, ◌%◌, ◌==◌, ◌≤◌, min, max, Bool, List, [], ◌∷◌, ◌++◌, length, Some, Contains, map, IsTrue, if◌then◌else◌}
 use Rattle.std.specs.List.{AllByRecursion}

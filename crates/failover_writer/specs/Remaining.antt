@@ -1,4 +1,4 @@
--- A number that falls with each step that moves or waits, so that steps come to an end.
+-- A number that falls with each step that moves or waits, so that steps come to an end (docs/formats/journal.md, "The step of a journal").
 use Rattle.std.specs.Prelude.{ℕ, ◌+◌, ◌-◌, ◌*◌, ◌<◌, List, [], ◌∷◌, length, nat_lt, if◌then◌else◌, Result, IfOk, ◌≢◌}
 use Rattle.disk_face.specs.declared.Side.TheVariants.{Primary, Secondary}
 use Rattle.disk_face.specs.View.{DiskView}

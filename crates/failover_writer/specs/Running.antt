@@ -1,4 +1,4 @@
--- What the journal of a run leaves, and how it ends (docs/FORMATS.md, "The journal of a run").
+-- What the journal of a run leaves, and how it ends (docs/formats/program.md, "The journal of a run").
 use Rattle.std.specs.Prelude.{◌<◌, ◌≡◌, ◌≢◌, ◌≤◌, Bool, IsTrue, List, Some, [], is_some, length, ℕ}
 use Rattle.batch_repr.specs.declared.batch.Batch.{Batch}
 use Rattle.crc_chunk.specs.Chunk.{IsChunkOf}

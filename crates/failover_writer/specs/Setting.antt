@@ -1,4 +1,4 @@
--- What each call of a journal leaves as it was. The WAL, the number of the first record and the threshold never change.
+-- What each call of a journal leaves as it was (docs/formats/journal.md, "The journal"). The WAL, the number of the first record and the threshold never change.
 use Rattle.std.specs.Prelude.{◌≡◌}
 use Rattle.failover_writer.specs.State.{State, len}
 

@@ -1,4 +1,4 @@
--- What a journal states of itself, whatever was done with it: whoever gets one at hand knows so much.
+-- What a journal states of itself, whatever was done with it: whoever gets one at hand knows so much (docs/formats/journal.md, "The journal").
 use Rattle.std.specs.Prelude.{◌≡◌, ℕ, ◌+◌, ◌≤◌, cond, List, [], ◌∷◌, ◌++◌, length, Some, None, ◌≢◌}
 use Rattle.disk_face.specs.declared.Side.TheVariants.{Secondary}
 use Rattle.stall_monitor.specs.declared.verdict.TheConstants.{SEGMENTS_MAX, THRESHOLD_MAX}

@@ -1,4 +1,4 @@
--- What a journal means to contracts (docs/FORMATS.md, "The journal").
+-- What a journal means to contracts (docs/formats/journal.md, "The journal").
 use Rattle.std.specs.Prelude.{ℕ, ◌∷◌, max, Bool, true, false, List, [], Option, None, count_by}
 use Rattle.record_queue.specs.Queue.{Queue, queue_end}
 use Rattle.log_writer.specs.declared.phase.Phase.{Phase}

@@ -1,4 +1,4 @@
--- What one step of a journal does (docs/FORMATS.md, "The step of a journal").
+-- What one step of a journal does (docs/formats/journal.md, "The step of a journal").
 use Rattle.std.specs.Prelude.{◌≡◌, ◌⊎◌, ℕ, ◌+◌, ◌<◌, max, cond, List, [], ◌∷◌, ◌++◌, length, Option, Some, None, Result, Ok, Err, nat_lt}
 use Rattle.std.specs.List.{AllByRecursion}
 use Rattle.disk_face.specs.declared.Side.{Side}

@@ -1,4 +1,4 @@
--- What holds of each journal between its calls (docs/FORMATS.md, "What a stop leaves of a journal").
+-- What holds of each journal between its calls (docs/formats/journal.md, "What a stop leaves of a journal").
 use Rattle.batch_repr.specs.declared.limits.TheConstants.{NUMBER_FIRST}
 use Rattle.std.specs.Prelude.{◌≡◌, ◌<◌, ℕ, Bool, List, Some, IsTrue}
 use Rattle.crc_chunk.specs.Chunk.{IsChunkOf}

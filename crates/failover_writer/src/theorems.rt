@@ -1,4 +1,4 @@
-//! Laws of what a stop leaves of a journal (docs/FORMATS.md, "What a stop leaves of a journal").
+//! Laws of what a stop leaves of a journal (docs/formats/journal.md, "What a stop leaves of a journal").
 
 ghost use Rattle.failover_writer.specs.Ranges.{Stands};
 ghost use Rattle.failover_writer.specs.Sound.{IsSoundJournal};

@@ -1,4 +1,4 @@
--- What the two directories of a disk over files mean (docs/FORMATS.md, "The disk").
+-- What the two directories of a disk over files mean (docs/formats/disk.md, "The disk").
 use Rattle.std.specs.Prelude.{◌≡◌, ◌≢◌, ℕ, List, [], Option, Some, None, nat_eq, if◌then◌else◌}
 use Rattle.std.specs.Ordering.{nat_cmp}
 use Rattle.std.specs.BTreeMap.{get}

@@ -1,4 +1,4 @@
--- How a listing comes from the segments that were found in a directory (docs/FORMATS.md, "The disk").
+-- How a listing comes from the segments that were found in a directory (docs/formats/disk.md, "The disk").
 use Rattle.std.specs.Prelude.{◌≡◌, ◌⊎◌, ℕ, ◌+◌, ◌-◌, ◌<◌, List, [], ◌∷◌, ◌++◌, length, slice_index_or, All, Any, Contains}
 use Rattle.disk_face.specs.declared.SegName.{SegName}
 use Rattle.disk_face.specs.declared.Listed.{Listed}

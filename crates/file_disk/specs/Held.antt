@@ -1,4 +1,4 @@
--- Which file a directory holds open, and how an operation comes to its file (docs/FORMATS.md, "Segment names").
+-- Which file a directory holds open, and how an operation comes to its file (docs/formats/log.md, "Segment names").
 use Rattle.std.specs.Prelude.{◌≡◌, ℕ, List, Option, Some}
 use Rattle.std.specs.Io.KnownBytes.{Appends}
 use Rattle.disk_face.specs.declared.Side.{Side}

@@ -1,4 +1,4 @@
--- The directories from which a disk keeps others out (docs/FORMATS.md, "The disk").
+-- The directories from which a disk keeps others out (docs/formats/disk.md, "The disk").
 use Rattle.std.specs.Prelude.{◌≡◌, Option, Some}
 use Rattle.disk_face.specs.declared.Side.{Side}
 use Rattle.disk_face.specs.declared.Side.TheVariants.{Primary, Secondary}

@@ -1,4 +1,4 @@
--- Where the segments of each side stand (docs/FORMATS.md, "Segment names").
+-- Where the segments of each side stand (docs/formats/log.md, "Segment names").
 use Rattle.std.specs.Prelude.{ℕ, List, ◌++◌, codes}
 use Rattle.disk_face.specs.declared.Side.{Side}
 use Rattle.disk_face.specs.declared.Side.TheVariants.{Primary, Secondary}

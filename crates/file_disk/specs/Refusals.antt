@@ -1,4 +1,4 @@
--- What a refusal of the system does to the counts of a disk (docs/FORMATS.md, "The disk").
+-- What a refusal of the system does to the counts of a disk (docs/formats/disk.md, "The disk").
 use Rattle.std.specs.Prelude.{◌≡◌, ◌≢◌, Result, IsErr}
 use Rattle.wal_base.specs.Faults.{Rose, counted}
 use Rattle.disk_face.specs.declared.Side.{Side}

@@ -1,4 +1,4 @@
--- A disk over files, as contracts see it (docs/FORMATS.md, "The disk").
+-- A disk over files, as contracts see it (docs/formats/disk.md, "The disk").
 use Rattle.disk_face.specs.View.{DiskView}
 use Rattle.file_disk.specs.declared.file_disk.FileDisk.{FileDisk}
 use Rattle.file_disk.specs.Flights.{file_view}

@@ -1,4 +1,4 @@
--- What a writer that fits a disk knows of it, between its calls too (docs/FORMATS.md, "The writer of a segment").
+-- What a writer that fits a disk knows of it, between its calls too (docs/formats/journal.md, "The writer of a segment").
 use Rattle.crc_chunk.specs.declared.chunk.TheConstants.{BLOCK}
 use Rattle.std.specs.Prelude.{◌≡◌, ◌≢◌, ◌⊎◌, ℕ, ◌≤◌, ◌%◌, Bool, true, false, List, [], length, Option, Some, IsTrue}
 use Rattle.disk_face.specs.declared.OpId.{OpId}

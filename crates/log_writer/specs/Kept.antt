@@ -1,4 +1,4 @@
--- What a crash may leave of a segment (docs/FORMATS.md, "What a crash leaves of a segment").
+-- What a crash may leave of a segment (docs/formats/journal.md, "What a crash leaves of a segment").
 use Rattle.std.specs.Prelude.{◌≡◌, ℕ, ◌+◌, ◌-◌, ◌≤◌, Bool, true, false, List, length, map, take, drop, Option, Some, None}
 use Rattle.disk_face.specs.View.{Place, File, Files, Dirs}
 use Rattle.disk_face.specs.Image.{IsImage, IsChanceFree}

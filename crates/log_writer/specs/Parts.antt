@@ -1,4 +1,4 @@
--- The bytes of a segment (docs/FORMATS.md, "Framing").
+-- The bytes of a segment (docs/formats/log.md, "Framing").
 use Rattle.std.specs.Prelude.{ℕ, ◌-◌, List, map, take, drop}
 use Rattle.batch_repr.specs.declared.batch.Batch.{Batch}
 use Rattle.batch_repr.specs.Written.{written}

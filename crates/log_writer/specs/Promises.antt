@@ -1,4 +1,4 @@
--- What the calls of a writer promise, in words over its disk (docs/FORMATS.md, "The writer of a segment").
+-- What the calls of a writer promise, in words over its disk (docs/formats/journal.md, "The writer of a segment").
 use Rattle.std.specs.Prelude.{◌≡◌, ◌≢◌, ◌≤◌, ℕ, Bool, List, [], ◌∷◌, length, IsTrue}
 use Rattle.disk_face.specs.declared.Side.{Side}
 use Rattle.disk_face.specs.declared.SegName.{SegName}

@@ -1,4 +1,4 @@
--- What a start of an operation sends (docs/FORMATS.md, "The next operation of a segment").
+-- What a start of an operation sends (docs/formats/journal.md, "The next operation of a segment").
 use Rattle.crc_chunk.specs.declared.chunk.TheConstants.{BLOCK}
 use Rattle.std.specs.Prelude.{ℕ, ◌+◌, ◌-◌, ◌%◌, List, length}
 use Rattle.batch_repr.specs.declared.batch.Batch.{Batch}

@@ -1,4 +1,4 @@
--- What the calls of a writer start and answer (docs/FORMATS.md, "The next operation of a segment").
+-- What the calls of a writer start and answer (docs/formats/journal.md, "The next operation of a segment").
 use Rattle.std.specs.Prelude.{◌≡◌, ◌≢◌, ℕ, ◌+◌, ◌≤◌, min, Bool, true, false, not, ◌&&◌, List, [], ◌∷◌, length, drop, nat_lt, if◌then◌else◌, Option, Some, None}
 use Rattle.disk_face.specs.declared.Side.{Side}
 use Rattle.disk_face.specs.declared.OpId.{OpId}

@@ -1,4 +1,4 @@
--- Laws of a writer that fits a disk, each as one statement (docs/FORMATS.md, "The writer of a segment").
+-- Laws of a writer that fits a disk, each as one statement (docs/formats/journal.md, "The writer of a segment").
 use Rattle.std.specs.Prelude.{◌≤◌, ◌++◌, ℕ, Bool, List, IsTrue}
 use Rattle.disk_face.specs.declared.Side.{Side}
 use Rattle.disk_face.specs.declared.SegName.{SegName}

@@ -1,4 +1,4 @@
--- What the writer of a segment means to contracts (docs/FORMATS.md, "The writer of a segment").
+-- What the writer of a segment means to contracts (docs/formats/journal.md, "The writer of a segment").
 use Rattle.std.specs.Prelude.{ℕ}
 use Rattle.disk_face.specs.declared.Side.{Side}
 use Rattle.disk_face.specs.declared.SegName.{SegName}

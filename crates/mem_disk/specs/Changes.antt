@@ -1,4 +1,4 @@
--- What one step does to the files that a disk in memory holds (docs/FORMATS.md, "The disk").
+-- What one step does to the files that a disk in memory holds (docs/formats/disk.md, "The disk").
 use Rattle.std.specs.Prelude.{◌≡◌, ℕ, Bool, List, Some, IsTrue}
 use Rattle.disk_face.specs.declared.Side.{Side}
 use Rattle.disk_face.specs.declared.SegName.{SegName}

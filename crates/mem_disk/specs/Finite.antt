@@ -1,4 +1,4 @@
--- The laws of a disk in memory (docs/FORMATS.md, "The disk"): it has no more files than its list, and each is sound.
+-- The laws of a disk in memory (docs/formats/disk.md, "The disk"): it has no more files than its list, and each is sound.
 use Rattle.std.proofs.Common.{◌≡◌, ◌==◌, ◌&&◌, ℕ, suc, Bool, true, false, cond, List, [], ◌∷◌, length, sym, refl, subst, Option, Some, None, arith, drop, take, append-nil, ◌∙◌}
 use Rattle.std.specs.Prelude.{IsSome, Contains, if◌then◌else◌}
 use Rattle.disk_face.specs.declared.Side.{Side}

@@ -1,4 +1,4 @@
--- What a crash leaves of the files of a disk in memory (docs/FORMATS.md, "Images").
+-- What a crash leaves of the files of a disk in memory (docs/formats/disk.md, "Images").
 use Rattle.std.specs.Prelude.{◌≡◌, List, [], ◌∷◌, ◌++◌, Option, Some, IfSome, option_map}
 use Rattle.std.specs.Option.{option_to_list}
 use Rattle.disk_face.specs.View.{segment}

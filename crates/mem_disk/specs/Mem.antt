@@ -1,4 +1,4 @@
--- What the fields of a disk in memory stand for (docs/FORMATS.md, "The disk").
+-- What the fields of a disk in memory stand for (docs/formats/disk.md, "The disk").
 use Rattle.disk_face.specs.declared.names.TheConstants.{WAL_MAX, INDEX_MAX}
 use Rattle.std.specs.Prelude.{◌≡◌, ◌≢◌, ℕ, suc, ◌==◌, ◌&&◌, ◌||◌, not, nat_lt, nat_le, Bool, true, false, if◌then◌else◌, List, [], ◌∷◌, take, drop, length, slice_get, Option, Some, None, option_map, ◌<◌, slice_index_or, slice_set, insert, ◌++◌}
 use Rattle.disk_face.specs.declared.Side.{Side}

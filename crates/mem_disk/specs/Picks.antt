@@ -1,4 +1,4 @@
--- What a pick names of the images of the files (docs/FORMATS.md, "Images").
+-- What a pick names of the images of the files (docs/formats/disk.md, "Images").
 use Rattle.std.specs.Prelude.{◌≡◌, ◌↔◌, ℕ, Bool, IsTrue, List, [], ◌++◌, take, Option, Some, None, option_map, option_and_then, unwrap_or, if◌then◌else◌}
 use Rattle.std.specs.List.{find}
 use Rattle.disk_face.specs.View.{Place, File, Files, Dirs}

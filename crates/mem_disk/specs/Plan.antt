@@ -1,4 +1,4 @@
--- What is to fail on a disk in memory, and how far its counts are (docs/FORMATS.md, "The disk").
+-- What is to fail on a disk in memory, and how far its counts are (docs/formats/disk.md, "The disk").
 use Rattle.std.specs.Prelude.{◌≡◌, ℕ, ◌+◌, ◌-◌, ◌^◌, ◌<◌, min, List, [], ◌∷◌, ◌++◌, Contains}
 use Rattle.disk_face.specs.declared.OpId.{OpId}
 use Rattle.disk_face.specs.declared.Progress.{Progress}

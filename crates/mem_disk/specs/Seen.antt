@@ -1,4 +1,4 @@
--- A disk in memory, as contracts see it (docs/FORMATS.md, "The disk").
+-- A disk in memory, as contracts see it (docs/formats/disk.md, "The disk").
 use Rattle.std.specs.Prelude.{◌≡◌, ℕ, List, length, Some, None}
 use Rattle.disk_face.specs.declared.Side.{Side}
 use Rattle.disk_face.specs.declared.SegName.{SegName}

@@ -1,4 +1,4 @@
--- When the chunks of an image were sent (docs/FORMATS.md, "Images").
+-- When the chunks of an image were sent (docs/formats/disk.md, "Images").
 use Rattle.std.specs.Prelude.{◌≡◌, ℕ, List, [], ◌∷◌, take, drop, Some}
 use Rattle.disk_face.specs.View.{segment}
 use Rattle.disk_face.specs.Image.{log_of}

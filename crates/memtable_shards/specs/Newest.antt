@@ -1,4 +1,4 @@
--- The newer one of two newest versions, and the value that an answer tells (docs/FORMATS.md, "The shards").
+-- The newer one of two newest versions, and the value that an answer tells (docs/formats/ring.md, "The shards").
 use Rattle.std.specs.Prelude.{ℕ, List, ◌++◌, Option, Some, None, option_map}
 use Rattle.arena_list.specs.declared.found.Found.{Found}
 use Rattle.arena_list.specs.declared.found.Found.TheVariants.{Nothing, Gone, Value}

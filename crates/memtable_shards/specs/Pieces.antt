@@ -1,4 +1,4 @@
--- A batch's versions in pieces, of which each is for one shard (docs/FORMATS.md, "The shards").
+-- A batch's versions in pieces, of which each is for one shard (docs/formats/ring.md, "The shards").
 use Rattle.std.specs.Prelude.{◌≡◌, ◌≢◌, ◌⊎◌, ◌↔◌, ℕ, ◌<◌, ◌≤◌, List, [], length, Option, Some, None, Contains, slice_get, unwrap_or}
 use Rattle.wal_base.specs.declared.entry.Entry.{Entry}
 use Rattle.batch_repr.specs.declared.batch.Batch.{Batch}

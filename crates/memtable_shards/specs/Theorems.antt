@@ -1,4 +1,4 @@
--- Laws of eight shards, each as one statement (docs/FORMATS.md, "The shards").
+-- Laws of eight shards, each as one statement (docs/formats/ring.md, "The shards").
 use Rattle.std.specs.Prelude.{◌≡◌, ℕ, ◌+◌, List, [], ◌∷◌, ◌++◌, length, take, Some, slice_get, slice_set}
 use Rattle.batch_repr.specs.declared.batch.Batch.{Batch}
 use Rattle.batch_repr.specs.Batches.{IsContiguous, end_after, answer}

@@ -1,4 +1,4 @@
--- The versions that batches leave, and the shards that hold them (docs/FORMATS.md, "The shards").
+-- The versions that batches leave, and the shards that hold them (docs/formats/ring.md, "The shards").
 use Rattle.std.specs.Prelude.{◌≡◌, ◌≢◌, ◌⊎◌, ℕ, ◌+◌, ◌<◌, ◌==◌, nat_lt, ◌%◌, Bool, List, [], ◌∷◌, length, Some, None, Contains, filter, slice_get, ◌↔◌}
 use Rattle.std.specs.List.{flat_map, sum}
 use Rattle.wal_base.specs.declared.entry.Entry.{Entry}

@@ -1,4 +1,4 @@
--- What one step of the machine answers.
+-- What one step of the machine answers (docs/formats/ring.md, "The events of the ring").
 use Rattle.std.specs.Prelude.{◌≡◌, ◌↔◌, Bool, IsTrue, IsFalse}
 use Rattle.publish_core.specs.declared.seat.BatchShape.{BatchShape}
 use Rattle.publish_core.specs.declared.machine.Core.{Core}

@@ -1,4 +1,4 @@
--- The events as a caller writes them.
+-- The events as a caller writes them (docs/formats/ring.md, "The events of the ring").
 use Rattle.publish_core.specs.declared.events.CoreEvent.{CoreEvent}
 use Rattle.publish_core.specs.declared.events.CoreEvent.TheVariants.{LoadSlot, Place, Admit, LoadEnds, Split, Join, Mark, Claim, EmptySlot, RaiseVisible, LoadVisible, RaiseAcked, LoadAcked, TakeShard, GiveShard}
 use Rattle.publish_core.specs.declared.seat.BatchShape.{BatchShape}

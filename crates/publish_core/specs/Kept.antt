@@ -1,4 +1,4 @@
--- What a kept machine stands for.
+-- What a kept machine stands for (docs/formats/ring.md, "The ring").
 use Rattle.std.specs.Prelude.{[], map, reverse, length, slice_index_or, vec_items}
 use Rattle.publish_core.specs.declared.seat.BatchShape.{BatchShape}
 use Rattle.publish_core.specs.declared.seat.SeatState.{SeatState}

@@ -1,4 +1,4 @@
--- What a seat brings about with the turn on a shard.
+-- What a seat brings about with the turn on a shard (docs/formats/ring.md, "The shards of the table").
 use Rattle.std.specs.Prelude.{◌≡◌, ℕ, IsTrue, ◌∷◌}
 use mathlib.Core.Option.{some}
 use lib.ListN.{get_elem?}

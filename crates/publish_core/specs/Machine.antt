@@ -1,4 +1,4 @@
--- The commit ring as a pure machine: its states, its events, when each is possible and what it changes.
+-- The commit ring as a pure machine: its states, its events, when each is possible and what it changes (docs/formats/ring.md, "The events of the ring").
 use Rattle.std.specs.Prelude.{◌≡◌, ◌≢◌, ◌⊎◌, ℕ, zero, suc, ◌+◌, ◌*◌, ◌%◌, ◌<◌, ◌≤◌, min, max, Bool, true, false, cond, ◌==◌, nat_lt, IsTrue, IsFalse, List, [], ◌∷◌, ◌++◌, length, Option, Some, None}
 use mathlib.Core.Option.{some}
 use lib.ListN.{get_elem?}

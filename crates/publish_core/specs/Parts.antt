@@ -1,4 +1,4 @@
--- A batch of the machine that is kept.
+-- A batch of the machine that is kept (docs/formats/ring.md, "The ring").
 use Rattle.std.specs.Prelude.{ℕ, ◌/◌, ◌%◌, ◌^◌, Bool, ◌==◌}
 use Rattle.publish_core.specs.declared.seat.BatchShape.{BatchShape}
 use Rattle.publish_core.specs.Machine.{CoreState, Event, Possible, after}

@@ -1,4 +1,4 @@
--- Every list of events from the opening state.
+-- Every list of events from the opening state (docs/formats/ring.md, "What holds of a ring").
 use Rattle.std.specs.Prelude.{◌≡◌, ◌⊎◌, ℕ, ◌+◌, ◌≤◌, Bool, cond, List, [], ◌∷◌, ◌++◌, length}
 use Rattle.publish_core.specs.declared.seat.Kind.TheVariants.{Producer}
 use Rattle.publish_core.specs.declared.seat.Stage.TheVariants.{Out}

@@ -1,4 +1,4 @@
--- How a seat's batches go over to another.
+-- How a seat's batches go over to another (docs/formats/ring.md, "The events of the ring").
 use Rattle.std.specs.Prelude.{◌≡◌, ◌⊎◌, ℕ, ◌==◌, cond, List, Option, Some, None, Vec}
 use Rattle.std.specs.declared.alloc.Global.{Global}
 use Rattle.publish_core.specs.declared.seat.BatchShape.{BatchShape}

@@ -1,4 +1,4 @@
--- What holds of every state that can be reached.
+-- What holds of every state that can be reached (docs/formats/ring.md, "What holds of a ring").
 use Rattle.std.specs.Prelude.{◌≡◌, ◌≢◌, ◌⊎◌, ℕ, suc, ◌+◌, ◌*◌, ◌%◌, ◌<◌, ◌≤◌, Bool, IsTrue, length, Some, None}
 use mathlib.Core.Option.{some}
 use lib.ListN.{get_elem?}

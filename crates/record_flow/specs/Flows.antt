@@ -1,4 +1,4 @@
--- The rule of the queue: what was popped is a prefix of what was pushed, and the rest is on its way.
+-- The rule of the queue: what was popped is a prefix of what was pushed, and the rest is on its way (docs/formats/ring.md, "The commit").
 use Rattle.std.specs.Prelude.{◌≡◌, ℕ, ◌<◌, ◌≤◌, true, List, ◌++◌, length, map, Option, Some}
 use mathlib.Core.Option.{some}
 use lib.ListN.{get_elem?}

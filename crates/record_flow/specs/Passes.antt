@@ -1,4 +1,4 @@
--- Which queue a pass is of, and what it knows.
+-- Which queue a pass is of, and what it knows (docs/formats/ring.md, "The commit").
 use Rattle.std.specs.Prelude.{◌≡◌, ℕ, List}
 use Rattle.atomic_blocks.specs.Laid.{WebId}
 use Rattle.record_flow.specs.declared.rule.FlowView.{FlowView}

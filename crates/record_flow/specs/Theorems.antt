@@ -1,4 +1,4 @@
--- What holds of the queue at any moment, in the words of its users.
+-- What holds of the queue at any moment, in the words of its users (docs/formats/ring.md, "The commit").
 use Rattle.std.specs.Prelude.{◌≡◌, ℕ, true, List, Option}
 use mathlib.Core.Option.{some}
 use lib.ListN.{get_elem?}

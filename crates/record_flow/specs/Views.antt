@@ -1,4 +1,4 @@
--- What a pass of the queue knows: whether it pushes and pops, the number of the first record, and what it moved.
+-- What a pass of the queue knows: whether it pushes and pops, the number of the first record, and what it moved (docs/formats/ring.md, "The commit").
 use Rattle.std.specs.Prelude.{ℕ, Bool, true, false, List, [], ◌∷◌, ◌++◌, map}
 use Rattle.batch_repr.specs.declared.batch.Batch.{Batch}
 use Rattle.record_queue.specs.declared.node.Filled.{Filled}

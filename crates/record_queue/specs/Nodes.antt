@@ -1,4 +1,4 @@
--- What nodes hold: each is filled with a record and whether it is to be synced, or it is empty.
+-- What nodes hold: each is filled with a record and whether it is to be synced, or it is empty (docs/formats/journal.md, "The queue of records").
 use Rattle.std.specs.Prelude.{◌≡◌, List, [], ◌∷◌, length, Option, Some, None}
 use Rattle.batch_repr.specs.declared.batch.Batch.{Batch}
 use Rattle.record_queue.specs.declared.node.Filled.{Filled}

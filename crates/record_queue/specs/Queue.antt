@@ -1,4 +1,4 @@
--- What the queue of a run's records holds (docs/FORMATS.md, "The queue of records").
+-- What the queue of a run's records holds (docs/formats/journal.md, "The queue of records").
 use Rattle.std.specs.Prelude.{◌≡◌, ℕ, ◌+◌, ◌-◌, ◌^◌, ◌≤◌, ◌<◌, List, length, Some, slice_get}
 use Rattle.batch_repr.specs.declared.batch.Batch.{Batch}
 

@@ -1,4 +1,4 @@
--- What placing a batch leaves of a session's seat.
+-- What placing a batch leaves of a session's seat (docs/formats/ring.md, "The ring").
 use Rattle.std.specs.Prelude.{◌≡◌, [], None}
 use Rattle.atomic_table.specs.Seated.{TableId}
 use Rattle.commit_queue.specs.declared.seats.SessionSeat.{SessionSeat}

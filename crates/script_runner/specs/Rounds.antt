@@ -1,4 +1,4 @@
--- How rounds are played over a pipeline, one after another (docs/FORMATS.md, "The run of a script").
+-- How rounds are played over a pipeline, one after another (docs/formats/program.md, "The run of a script").
 use Rattle.std.specs.Prelude.{◌≡◌, ◌⊎◌, List, [], IsTrue}
 use Rattle.std.specs.List.{AllByRecursion}
 use Rattle.session_script.specs.declared.script.Line.{Line}

@@ -1,4 +1,4 @@
--- What a whole run over a disk comes to (docs/FORMATS.md, "The run of a script", "The generated load").
+-- What a whole run over a disk comes to (docs/formats/program.md, "The run of a script" and "The generated load").
 use Rattle.std.specs.Prelude.{◌≡◌, ◌≢◌, ◌⊎◌, ◌++◌, ◌-◌, ℕ, ◌<◌, ◌≤◌, Bool, true, false, List, [], ◌∷◌, length, Contains, None, IsTrue, is_some}
 use Rattle.std.specs.List.{AllByRecursion, list_any}
 use Rattle.batch_repr.specs.declared.batch.Batch.{Batch}

@@ -1,4 +1,4 @@
--- What a run has said so far (docs/FORMATS.md, "The replies").
+-- What a run has said so far (docs/formats/program.md, "The text of a replay").
 use Rattle.std.specs.Prelude.{◌≡◌, ◌++◌, ◌||◌, ℕ, Bool, false, List, [], Option, Some, None}
 use Rattle.std.specs.List.{flat_map, list_any}
 use Rattle.session_script.specs.declared.replies.Said.{Said}

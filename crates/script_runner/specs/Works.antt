@@ -1,4 +1,4 @@
--- What is run, and what comes of it over a pipeline (docs/FORMATS.md, "The run of a script", "The generated load").
+-- What is run, and what comes of it over a pipeline (docs/formats/program.md, "The run of a script" and "The generated load").
 use Rattle.std.specs.Prelude.{◌≡◌, ◌++◌, ℕ, Bool, false, List, Contains}
 use Rattle.batch_repr.specs.declared.batch.Batch.{Batch}
 use Rattle.commit_queue.specs.Rule.{IsPrefix}

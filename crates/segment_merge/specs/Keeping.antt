@@ -1,4 +1,4 @@
--- What a merge has kept so far (docs/FORMATS.md, "Merging").
+-- What a merge has kept so far (docs/formats/journal.md, "Merging").
 use Rattle.std.specs.Prelude.{ℕ, ◌≤◌, List}
 use Rattle.batch_repr.specs.declared.batch.Batch.{Batch}
 use Rattle.batch_repr.specs.Batches.{end_after}

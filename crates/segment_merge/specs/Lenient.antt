@@ -1,4 +1,4 @@
--- Merging that accepts gaps (docs/FORMATS.md, "Merging").
+-- Merging that accepts gaps (docs/formats/journal.md, "Merging").
 use Rattle.std.specs.Prelude.{◌≡◌, ℕ, ◌≤◌, ◌⊎◌, ◌↔◌, List, ◌∷◌, ◌++◌, Contains}
 use Rattle.batch_repr.specs.declared.batch.Batch.{Batch}
 use Rattle.batch_repr.specs.Batches.{end_of}

@@ -1,4 +1,4 @@
--- What the segments of a WAL give once they are merged (docs/FORMATS.md, "Merging").
+-- What the segments of a WAL give once they are merged (docs/formats/journal.md, "Merging").
 use Rattle.std.specs.Prelude.{ℕ, ◌<◌, ◌≤◌, ◌↔◌, max, List, [], ◌∷◌, Contains}
 use Rattle.std.specs.List.{flat_map}
 use Rattle.batch_repr.specs.declared.batch.Batch.{Batch}

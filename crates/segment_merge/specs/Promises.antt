@@ -1,4 +1,4 @@
--- What the calls of a merge promise, whatever was merged before (docs/FORMATS.md, "Merging").
+-- What the calls of a merge promise, whatever was merged before (docs/formats/journal.md, "Merging").
 use Rattle.std.specs.Prelude.{ℕ, List, ◌++◌, Result, IfOk, IfErr, Contains}
 use Rattle.batch_repr.specs.declared.batch.Batch.{Batch}
 use Rattle.segment_merge.specs.declared.segment.SegmentRead.{SegmentRead}

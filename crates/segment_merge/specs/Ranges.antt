@@ -1,4 +1,4 @@
--- Segments that hold parts of one list of records, and which parts a crash leaves (docs/FORMATS.md, "Merging").
+-- Segments that hold parts of one list of records, and which parts a crash leaves (docs/formats/journal.md, "Merging").
 use Rattle.std.specs.Prelude.{ℕ, ◌-◌, ◌≤◌, max, List, [], ◌∷◌, take, drop}
 use Rattle.batch_repr.specs.declared.batch.Batch.{Batch}
 

@@ -1,4 +1,4 @@
--- Where a row of segments is refused: at the first batch after which the row, cut there, has no merged list (docs/FORMATS.md, "Merging").
+-- Where a row of segments is refused: at the first batch after which the row, cut there, has no merged list (docs/formats/journal.md, "Merging").
 use Rattle.std.specs.Prelude.{◌≡◌, ℕ, ◌<◌, ◌≤◌, List, [], ◌∷◌, ◌++◌}
 use Rattle.batch_repr.specs.declared.batch.Batch.{Batch}
 use Rattle.batch_repr.specs.Batches.{end_after}

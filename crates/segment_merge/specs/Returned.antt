@@ -1,4 +1,4 @@
--- What a merge answers, where out of memory may take the place of any answer (docs/FORMATS.md, "Merging").
+-- What a merge answers, where out of memory may take the place of any answer (docs/formats/journal.md, "Merging").
 use Rattle.std.specs.Prelude.{◌≡◌, List, Result, Ok, Err}
 use Rattle.batch_repr.specs.declared.batch.Batch.{Batch}
 use Rattle.segment_merge.specs.declared.fault.MergeFault.{MergeFault}

@@ -1,4 +1,4 @@
--- Rows of segments (docs/FORMATS.md, "Merging").
+-- Rows of segments (docs/formats/journal.md, "Merging").
 use Rattle.std.specs.Prelude.{◌≤◌, ◌<◌, List, length, map, All}
 use Rattle.std.specs.List.{AllAdjacentBelow}
 use Rattle.batch_repr.specs.declared.batch.Batch.{Batch}

@@ -1,4 +1,4 @@
--- What one step of the pass does (docs/FORMATS.md, "Merging").
+-- What one step of the pass does (docs/formats/journal.md, "Merging").
 use Rattle.std.specs.Prelude.{◌≡◌, ◌≢◌, ◌⊎◌, ℕ, ◌≤◌, ◌<◌, ◌↔◌, Bool, true, false, List, [], ◌∷◌, ◌++◌, Result, Ok, Err, Contains}
 use Rattle.batch_repr.specs.declared.batch.Batch.{Batch}
 use Rattle.batch_repr.specs.Batches.{end_of, end_after}

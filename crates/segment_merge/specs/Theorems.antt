@@ -1,4 +1,4 @@
--- Laws of merging, each as one statement (docs/FORMATS.md, "Merging").
+-- Laws of merging, each as one statement (docs/formats/journal.md, "Merging").
 use Rattle.std.specs.Prelude.{◌≡◌, ℕ, List}
 use Rattle.batch_repr.specs.declared.batch.Batch.{Batch}
 use Rattle.segment_merge.specs.declared.segment.SegmentRead.{SegmentRead}

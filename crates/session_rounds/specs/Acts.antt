@@ -1,4 +1,4 @@
--- What the lines of a session do to it (docs/FORMATS.md, "The run of a script").
+-- What the lines of a session do to it (docs/formats/program.md, "The run of a script").
 use Rattle.std.specs.Prelude.{◌≡◌, ◌⊎◌, ℕ, ◌+◌, List, [], ◌∷◌, length, IsTrue}
 use Rattle.batch_repr.specs.declared.limits.TheConstants.{BATCHES_MAX}
 use Rattle.session_script.specs.declared.script.Act.{Act}

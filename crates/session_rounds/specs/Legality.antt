@@ -1,4 +1,4 @@
--- The laws of rounds that sessions play beside one another (docs/FORMATS.md, "Which replies are legal").
+-- The laws of rounds that sessions play beside one another (docs/formats/program.md, "Which replies are legal").
 use Rattle.std.specs.Prelude.{◌≢◌, ◌≡◌, ℕ, ◌<◌, Bool, true, List, length, None, Some, IsTrue, Contains, slice_get}
 use Rattle.std.specs.List.{AllByRecursion}
 use Rattle.batch_repr.specs.declared.batch.Batch.{Batch}

@@ -1,4 +1,4 @@
--- How rounds are played by sessions beside one another (docs/FORMATS.md, "The run of a script").
+-- How rounds are played by sessions beside one another (docs/formats/program.md, "The run of a script").
 use Rattle.std.specs.Prelude.{◌≡◌, ℕ, List, [], ◌∷◌, length, map, Some, slice_get}
 use Rattle.session_script.specs.declared.script.Line.{Line}
 use Rattle.session_script.specs.declared.script.Round.{Round}

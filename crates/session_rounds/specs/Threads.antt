@@ -1,4 +1,4 @@
--- How turns are shared out among threads: two parts are played beside one another where both have work to do.
+-- How turns are shared out among threads: two parts are played beside one another where both have work to do (docs/formats/program.md, "The run of a script").
 use Rattle.std.specs.Prelude.{◌≡◌, ℕ, ◌/◌, ◌<◌, ◌≤◌, Bool, List, length, take, drop, slice_index_or}
 use Rattle.std.specs.List.{count_by}
 use denote.Ref.{MutBor}

@@ -1,4 +1,4 @@
--- The turns of the sessions in a round: the session, its lines that are still to do, and what was answered so far.
+-- The turns of the sessions in a round: the session, its lines that are still to do, and what was answered so far (docs/formats/program.md, "The run of a script").
 use Rattle.std.specs.Prelude.{◌≡◌, ℕ, ◌<◌, Bool, false, ltb, List, [], ◌∷◌, ◌++◌, length, map, Some, slice_get, slice_index, slice_index_or}
 use Rattle.std.specs.List.{AllByRecursion, flat_map}
 use Rattle.session_script.specs.declared.script.Line.{Line}

@@ -1,4 +1,4 @@
--- What applying a piece and reading a key ask and tell (docs/FORMATS.md, "The shards of the table").
+-- What applying a piece and reading a key ask and tell (docs/formats/ring.md, "The shards of the table").
 use Rattle.std.specs.Prelude.{◌≡◌, ℕ, ◌<◌, List, ◌∷◌, Option, Some, IsTrue}
 use mathlib.Core.Option.{some}
 use lib.ListN.{get_elem?}

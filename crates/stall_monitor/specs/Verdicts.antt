@@ -1,4 +1,4 @@
--- When a log begins its next segment, and when it gives up (docs/FORMATS.md, "The verdict on a segment").
+-- When a log begins its next segment, and when it gives up (docs/formats/journal.md, "The verdict on a segment").
 use Rattle.std.specs.Prelude.{◌≡◌, ◌⊎◌, ◌<◌, ◌≤◌, true}
 use Rattle.stall_monitor.specs.declared.verdict.MonitorView.{MonitorView}
 use Rattle.stall_monitor.specs.declared.verdict.TheConstants.{SEGMENTS_MAX}

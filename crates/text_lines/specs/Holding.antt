@@ -1,4 +1,4 @@
--- What is held while a store is printed: each key that has a value, with it, both borrowed from the batches.
+-- What is held while a store is printed: each key that has a value, with it, both borrowed from the batches (docs/formats/program.md, "The text of a store").
 use Rattle.std.specs.Prelude.{ℕ, List, cond, Option, option_map}
 use Rattle.std.specs.Borrow.{Bor}
 use Rattle.std.specs.Ordering.{nat_cmp}

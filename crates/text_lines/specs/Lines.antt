@@ -1,4 +1,4 @@
--- The lines that show what the log holds (docs/FORMATS.md, "The text of a dump").
+-- The lines that show what the log holds (docs/formats/program.md, "The text of a dump").
 use Rattle.std.specs.Prelude.{ℕ, Bool, true, false, List, [], ◌∷◌, ◌++◌, codes}
 use Rattle.std.specs.List.{flat_map}
 use Rattle.std.specs.Fmt.{decimal}

@@ -1,4 +1,4 @@
--- Pieces of a line (docs/FORMATS.md, "Printed bytes").
+-- Pieces of a line (docs/formats/program.md, "Printed bytes").
 use Rattle.std.specs.Prelude.{List, ℕ}
 use Rattle.std.specs.List.{flat_map}
 use Rattle.std.specs.Fmt.{decimal}

@@ -1,4 +1,4 @@
--- How bytes are printed (docs/FORMATS.md, "Printed bytes").
+-- How bytes are printed (docs/formats/program.md, "Printed bytes").
 use Rattle.std.specs.Prelude.{ℕ, ◌+◌, ◌/◌, ◌%◌, ◌&&◌, not, ◌==◌, List, [], ◌∷◌, nat_le, nat_lt, if◌then◌else◌}
 use Rattle.std.specs.List.{flat_map}
 

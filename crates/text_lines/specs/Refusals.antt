@@ -1,4 +1,4 @@
--- The lines that name why directories are refused (docs/FORMATS.md, "Refused directories").
+-- The lines that name why directories are refused (docs/formats/program.md, "Refused directories").
 use Rattle.std.specs.Prelude.{ℕ, List, [], ◌∷◌, ◌++◌, codes}
 use Rattle.std.specs.Fmt.{decimal}
 use Rattle.batch_repr.specs.declared.fault.BatchFault.{BatchFault}

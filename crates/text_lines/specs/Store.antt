@@ -1,4 +1,4 @@
--- The store that batches leave, as it is printed (docs/FORMATS.md, "The text of a store").
+-- The store that batches leave, as it is printed (docs/formats/program.md, "The text of a store").
 use Rattle.std.specs.Prelude.{◌≡◌, ◌↔◌, ℕ, List, [], ◌∷◌, ◌++◌, length, codes, Some, Contains}
 use Rattle.std.specs.List.{flat_map}
 use Rattle.std.specs.Ordering.{nat_cmp}

@@ -1,4 +1,4 @@
--- Counts of faults, and what may be answered by them (docs/FORMATS.md, "Counts of faults").
+-- Counts of faults, and what may be answered by them (docs/formats/disk.md, "Counts of faults").
 use Rattle.std.specs.Prelude.{◌≡◌, ℕ, ◌+◌, ◌-◌, ◌^◌, ◌≤◌, min}
 
 -- where a count stops

@@ -1,4 +1,4 @@
--- What the streams in memory are seen as (docs/FORMATS.md, "Sources and sinks").
+-- What the streams in memory are seen as (docs/formats/disk.md, "Sources and sinks").
 use Rattle.std.specs.Prelude.{ℕ, List, [], ◌++◌, drop, Option, None}
 use Rattle.wal_base.specs.Faults.{counted}
 

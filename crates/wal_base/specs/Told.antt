@@ -1,4 +1,4 @@
--- What a stream tells: bytes in front of or after what is told (docs/FORMATS.md, "Sources and sinks").
+-- What a stream tells: bytes in front of or after what is told (docs/formats/disk.md, "Sources and sinks").
 -- A stream that tells nothing goes on telling nothing.
 use Rattle.std.specs.Prelude.{◌≡◌, ◌<◌, ℕ, List, [], ◌++◌, length, take, Option, Some, None, IfSome}
 

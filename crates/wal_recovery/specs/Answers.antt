@@ -1,4 +1,4 @@
--- What recovery answers, by its mode. A fault of the disk or out of memory may take the place of any answer (docs/FORMATS.md, "Recovery").
+-- What recovery answers, by its mode. A fault of the disk or out of memory may take the place of any answer (docs/formats/journal.md, "Recovery").
 use Rattle.std.specs.Prelude.{◌≡◌, List, Result, Ok, Err}
 use Rattle.batch_repr.specs.declared.batch.Batch.{Batch}
 use Rattle.wal_base.specs.Faults.{Rose}

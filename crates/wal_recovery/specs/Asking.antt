@@ -1,4 +1,4 @@
--- What recovery asks of the disk, in listings and in bytes (docs/FORMATS.md, "Recovery").
+-- What recovery asks of the disk, in listings and in bytes (docs/formats/journal.md, "Recovery").
 use Rattle.std.specs.Prelude.{◌≡◌, ℕ, ◌≤◌, ◌&&◌, if◌then◌else◌, List, [], ◌∷◌, ◌++◌, sum_by, Result, Ok, Err}
 use Rattle.std.specs.List.{flat_map}
 use Rattle.disk_face.specs.declared.Side.{Side}

@@ -1,4 +1,4 @@
--- What decoding the records of a segment answers (docs/FORMATS.md, "Recovery").
+-- What decoding the records of a segment answers (docs/formats/journal.md, "Recovery").
 use Rattle.std.specs.Prelude.{◌≡◌, ℕ}
 use Rattle.batch_repr.specs.declared.fault.BatchFault.{BatchFault}
 use Rattle.batch_repr.specs.Reading.{IsFirstFault}

@@ -1,4 +1,4 @@
--- What recovery gathers while it reads segments one after another (docs/FORMATS.md, "Recovery").
+-- What recovery gathers while it reads segments one after another (docs/formats/journal.md, "Recovery").
 use Rattle.std.specs.Prelude.{◌≡◌, ℕ, Bool, List, [], ◌∷◌, ◌++◌, length, map, All, IsTrue}
 use Rattle.std.specs.List.{AllZip}
 use Rattle.batch_repr.specs.declared.batch.Batch.{Batch}

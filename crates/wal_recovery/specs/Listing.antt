@@ -1,4 +1,4 @@
--- The two directories as rows of segments: the WALs in ascending order, each with its segments by index (docs/FORMATS.md, "Recovery").
+-- The two directories as rows of segments: the WALs in ascending order, each with its segments by index (docs/formats/journal.md, "Recovery").
 use Rattle.std.specs.Prelude.{◌≡◌, ◌≢◌, ◌↔◌, ◌⊎◌, ℕ, suc, ◌≤◌, ◌<◌, List, [], ◌∷◌, Some, Contains}
 use Rattle.disk_face.specs.declared.Side.{Side}
 use Rattle.disk_face.specs.declared.Side.TheVariants.{Primary, Secondary}

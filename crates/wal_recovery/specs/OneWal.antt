@@ -1,4 +1,4 @@
--- One WAL as it is read and merged, from the end of those before it (docs/FORMATS.md, "Recovery").
+-- One WAL as it is read and merged, from the end of those before it (docs/formats/journal.md, "Recovery").
 use Rattle.std.specs.Prelude.{◌≡◌, ℕ, List, ◌++◌}
 use Rattle.disk_face.specs.Image.{log_number}
 use Rattle.batch_repr.specs.declared.batch.Batch.{Batch}

@@ -1,4 +1,4 @@
--- What recovery promises of the files of a disk, where it tells them, and of the disk (docs/FORMATS.md, "Recovery").
+-- What recovery promises of the files of a disk, where it tells them, and of the disk (docs/formats/journal.md, "Recovery").
 use Rattle.batch_repr.specs.declared.limits.TheConstants.{NUMBER_FIRST}
 use Rattle.std.specs.Prelude.{◌≡◌, ℕ, ◌≤◌, Bool, List, [], ◌∷◌, length, take, map, All, Result, IfErr, IsTrue}
 use Rattle.batch_repr.specs.declared.batch.Batch.{Batch}

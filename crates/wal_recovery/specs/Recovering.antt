@@ -1,4 +1,4 @@
--- What the directories recover to (docs/FORMATS.md, "Recovery").
+-- What the directories recover to (docs/formats/journal.md, "Recovery").
 use Rattle.batch_repr.specs.declared.limits.TheConstants.{NUMBER_FIRST}
 use Rattle.std.specs.Prelude.{◌≡◌, ℕ, Bool, List, [], ◌∷◌, ◌++◌, nat_lt}
 use Rattle.std.specs.List.{filter, AllZip}

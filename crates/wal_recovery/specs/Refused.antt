@@ -1,4 +1,4 @@
--- Why the directories are refused, in the order in which it is looked for (docs/FORMATS.md, "Recovery").
+-- Why the directories are refused, in the order in which it is looked for (docs/formats/journal.md, "Recovery").
 use Rattle.batch_repr.specs.declared.limits.TheConstants.{NUMBER_FIRST}
 use Rattle.std.specs.Prelude.{◌≡◌, ℕ, ◌++◌, Bool, List, [], ◌∷◌}
 use Rattle.std.specs.List.{flat_map}

@@ -1,4 +1,4 @@
--- What recovery reports of each segment (docs/FORMATS.md, "Recovery").
+-- What recovery reports of each segment (docs/formats/journal.md, "Recovery").
 use Rattle.std.specs.Prelude.{◌≡◌, ℕ, List, [], ◌∷◌, ◌++◌, length}
 use Rattle.std.specs.List.{AllZip}
 use Rattle.disk_face.specs.Image.{log_number}

@@ -1,4 +1,4 @@
--- Files that are stable in full, and images that a change of files adds nothing to (docs/FORMATS.md, "Recovery").
+-- Files that are stable in full, and images that a change of files adds nothing to (docs/formats/journal.md, "Recovery").
 use Rattle.std.specs.Prelude.{◌≡◌, ◌⊎◌, Bool, true, false, length, Option, Some}
 use Rattle.disk_face.specs.declared.Side.{Side}
 use Rattle.disk_face.specs.declared.SegName.{SegName}

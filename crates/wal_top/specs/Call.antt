@@ -1,4 +1,4 @@
--- What a run has to go by: its words, its source and its disk.
+-- What a run has to go by: its words, its source and its disk (docs/formats/program.md, "Commands").
 use Rattle.std.specs.Prelude.{◌≡◌, ℕ, Bool, List, Option}
 use Rattle.wal_base.specs.Faults.{Rose}
 use Rattle.disk_face.specs.declared.Side.{Side}

@@ -1,4 +1,4 @@
--- What a run has to say, by its status (docs/FORMATS.md, "Statuses").
+-- What a run has to say, by its status (docs/formats/program.md, "Statuses").
 use Rattle.batch_repr.specs.declared.limits.TheConstants.{NUMBER_FIRST}
 use Rattle.std.specs.Prelude.{◌≡◌, ℕ, ◌<◌, Bool, false, IsTrue, List, ◌++◌, length, Option}
 use Rattle.wal_base.specs.Faults.{Rose}

@@ -1,4 +1,4 @@
--- The texts that are said (docs/FORMATS.md, "Statuses", "The text of a dump", "Refused directories", "The generated load").
+-- The texts that are said (docs/formats/program.md, "Statuses", "The text of a dump", "Refused directories" and "The generated load").
 use Rattle.std.specs.Prelude.{ℕ, ◌-◌, Bool, true, false, List, [], ◌∷◌, ◌++◌, length, codes}
 use Rattle.std.specs.List.{flat_map}
 use Rattle.std.specs.Fmt.{decimal}

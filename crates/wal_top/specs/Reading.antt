@@ -1,4 +1,4 @@
--- What a run takes of its source (docs/FORMATS.md, "The script").
+-- What a run takes of its source (docs/formats/program.md, "The script").
 use Rattle.std.specs.Prelude.{◌≡◌, ℕ, ◌<◌, ◌≤◌, List, [], ◌++◌, length, Option, Some, IfSome}
 use Rattle.wal_base.specs.Told.{told_front}
 use Rattle.wal_top.specs.declared.reading.TheConstants.{SCRIPT_MAX}

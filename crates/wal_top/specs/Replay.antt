@@ -1,4 +1,4 @@
--- How a run ends whose work was done (docs/FORMATS.md, "Statuses"). Nothing of it is seen from outside.
+-- How a run ends whose work was done (docs/formats/program.md, "Statuses"). Nothing of it is seen from outside.
 use Rattle.std.specs.Prelude.{◌≡◌, ℕ, Bool, true, false, List}
 use Rattle.script_runner.specs.declared.run.Outcome.{Outcome}
 use Rattle.command_line.specs.declared.command.Command.{Command}

@@ -1,4 +1,4 @@
--- A run, and all that it promises by its status (docs/FORMATS.md, "Statuses").
+-- A run, and all that it promises by its status (docs/formats/program.md, "Statuses").
 use Rattle.disk_face.specs.Image.{directories}
 use Rattle.std.specs.Prelude.{◌≡◌, ◌⊎◌, ℕ, ◌+◌, ◌<◌, ◌≤◌, Bool, IsTrue, List, ◌++◌, Option}
 use Rattle.wal_base.specs.Told.{told_back}

@@ -1,4 +1,4 @@
--- The exit status of the program (docs/FORMATS.md, "Statuses").
+-- The exit status of the program (docs/formats/program.md, "Statuses").
 use Rattle.std.specs.Prelude.{ℕ}
 use Rattle.wal_top.specs.declared.status.Status.{Status}
 use Rattle.wal_top.specs.declared.status.Status.TheVariants.{Done, Usage, Script, Read, Write, Disk, Refused, NoMemory, Limit}

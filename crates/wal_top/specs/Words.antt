@@ -1,4 +1,4 @@
--- What the commands do, by their words (docs/FORMATS.md, "Commands").
+-- What the commands do, by their words (docs/formats/program.md, "Commands").
 use Rattle.std.specs.Prelude.{◌⊎◌, ℕ, List}
 use Rattle.command_line.specs.declared.command.Command.{Command}
 use Rattle.command_line.specs.Commands.{AsksToReplay, AsksToRecover, AsksToDump, AsksToLoad, IsCommandOf}
