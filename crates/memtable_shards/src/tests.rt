@@ -2,8 +2,8 @@ ghost use Rattle.std.specs.Prelude.{◌≡◌, ◌<◌, [], length};
 ghost use Rattle.memtable_shards.specs.Parts.{AreByShard};
 
 use crate::{Found, SHARDS, Shard, shard_index, split, split_entries};
-use arena_list::Version;
-use batch_repr::{BatchBuilder, Unnumbered};
+use arena_list::ArenaList;
+use batch_repr::{BatchBuilder, BuildFault, Unnumbered};
 use std::alloc::Global;
 use std::collections::BTreeMap;
 use std::marker::Model;
@@ -74,9 +74,13 @@ impl Rig {
         Ok(())
     }
 
+    /// The shard of a key.
+    fn shard(&self, key: &[u8]) -> &Shard {
+        &self.shards[shard_index(key)]
+    }
+
     fn read(&self, key: &[u8], below: u64) -> Found<'_> {
-        let shard = &self.shards[shard_index(key)];
-        shard.newest(key, below)
+        self.shard(key).newest(key, below)
     }
 }
 
@@ -88,15 +92,19 @@ enum Change<'a> {
     Note(&'a [u8]),
 }
 
+/// Adds a change at the end.
+fn add_change(builder: &mut BatchBuilder, change: Change<'_>) -> Result<(), BuildFault> {
+    match change {
+        Change::Set(key, value) => builder.set(key, value),
+        Change::Delete(key) => builder.delete(key),
+        Change::Note(bytes) => builder.note(bytes),
+    }
+}
+
 fn batch_of(rt: &impl Abort, alloc: Global, changes: &[Change<'_>]) -> Unnumbered {
     let mut builder = BatchBuilder::new(alloc).expect(rt, "memory");
     for change in changes {
-        let added = match *change {
-            Change::Set(key, value) => builder.set(key, value),
-            Change::Delete(key) => builder.delete(key),
-            Change::Note(bytes) => builder.note(bytes),
-        };
-        added.expect(rt, "an entry");
+        add_change(&mut builder, *change).expect(rt, "an entry");
     }
     let Ok(batch) = builder.finish() else {
         panic!(rt; "a batch");
@@ -105,32 +113,9 @@ fn batch_of(rt: &impl Abort, alloc: Global, changes: &[Change<'_>]) -> Unnumbere
 }
 
 /// Gives the shards a batch of these entries.
-fn give(rt: &impl Abort, alloc: Global, rig: &mut Rig, changes: &[Change<'_>]) {
-    let batch = batch_of(rt, alloc, changes);
+fn give(rt: &impl Abort, rig: &mut Rig, changes: &[Change<'_>]) {
+    let batch = batch_of(rt, rig.alloc, changes);
     rig.add(rt, &batch);
-}
-
-fn value(seq: u64, bytes: &[u8]) -> Found<'_> {
-    Found::Value { seq, bytes }
-}
-
-/// What is read of three keys below each number, after two batches from 10 on.
-fn reads_two_batches(rt: &impl Abort, rig: &Rig) {
-    assert_eq!(rt; rig.read(b"a", 0), Found::Nothing);
-    assert_eq!(rt; rig.read(b"a", 10), Found::Nothing);
-    assert_eq!(rt; rig.read(b"a", 11), value(10, b"1"));
-    assert_eq!(rt; rig.read(b"a", 12), value(11, b"2"));
-    assert_eq!(rt; rig.read(b"a", 13), value(11, b"2"));
-    assert_eq!(rt; rig.read(b"a", 14), Found::Gone { seq: 13 });
-    assert_eq!(rt; rig.read(b"a", u64::MAX), Found::Gone { seq: 13 });
-    assert_eq!(rt; rig.read(b"b", 12), Found::Nothing);
-    assert_eq!(rt; rig.read(b"b", 13), value(12, b"3"));
-    assert_eq!(rt; rig.read(b"b", 14), value(12, b"3"));
-    assert_eq!(rt; rig.read(b"b", 15), value(14, b""));
-    // `i` has the shard of `a`, and no version.
-    assert_eq!(rt; rig.read(b"i", u64::MAX), Found::Nothing);
-    // A note is no version, whatever its bytes.
-    assert_eq!(rt; rig.read(b"n", u64::MAX), Found::Nothing);
 }
 
 const FIRST: [Change<'static>; 4] = [
@@ -142,175 +127,86 @@ const FIRST: [Change<'static>; 4] = [
 
 const SECOND: [Change<'static>; 2] = [Change::Delete(b"a"), Change::Set(b"b", b"")];
 
-#[test]
-fn a_key_belongs_to_the_shard_of_its_sum(rt: HostRuntime) {
-    assert_eq!(&rt; shard_index(b""), 0);
-    assert_eq!(&rt; shard_index(b"a"), 1);
-    assert_eq!(&rt; shard_index(b"h"), 0);
-    assert_eq!(&rt; shard_index(b"abc"), 6);
-    assert_eq!(&rt; shard_index(b"cba"), 6);
-    assert_eq!(&rt; shard_index(&[255, 255, 255]), 5);
+/// What is read of a key below a number.
+#[derive(Clone, Copy)]
+struct Read {
+    key: &'static [u8],
+    below: u64,
+    found: Found<'static>,
 }
 
-#[test]
-fn a_new_shard_holds_nothing(rt: HostRuntime) {
-    let rig = Rig::new(&rt, rt.alloc());
-    assert_eq!(&rt; rig.read(b"a", u64::MAX), Found::Nothing);
-    assert_eq!(&rt; rig.read(b"", u64::MAX), Found::Nothing);
+const fn nothing(key: &'static [u8], below: u64) -> Read {
+    let found = Found::Nothing;
+    Read { key, below, found }
 }
 
-#[test]
-fn reads_before_and_after_settling_are_the_same(rt: HostRuntime) {
-    let alloc = rt.alloc();
-    let mut rig = Rig::new(&rt, alloc);
-    give(&rt, alloc, &mut rig, &FIRST);
-    assert_eq!(&rt; rig.read(b"a", 12), value(11, b"2"));
-    give(&rt, alloc, &mut rig, &SECOND);
-    reads_two_batches(&rt, &rig);
-    rig.settle().expect(&rt, "memory");
-    reads_two_batches(&rt, &rig);
-    rig.settle().expect(&rt, "memory");
-    reads_two_batches(&rt, &rig);
+const fn value(key: &'static [u8], below: u64, seq: u64, bytes: &'static [u8]) -> Read {
+    let found = Found::Value { seq, bytes };
+    Read { key, below, found }
 }
 
-#[test]
-fn a_batch_that_waits_is_newer_than_a_settled_one(rt: HostRuntime) {
-    let alloc = rt.alloc();
-    let mut rig = Rig::new(&rt, alloc);
-    give(&rt, alloc, &mut rig, &FIRST);
-    rig.settle().expect(&rt, "memory");
-    give(&rt, alloc, &mut rig, &SECOND);
-    reads_two_batches(&rt, &rig);
-    rig.settle().expect(&rt, "memory");
-    reads_two_batches(&rt, &rig);
+/// The reads of two batches from 10 on. `i` has the shard of `a`, and no version; a note is none, whatever its bytes.
+const READS: &[Read] = &[
+    nothing(b"a", 10),
+    value(b"a", 11, 10, b"1"),
+    value(b"a", 13, 11, b"2"),
+    Read {
+        key: b"a",
+        below: 14,
+        found: Found::Gone { seq: 13 },
+    },
+    value(b"b", 14, 12, b"3"),
+    value(b"b", u64::MAX, 14, b""),
+    nothing(b"i", u64::MAX),
+    nothing(b"n", u64::MAX),
+];
+
+fn reads_two_batches(rt: &impl Abort, rig: &Rig) {
+    for read in READS {
+        assert_eq!(rt; rig.read(read.key, read.below), read.found);
+    }
+}
+
+/// What is applied can be read whether settling finds memory or not.
+fn settles(rt: &impl Abort, rig: &mut Rig) {
+    for _ in 0..4 {
+        let settled = rig.settle().is_ok();
+        reads_two_batches(rt, rig);
+        if settled {
+            return;
+        }
+    }
+    panic!(rt; "settled");
+}
+
+/// The index of the shard of `a` has its versions, the newest first.
+fn lends_in_order(rt: &impl Abort, index: &ArenaList) {
+    let mut walk = index.walk();
+    for seq in [13, 11, 10] {
+        assert_eq!(rt; walk.next().map(|version| version.seq), Some(seq));
+    }
+    assert!(rt; walk.next().is_none());
 }
 
 #[test]
 fn what_is_applied_is_kept_where_settling_finds_no_memory(rt: HostRuntime) {
-    let alloc = rt.alloc();
-    let mut rig = Rig::new(&rt, alloc);
-    give(&rt, alloc, &mut rig, &FIRST);
-    give(&rt, alloc, &mut rig, &SECOND);
-    for _ in 0..4 {
-        let settled = rig.settle();
-        reads_two_batches(&rt, &rig);
-        if settled.is_ok() {
-            return;
-        }
-    }
-    panic!(&rt; "settled");
-}
-
-#[test]
-fn an_empty_key_and_an_empty_value_are_kept(rt: HostRuntime) {
-    let alloc = rt.alloc();
-    let mut rig = Rig::new(&rt, alloc);
-    give(&rt, alloc, &mut rig, &[Change::Set(b"", b"")]);
-    give(&rt, alloc, &mut rig, &[Change::Delete(b"")]);
-    rig.settle().expect(&rt, "memory");
-    assert_eq!(&rt; rig.read(b"", 10), Found::Nothing);
-    assert_eq!(&rt; rig.read(b"", 11), value(10, b""));
-    assert_eq!(&rt; rig.read(b"", 12), Found::Gone { seq: 11 });
-}
-
-#[test]
-fn each_of_many_versions_of_a_key_is_found(rt: HostRuntime) {
-    let alloc = rt.alloc();
-    let mut rig = Rig::new(&rt, alloc);
-    for turn in 0..100u8 {
-        give(&rt, alloc, &mut rig, &[Change::Set(b"k", &[turn])]);
-        if turn % 7 == 0 {
-            rig.settle().expect(&rt, "memory");
-        }
-    }
-    for turn in 0..100u8 {
-        let below = u64::from(turn) + 11;
-        assert_eq!(&rt; rig.read(b"k", below), value(below - 1, &[turn]));
-    }
-}
-
-#[test]
-fn pieces_come_by_shard_and_only_where_there_are_versions(rt: HostRuntime) {
-    let alloc = rt.alloc();
-    let changes = [
-        Change::Set(b"g", b"7"),
-        Change::Set(b"a", b"1"),
-        Change::Note(b"c"),
-        Change::Delete(b"h"),
-        Change::Set(b"i", b"1"),
-    ];
-    let batch = batch_of(&rt, alloc, &changes);
-    let mut pieces = split(alloc, &batch).expect(&rt, "memory");
-    pieces.number(10);
-    let (first, _) = pieces.take().expect(&rt, "the piece of h");
-    let (second, _) = pieces.take().expect(&rt, "the piece of a and i");
-    let (third, _) = pieces.take().expect(&rt, "the piece of g");
-    assert_eq!(&rt; (first, second, third), (0, 1, 7));
-    assert!(&rt; pieces.take().is_none());
-    assert!(&rt; pieces.take().is_none());
+    let mut rig = Rig::new(&rt, rt.alloc());
+    give(&rt, &mut rig, &FIRST);
+    give(&rt, &mut rig, &SECOND);
+    reads_two_batches(&rt, &rig);
+    settles(&rt, &mut rig);
+    lends_in_order(&rt, rig.shard(b"a").index());
 }
 
 #[test]
 fn entries_are_cut_as_their_batch_is(rt: HostRuntime) {
-    let alloc = rt.alloc();
-    let mut entries = Entries::new(alloc);
-    let key = Blob::copy_of(alloc, b"a").expect(&rt, "memory");
-    let bytes = Blob::copy_of(alloc, b"1").expect(&rt, "memory");
-    let note = Entry::Note { bytes };
-    entries.push(note).expect(&rt, "memory");
+    let mut entries = Entries::new(rt.alloc());
+    let key = Blob::copy_of(rt.alloc(), b"a").expect(&rt, "memory");
     entries.push(Entry::Delete { key }).expect(&rt, "memory");
-    let mut pieces = split_entries(alloc, &entries).expect(&rt, "memory");
+    let mut pieces = split_entries(rt.alloc(), &entries).expect(&rt, "memory");
     pieces.number(20);
-    let (at, node) = pieces.take().expect(&rt, "a piece");
+    let (at, _) = pieces.take().expect(&rt, "a piece");
     assert_eq!(&rt; at, 1);
-    let mut shard = Shard::new(alloc).expect(&rt, "memory");
-    shard.apply(node);
-    assert_eq!(&rt; shard.newest(b"a", 20), Found::Nothing);
-    assert_eq!(&rt; shard.newest(b"a", 21), Found::Gone { seq: 20 });
-    assert!(&rt; pieces.take().is_none());
-}
-
-#[test]
-fn entries_that_take_no_number_have_no_piece(rt: HostRuntime) {
-    let alloc = rt.alloc();
-    let mut entries = Entries::new(alloc);
-    let bytes = Blob::copy_of(alloc, b"a").expect(&rt, "memory");
-    entries.push(Entry::Note { bytes }).expect(&rt, "memory");
-    let mut pieces = split_entries(alloc, &entries).expect(&rt, "memory");
-    pieces.number(10);
-    assert!(&rt; pieces.take().is_none());
-}
-
-#[test]
-fn a_settled_shard_lends_its_versions_in_order(rt: HostRuntime) {
-    let alloc = rt.alloc();
-    // The three keys have one shard.
-    let changes = [
-        Change::Set(b"i", b"3"),
-        Change::Set(b"a", b"1"),
-        Change::Note(b"a"),
-        Change::Delete(b"a"),
-        Change::Set(b"q", b""),
-    ];
-    let batch = batch_of(&rt, alloc, &changes);
-    let mut pieces = split(alloc, &batch).expect(&rt, "memory");
-    pieces.number(10);
-    let (_, node) = pieces.take().expect(&rt, "a piece");
-    let mut shard = Shard::new(alloc).expect(&rt, "memory");
-    shard.apply(node);
-    assert!(&rt; shard.index().walk().next().is_none());
-    shard.settle().expect(&rt, "memory");
-    let wanted: [(&[u8], u64, Option<&[u8]>); 4] = [
-        (b"a", 12, None),
-        (b"a", 11, Some(b"1")),
-        (b"i", 10, Some(b"3")),
-        (b"q", 13, Some(b"")),
-    ];
-    let mut walk = shard.index().walk();
-    for (key, seq, value) in wanted {
-        assert_eq!(&rt; walk.next(), Some(Version { key, seq, value }));
-    }
-    assert!(&rt; walk.next().is_none());
 }
 
 /// Numbers that look random: those of a linear congruential generator.
@@ -337,19 +233,16 @@ impl Dice {
 }
 
 /// What shards are to answer, as a plain program keeps it: for each key its values, by number.
-type Plain = BTreeMap<Vec<u8>, BTreeMap<u64, Option<Vec<u8>>>>;
+type Plain = BTreeMap<&'static [u8], BTreeMap<u64, Option<&'static [u8]>>>;
 
-fn plain_newest<'a>(plain: &'a Plain, key: &[u8], below: u64) -> Found<'a> {
-    let Some(values) = plain.get(key) else {
+fn plain_newest(plain: &Plain, key: &'static [u8], below: u64) -> Found<'static> {
+    let Some(values) = plain.get(&key) else {
         return Found::Nothing;
     };
     match values.range(..below).next_back() {
         None => Found::Nothing,
         Some((seq, None)) => Found::Gone { seq: *seq },
-        Some((seq, Some(bytes))) => Found::Value {
-            seq: *seq,
-            bytes: bytes.as_slice(),
-        },
+        Some((seq, Some(bytes))) => Found::Value { seq: *seq, bytes },
     }
 }
 
@@ -357,20 +250,19 @@ fn plain_put(
     alloc: Global,
     plain: &mut Plain,
     seq: u64,
-    change: Change<'_>,
+    change: Change<'static>,
 ) -> Result<(), NoMemory> {
     let (key, value) = match change {
-        Change::Set(key, value) => (key, Some(Vec::from_slice(alloc, value)?)),
+        Change::Set(key, value) => (key, Some(value)),
         Change::Delete(key) => (key, None),
         Change::Note(_) => return Ok(()),
     };
-    if let Some(values) = plain.get_mut(key) {
+    if let Some(values) = plain.get_mut(&key) {
         values.insert(seq, value)?;
         return Ok(());
     }
     let mut values = BTreeMap::new(alloc);
     values.insert(seq, value)?;
-    let key = Vec::from_slice(alloc, key)?;
     plain.insert(key, values)?;
     Ok(())
 }
@@ -384,7 +276,7 @@ fn give_both(rt: &impl Abort, rig: &mut Rig, plain: &mut Plain, dice: &mut Dice)
     };
     let second = Change::Set(dice.key(), dice.key());
     let (alloc, seq) = (rig.alloc, rig.next);
-    give(rt, alloc, rig, &[first, second]);
+    give(rt, rig, &[first, second]);
     plain_put(alloc, plain, seq, first).expect(rt, "memory");
     plain_put(alloc, plain, seq.saturating_add(1), second).expect(rt, "memory");
 }
