@@ -135,30 +135,60 @@ struct Read {
     found: Found<'static>,
 }
 
-const fn nothing(key: &'static [u8], below: u64) -> Read {
-    let found = Found::Nothing;
-    Read { key, below, found }
-}
-
-const fn value(key: &'static [u8], below: u64, seq: u64, bytes: &'static [u8]) -> Read {
-    let found = Found::Value { seq, bytes };
-    Read { key, below, found }
-}
-
 /// The reads of two batches from 10 on. `i` has the shard of `a`, and no version; a note is none, whatever its bytes.
 const READS: &[Read] = &[
-    nothing(b"a", 10),
-    value(b"a", 11, 10, b"1"),
-    value(b"a", 13, 11, b"2"),
+    Read {
+        key: b"a",
+        below: 10,
+        found: Found::Nothing,
+    },
+    Read {
+        key: b"a",
+        below: 11,
+        found: Found::Value {
+            seq: 10,
+            bytes: b"1",
+        },
+    },
+    Read {
+        key: b"a",
+        below: 13,
+        found: Found::Value {
+            seq: 11,
+            bytes: b"2",
+        },
+    },
     Read {
         key: b"a",
         below: 14,
         found: Found::Gone { seq: 13 },
     },
-    value(b"b", 14, 12, b"3"),
-    value(b"b", u64::MAX, 14, b""),
-    nothing(b"i", u64::MAX),
-    nothing(b"n", u64::MAX),
+    Read {
+        key: b"b",
+        below: 14,
+        found: Found::Value {
+            seq: 12,
+            bytes: b"3",
+        },
+    },
+    Read {
+        key: b"b",
+        below: u64::MAX,
+        found: Found::Value {
+            seq: 14,
+            bytes: b"",
+        },
+    },
+    Read {
+        key: b"i",
+        below: u64::MAX,
+        found: Found::Nothing,
+    },
+    Read {
+        key: b"n",
+        below: u64::MAX,
+        found: Found::Nothing,
+    },
 ];
 
 fn reads_two_batches(rt: &impl Abort, rig: &Rig) {
