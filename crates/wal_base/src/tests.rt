@@ -2,6 +2,7 @@ use crate::{
     Blob, Buf, Entries, Entry, ListOf, MemSink, MemSource, NoMemory, PutErr, ReadFault, Sink,
     Source, StdSink, StdSource,
 };
+use std::alloc::Global;
 use std::io;
 use std::io::{ErrorKind, Read, Write};
 use std::process::Abort;
@@ -17,15 +18,12 @@ fn put_in<K: Sink>(sink: &mut K, bytes: &[u8]) -> Result<usize, PutErr> {
 }
 
 #[test]
-fn bytes_are_kept_and_shown(rt: HostRuntime) -> Result<(), NoMemory> {
-    let blob = Blob::copy_of(rt.alloc(), b"abc")?;
-    assert_eq!(rt; blob.as_slice(), b"abc".as_slice());
+fn a_buffer_grows_and_is_cut(rt: HostRuntime) -> Result<(), NoMemory> {
     let mut buf = Buf::with_capacity(rt.alloc(), 2)?;
     buf.append(b"ab")?;
-    buf.append(b"c")?;
+    buf.append(b"cd")?;
+    buf.truncate(3);
     assert_eq!(rt; buf.as_slice(), b"abc".as_slice());
-    buf.truncate(2);
-    assert_eq!(rt; buf.as_slice(), b"ab".as_slice());
     buf.clear();
     assert!(rt; buf.as_slice().is_empty());
     Ok(())
@@ -35,19 +33,18 @@ fn is_sent<T: Send>(_: &T) -> bool {
     true
 }
 
+/// A part of a part of bytes that are let go.
+fn inner_part(alloc: Global) -> Result<Blob, NoMemory> {
+    let whole = Blob::of_vec(alloc, Vec::from_slice(alloc, b"abcdef")?)?;
+    let middle = whole.part(1, 5)?;
+    drop(whole);
+    middle.part(1, 3)?.share()
+}
+
 #[test]
 fn a_part_outlives_its_whole(rt: HostRuntime) -> Result<(), NoMemory> {
-    let whole = Blob::of_vec(rt.alloc(), Vec::from_slice(rt.alloc(), b"abcdef")?)?;
-    assert_eq!(rt; whole.as_slice(), b"abcdef".as_slice());
-    let middle = whole.part(1, 5)?;
-    let same = middle.share()?;
-    drop(whole);
-    let inner = middle.part(1, 3)?;
-    let empty = middle.part(4, 4)?;
-    drop(middle);
-    assert_eq!(rt; same.as_slice(), b"bcde".as_slice());
+    let inner = inner_part(rt.alloc())?;
     assert_eq!(rt; inner.as_slice(), b"cd".as_slice());
-    assert!(rt; empty.as_slice().is_empty());
     assert_eq!(rt;
         format!(in rt.alloc(); "{inner:?}")?.as_str(),
         "Blob([99, 100])"
@@ -57,43 +54,48 @@ fn a_part_outlives_its_whole(rt: HostRuntime) -> Result<(), NoMemory> {
 }
 
 #[test]
-fn a_list_keeps_its_items_in_order(rt: HostRuntime) -> Result<(), NoMemory> {
-    let mut entries = Entries::with_capacity(rt.alloc(), 1)?;
-    assert!(rt; entries.is_empty());
+fn a_list_holds_entries(rt: HostRuntime) -> Result<(), NoMemory> {
     let key = Blob::copy_of(rt.alloc(), b"k")?;
+    let mut entries = Entries::with_capacity(rt.alloc(), 1)?;
     assert!(rt; entries.push(Entry::Delete { key }).is_ok());
-    assert_eq!(rt; entries.len(), 1);
+    assert!(rt; !entries.is_empty());
+    Ok(())
+}
+
+#[test]
+fn a_list_keeps_its_items_in_order(rt: HostRuntime) {
     let mut numbers: ListOf<u64> = ListOf::new(rt.alloc());
-    for n in [3, 4] {
+    for n in [3, 4, 5] {
         assert!(rt; numbers.push(n).is_ok());
     }
-    assert_eq!(rt; numbers.get(1).copied(), Some(4));
-    assert_eq!(rt; numbers.get(2).copied(), None);
+    assert_eq!(rt; numbers.pop(), Some(5));
+    assert_eq!(rt; (numbers.len(), numbers.get(1).copied()), (2, Some(4)));
     assert_eq!(rt; numbers.as_slice(), [3, 4].as_slice());
-    assert_eq!(rt;
-        (numbers.pop(), numbers.pop(), numbers.pop()),
-        (Some(4), Some(3), None)
-    );
-    assert!(rt; numbers.push(5).is_ok());
-    assert_eq!(rt; numbers.into_vec().as_slice(), [5].as_slice());
-    Ok(())
+    assert_eq!(rt; numbers.into_vec().as_slice(), [3, 4].as_slice());
+}
+
+fn fails_at_its_second_take(rt: &impl Abort, source: &mut MemSource) {
+    source.fail_at(7);
+    source.fail_at(1);
+    assert_eq!(rt; next_two(source), (Ok(2), *b"ab"));
+    assert_eq!(rt; next_two(source).0, Err(ReadFault));
+    assert_eq!(rt; next_two(source), (Ok(1), *b"c\0"));
+}
+
+fn fails_at_its_second_put(rt: &impl Abort, sink: &mut MemSink) {
+    sink.fail_at(1);
+    assert_eq!(rt; put_in(sink, b"ab"), Ok(2));
+    assert_eq!(rt; put_in(sink, b"cd"), Err(PutErr::Failed));
+    assert_eq!(rt; put_in(sink, b"ef"), Ok(2));
+    assert_eq!(rt; sink.written(), b"abef".as_slice());
 }
 
 #[test]
 fn streams_in_memory_fail_once_where_they_were_told(rt: HostRuntime) -> Result<(), NoMemory> {
     let mut source = MemSource::new(Blob::copy_of(rt.alloc(), b"abc")?);
-    source.fail_at(7);
-    source.fail_at(1);
-    assert_eq!(rt; next_two(&mut source), (Ok(2), *b"ab"));
-    assert_eq!(rt; next_two(&mut source).0, Err(ReadFault));
-    assert_eq!(rt; next_two(&mut source), (Ok(1), *b"c\0"));
-    assert_eq!(rt; next_two(&mut source).0, Ok(0));
+    fails_at_its_second_take(&rt, &mut source);
     let mut sink = MemSink::new(rt.alloc())?;
-    sink.fail_at(1);
-    assert_eq!(rt; put_in(&mut sink, b"ab"), Ok(2));
-    assert_eq!(rt; put_in(&mut sink, b"cd"), Err(PutErr::Failed));
-    assert_eq!(rt; put_in(&mut sink, b"ef"), Ok(2));
-    assert_eq!(rt; sink.written(), b"abef".as_slice());
+    fails_at_its_second_put(&rt, &mut sink);
     Ok(())
 }
 
@@ -160,27 +162,38 @@ impl Write for Refusing {
     }
 }
 
+/// A source over a reader that refuses twice: so many of the refusals are faults.
+fn takes_in_the_end(rt: &impl Abort, source: &mut StdSource<Refusing>, faults: u64) {
+    for _ in 0..faults {
+        assert_eq!(rt; next_two(source).0, Err(ReadFault));
+    }
+    assert_eq!(rt; next_two(source), (Ok(1), *b"a\0"));
+    assert_eq!(rt; source.faults, faults);
+}
+
+/// The same of a sink.
+fn puts_in_the_end(rt: &impl Abort, sink: &mut StdSink<Refusing>, faults: u64) {
+    for _ in 0..faults {
+        assert_eq!(rt; put_in(sink, b"bc"), Err(PutErr::Failed));
+    }
+    assert_eq!(rt; put_in(sink, b"bc"), Ok(1));
+    assert_eq!(rt; sink.faults, faults);
+}
+
 #[test]
 fn each_refusal_of_a_standard_stream_is_a_fault(rt: HostRuntime) {
     let mut source = StdSource::new(Refusing::twice(ErrorKind::ConnectionReset));
-    assert_eq!(rt; next_two(&mut source).0, Err(ReadFault));
-    assert_eq!(rt; next_two(&mut source).0, Err(ReadFault));
-    assert_eq!(rt; next_two(&mut source), (Ok(1), *b"a\0"));
-    assert_eq!(rt; source.faults, 2);
+    takes_in_the_end(&rt, &mut source, 2);
     let mut sink = StdSink::new(Refusing::twice(ErrorKind::ConnectionReset));
-    assert_eq!(rt; put_in(&mut sink, b"bc"), Err(PutErr::Failed));
-    assert_eq!(rt; put_in(&mut sink, b"bc"), Err(PutErr::Failed));
-    assert_eq!(rt; put_in(&mut sink, b"bc"), Ok(1));
-    assert_eq!(rt; sink.faults, 2);
+    puts_in_the_end(&rt, &mut sink, 2);
 }
 
 #[test]
 fn an_interrupted_call_of_a_standard_stream_is_no_fault(rt: HostRuntime) {
     let mut source = StdSource::new(Refusing::twice(ErrorKind::Interrupted));
-    assert_eq!(rt; next_two(&mut source), (Ok(1), *b"a\0"));
+    takes_in_the_end(&rt, &mut source, 0);
     let mut sink = StdSink::new(Refusing::twice(ErrorKind::Interrupted));
-    assert_eq!(rt; put_in(&mut sink, b"bc"), Ok(1));
-    assert_eq!(rt; (source.faults, sink.faults), (0, 0));
+    puts_in_the_end(&rt, &mut sink, 0);
 }
 
 #[test]
