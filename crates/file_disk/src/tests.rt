@@ -57,9 +57,11 @@ fn has_listed<R: LockFiles + AllocGlobal + Clone + Drop>(
     disk: &mut FileDisk<R>,
     side: Side,
     wanted: &[(u64, u32, u64)],
-) -> Result<bool, DiskErr> {
-    let names = disk.list(side)?;
-    Ok(are_listed(&names, wanted))
+) -> bool {
+    match disk.list(side) {
+        Ok(names) => are_listed(&names, wanted),
+        Err(_) => false,
+    }
 }
 
 /// Whether a disk of its own lists just these.
@@ -67,11 +69,11 @@ fn lists<R: LockFiles + AllocGlobal + Clone + Drop>(
     rt: &R,
     side: Side,
     wanted: &[(u64, u32, u64)],
-) -> Result<bool, DiskErr> {
+) -> Result<bool, NoMemory> {
     let mut disk = FileDisk::new(rt)?;
     let listed = has_listed(&mut disk, side, wanted);
     drop(disk);
-    listed
+    Ok(listed)
 }
 
 /// Lets go of a disk. `drop` alone is not covered by the check where the runtime has a lifetime.
@@ -107,49 +109,57 @@ fn keep_segments(
     system: &HostRuntime,
     disk: &mut FileDisk<HostRuntime>,
 ) -> Result<(), Fail> {
-    let (side, name) = (Side::Primary, seg(1, 0));
-    let mut buf = *b"........";
-    assert!(rt; has_listed(disk, side, &[])?);
-    assert_eq!(rt; disk.read(side, name, 0, &mut buf)?, 0);
+    assert!(rt; has_listed(disk, Side::Primary, &[]));
+    assert!(rt; reads(disk, 0, 0, b"........"));
     run_each(rt, system)?;
-
     fs::write(system, "./wal/notes.txt", "a note")?;
     fs::create_dir(system, "./wal/000003.log")?;
     let listed = [(1, 0, 5), (2, 0, 0), (2, 1, 0), (10, 0, 0)];
-    assert!(rt; has_listed(disk, side, &listed)?);
-    assert!(rt; has_listed(disk, Side::Secondary, &[])?);
-
-    for (at, count, bytes) in [
-        (0, 5, *b"abcde..."),
-        (3, 2, *b"de......"),
-        (5, 0, *b"........"),
-    ] {
-        let mut buf = *b"........";
-        assert_eq!(rt; disk.read(side, name, at, &mut buf)?, count, "at {at}");
-        assert_eq!(rt; buf, bytes, "at {at}");
-    }
+    assert!(rt; has_listed(disk, Side::Primary, &listed));
+    assert!(rt; has_listed(disk, Side::Secondary, &[]));
+    assert!(rt; reads(disk, 0, 5, b"abcde...") && reads(disk, 3, 2, b"de......"));
+    assert!(rt; reads(disk, 5, 0, b"........"));
     let mut two = *b"..";
-    assert_eq!(rt; disk.read(side, name, 1, &mut two)?, 2);
-    assert_eq!(rt; two, *b"bc");
+    let count = disk.read(Side::Primary, seg(1, 0), 1, &mut two);
+    assert!(rt; count == Ok(2) && two == *b"bc");
     Ok(())
 }
 
+/// Whether a read from a place of the first segment answers this count, and leaves this of eight dots.
+fn reads(disk: &mut FileDisk<HostRuntime>, at: u64, count: usize, bytes: &[u8; 8]) -> bool {
+    let mut buf = *b"........";
+    disk.read(Side::Primary, seg(1, 0), at, &mut buf) == Ok(count) && buf == *bytes
+}
+
 /// Fills a segment, and makes others; each operation runs on a disk of its own.
-fn run_each(rt: &impl Abort, system: &HostRuntime) -> Result<(), Fail> {
-    let pieces = [
-        (create(0), Progress::Done),
-        (append(b"ab"), Progress::Done),
-        (append(b"cde"), Progress::Done),
-        (sync(0), Progress::Done),
-        // Its count rose, as `poll` ensures of each `Failed`.
-        (create(0), Progress::Failed),
-        (sync_of(2, 0), Progress::Failed),
-        (create_of(10, 0), Progress::Done),
-        (create_of(2, 1), Progress::Done),
-        (create_of(2, 0), Progress::Done),
-    ];
-    for (op, progress) in pieces {
-        assert_eq!(rt; run(system, op)?, progress, "at {op:?}");
+fn run_each(rt: &impl Abort, system: &HostRuntime) -> Result<(), NoMemory> {
+    let (done, failed) = (Progress::Done, Progress::Failed);
+    end_each(
+        rt,
+        system,
+        &[create(0), append(b"ab"), append(b"cde"), sync(0)],
+        done,
+    )?;
+    // Its count rose, as `poll` ensures of each `Failed`.
+    end_each(rt, system, &[create(0), sync_of(2, 0)], failed)?;
+    end_each(
+        rt,
+        system,
+        &[create_of(10, 0), create_of(2, 1), create_of(2, 0)],
+        done,
+    )
+}
+
+/// Runs operations that end so, each on a disk of its own.
+fn end_each(
+    rt: &impl Abort,
+    system: &HostRuntime,
+    ops: &[DiskOp<'_>],
+    progress: Progress,
+) -> Result<(), NoMemory> {
+    for op in ops {
+        let ended = run(system, *op)?;
+        assert!(rt; ended == progress, "at {op:?}");
     }
     Ok(())
 }
@@ -205,150 +215,179 @@ const fn sync(index: u32) -> DiskOp<'static> {
     sync_of(1, index)
 }
 
+/// What a step does to a segment of the first WAL.
+#[derive(Clone, Copy)]
+enum Act {
+    Create,
+    Write,
+    Sync,
+}
+
+/// A step of a directory: what it does, to which segment, and the call that the system refuses meanwhile; then whether it
+/// is done, how many files it opens, and how often it syncs the parent.
+struct Step(Act, u32, Option<(Call, ErrorKind)>, bool, [u32; 2]);
+
+impl Step {
+    fn op(&self) -> DiskOp<'static> {
+        match self.0 {
+            Act::Create => create(self.1),
+            Act::Write => write(self.1),
+            Act::Sync => sync(self.1),
+        }
+    }
+}
+
+/// Takes steps in a directory that holds no segment open yet.
+fn take(rt: &impl Abort, system: &HostRuntime, steps: &[Step]) -> Result<(), NoMemory> {
+    let watch = Watch::new();
+    let watched = Watched {
+        system,
+        watch: &watch,
+    };
+    let mut directory = Directory::new(system.alloc());
+    let taken = take_each(rt, &watched, &mut directory, steps);
+    drop(directory);
+    taken
+}
+
+fn take_each<'a>(
+    rt: &impl Abort,
+    system: &Watched<'a>,
+    directory: &mut Directory<WatchedFile<'a>>,
+    steps: &[Step],
+) -> Result<(), NoMemory> {
+    for step in steps {
+        let watch = system.watch;
+        watch.refused.set(step.2);
+        watch.opened.set(0);
+        watch.parent_syncs.set(0);
+        let op = step.op();
+        let is_done = operate(system, directory, op)?;
+        let seen = [watch.opened.get(), watch.parent_syncs.get()];
+        assert!(rt; is_done == step.3 && seen == step.4, "at {op:?}");
+    }
+    Ok(())
+}
+
+const FULL: Option<(Call, ErrorKind)> = Some((Call::Write, ErrorKind::StorageFull));
+
+const BROKEN: Option<(Call, ErrorKind)> = Some((Call::SyncSegment, ErrorKind::Other));
+
+const KEPT_OPEN: &[Step] = &[
+    // The parent, the segment, and its directory.
+    Step(Act::Create, 0, None, true, [3, 1]),
+    Step(Act::Write, 0, None, true, [0, 0]),
+    Step(Act::Sync, 0, None, true, [0, 0]),
+    // What was refused is let go.
+    Step(Act::Write, 0, FULL, false, [0, 0]),
+    Step(Act::Write, 0, None, true, [1, 0]),
+    Step(Act::Sync, 0, BROKEN, false, [0, 0]),
+    // Nor is a sync done that is refused of a segment that is not held.
+    Step(Act::Sync, 0, BROKEN, false, [1, 0]),
+    // What is only synced is not held.
+    Step(Act::Sync, 0, None, true, [1, 0]),
+    Step(Act::Write, 0, None, true, [1, 0]),
+    Step(Act::Create, 2, None, true, [2, 0]),
+    Step(Act::Write, 2, None, true, [0, 0]),
+    Step(Act::Sync, 0, None, true, [1, 0]),
+    Step(Act::Write, 2, None, true, [0, 0]),
+    // What is written is held in place of another segment.
+    Step(Act::Write, 0, None, true, [1, 0]),
+    Step(Act::Write, 2, None, true, [1, 0]),
+];
+
 #[test]
 fn a_segment_stays_open(rt: HostRuntime) -> Result<(), Fail> {
     clear(&rt)?;
-    let watch = Watch::new();
-    let system = Watched {
-        system: &rt,
-        watch: &watch,
-    };
-    let mut directory = Directory::new(rt.alloc());
-    let kept = keep_open(&rt, &system, &mut directory);
-    drop(directory);
-    kept?;
+    take(&rt, &rt, KEPT_OPEN)?;
     // Each write that is done stands whole, though the system took two bytes at a time.
     assert!(rt; lists(&rt, Side::Primary, &[(1, 0, 12), (1, 2, 9)])?);
     Ok(())
 }
 
-fn keep_open<'a>(
-    rt: &impl Abort,
-    system: &Watched<'a>,
-    directory: &mut Directory<WatchedFile<'a>>,
-) -> Result<(), Fail> {
-    let watch = system.watch;
-    let full = Some((Call::Write, ErrorKind::StorageFull));
-    let broken = Some((Call::SyncSegment, ErrorKind::Other));
-    let pieces = [
-        // The parent, the segment, and its directory.
-        (create(0), None, 3),
-        (write(0), None, 0),
-        (sync(0), None, 0),
-        // What was refused is let go.
-        (write(0), full, 0),
-        (write(0), None, 1),
-        (sync(0), broken, 0),
-        // Nor is a sync done that is refused of a segment that is not held.
-        (sync(0), broken, 1),
-        // What is only synced is not held.
-        (sync(0), None, 1),
-        (write(0), None, 1),
-        (create(2), None, 2),
-        (write(2), None, 0),
-        (sync(0), None, 1),
-        (write(2), None, 0),
-        // What is written is held in place of another segment.
-        (write(0), None, 1),
-        (write(2), None, 1),
-    ];
-    for (op, refused, opened) in pieces {
-        watch.refused.set(refused);
-        watch.opened.set(0);
-        let is_done = operate(system, directory, op)?;
-        assert_eq!(rt; is_done, refused.is_none(), "at {op:?}");
-        assert_eq!(rt; watch.opened.get(), opened, "at {op:?}");
-    }
-    Ok(())
-}
+const NAMED: &[Step] = &[
+    // The directory is there from the first creation on, and its name is owed until its parent is synced.
+    Step(
+        Act::Create,
+        0,
+        Some((Call::SyncParent, ErrorKind::Other)),
+        false,
+        [1, 0],
+    ),
+    Step(
+        Act::Create,
+        0,
+        Some((Call::SyncParent, ErrorKind::PermissionDenied)),
+        false,
+        [1, 0],
+    ),
+    Step(Act::Create, 0, None, true, [3, 1]),
+    Step(Act::Create, 1, None, true, [2, 0]),
+    Step(
+        Act::Create,
+        2,
+        Some((Call::SyncDirectory, ErrorKind::Other)),
+        false,
+        [2, 0],
+    ),
+    Step(
+        Act::Create,
+        3,
+        Some((Call::SyncDirectory, ErrorKind::InvalidInput)),
+        true,
+        [2, 0],
+    ),
+    Step(
+        Act::Create,
+        4,
+        Some((Call::SyncDirectory, ErrorKind::Unsupported)),
+        true,
+        [2, 0],
+    ),
+];
 
 #[test]
 fn new_names_are_synced(rt: HostRuntime) -> Result<(), Fail> {
     clear(&rt)?;
-    let watch = Watch::new();
-    let system = Watched {
-        system: &rt,
-        watch: &watch,
-    };
-    let mut directory = Directory::new(rt.alloc());
-    let synced = sync_new_names(&rt, &system, &mut directory);
-    drop(directory);
-    synced
-}
-
-fn sync_new_names<'a>(
-    rt: &impl Abort,
-    system: &Watched<'a>,
-    directory: &mut Directory<WatchedFile<'a>>,
-) -> Result<(), Fail> {
-    let watch = system.watch;
-    let parent = Call::SyncParent;
-    let own = Call::SyncDirectory;
-    let pieces = [
-        // The directory is there from the first creation on, and its name is owed until its parent is synced.
-        (0, Some((parent, ErrorKind::Other)), false, 0),
-        (0, Some((parent, ErrorKind::PermissionDenied)), false, 0),
-        (0, None, true, 1),
-        (1, None, true, 1),
-        (2, Some((own, ErrorKind::Other)), false, 1),
-        (3, Some((own, ErrorKind::InvalidInput)), true, 1),
-        (4, Some((own, ErrorKind::Unsupported)), true, 1),
-    ];
-    for (index, refused, is_done, parent_syncs) in pieces {
-        watch.refused.set(refused);
-        let made = operate(system, directory, create(index))?;
-        assert_eq!(rt; made, is_done, "at {index}");
-        assert_eq!(rt; watch.parent_syncs.get(), parent_syncs, "at {index}");
-    }
+    take(&rt, &rt, NAMED)?;
     Ok(())
 }
+
+const THERE: &[Step] = &[
+    Step(Act::Create, 0, None, true, [3, 1]),
+    Step(Act::Create, 1, None, true, [2, 0]),
+];
+
+const NO_INPUT: &[Step] = &[
+    Step(
+        Act::Create,
+        2,
+        Some((Call::SyncParent, ErrorKind::InvalidInput)),
+        true,
+        [3, 0],
+    ),
+    Step(Act::Create, 3, None, true, [2, 0]),
+];
+
+const NOT_SUPPORTED: &[Step] = &[
+    Step(
+        Act::Create,
+        4,
+        Some((Call::SyncParent, ErrorKind::Unsupported)),
+        true,
+        [3, 0],
+    ),
+    Step(Act::Create, 5, None, true, [2, 0]),
+];
 
 #[test]
 fn the_name_of_a_directory_that_is_there_is_synced(rt: HostRuntime) -> Result<(), Fail> {
     clear(&rt)?;
     fs::create_dir(&rt, "./wal")?;
-    let parent = Call::SyncParent;
-    let pieces = [
-        (0, 1, None, 1),
-        (2, 3, Some((parent, ErrorKind::InvalidInput)), 0),
-        (4, 5, Some((parent, ErrorKind::Unsupported)), 0),
-    ];
-    for (first, second, refused, parent_syncs) in pieces {
-        let watch = Watch::new();
-        let system = Watched {
-            system: &rt,
-            watch: &watch,
-        };
-        let mut directory = Directory::new(rt.alloc());
-        let made = create_two(
-            &rt,
-            &system,
-            &mut directory,
-            [(first, refused), (second, None)],
-        );
-        drop(directory);
-        made?;
-        assert_eq!(rt; watch.parent_syncs.get(), parent_syncs, "at {first}");
-    }
+    take(&rt, &rt, THERE)?;
+    take(&rt, &rt, NO_INPUT)?;
+    take(&rt, &rt, NOT_SUPPORTED)?;
     Ok(())
-}
-
-/// Creates two segments, each under a refusal that keeps no creation from its end.
-fn create_two<'a>(
-    rt: &impl Abort,
-    system: &Watched<'a>,
-    directory: &mut Directory<WatchedFile<'a>>,
-    pieces: [(u32, Option<(Call, ErrorKind)>); 2],
-) -> Result<(), Fail> {
-    for (index, refused) in pieces {
-        system.watch.refused.set(refused);
-        assert!(rt; operate(system, directory, create(index))?, "at {index}");
-    }
-    Ok(())
-}
-
-fn has_failed<T: Drop>(answer: Result<T, DiskErr>) -> bool {
-    matches!(answer, Err(DiskErr::Failed))
 }
 
 // Each of these answers was counted, as the contract of a disk says.
@@ -366,33 +405,30 @@ fn refuse_segments(
     system: &HostRuntime,
     disk: &mut FileDisk<HostRuntime>,
 ) -> Result<(), Fail> {
-    let mut buf = *b"...";
+    // A directory in place of a segment, and a link to a full device, are passed over by a listing.
     fs::create_dir(system, "./wal")?;
-
-    // A directory in place of a segment is passed over by a listing.
     fs::create_dir(system, "./wal/000001.log")?;
-    refuse_each(rt, system, &[create(0), write(0)])?;
-    assert!(rt; has_failed(disk.read(Side::Primary, seg(1, 0), 0, &mut buf)));
-
-    // A full device, and a link to one.
     symlink(system, "/dev/full", "./wal/000001-001.log")?;
-    refuse_each(rt, system, &[create(1), write(1)])?;
-    assert!(rt; has_listed(disk, Side::Primary, &[])?);
+    let failed = Progress::Failed;
+    end_each(
+        rt,
+        system,
+        &[create(0), write(0), create(1), write(1)],
+        failed,
+    )?;
+    assert!(rt; has_listed(disk, Side::Primary, &[]));
 
     // A link that leads nowhere.
     symlink(system, "./nowhere", "./wal/000001-002.log")?;
-    refuse_each(rt, system, &[create(2), write(2), sync(2)])?;
-    assert!(rt; has_failed(disk.read(Side::Primary, seg(1, 2), 0, &mut buf)));
-    assert!(rt; has_failed(disk.list(Side::Primary)));
+    end_each(rt, system, &[create(2), write(2), sync(2)], failed)?;
+    assert!(rt; fails_to_read(disk, 0) && fails_to_read(disk, 2));
+    assert!(rt; count_listed(rt, disk, Side::Primary).is_none());
     refuse_directories(rt, system, disk)
 }
 
-/// Runs operations that fail, each on a disk of its own.
-fn refuse_each(rt: &impl Abort, system: &HostRuntime, ops: &[DiskOp<'_>]) -> Result<(), Fail> {
-    for op in ops {
-        assert_eq!(rt; run(system, *op)?, Progress::Failed, "at {op:?}");
-    }
-    Ok(())
+fn fails_to_read(disk: &mut FileDisk<HostRuntime>, index: u32) -> bool {
+    let mut buf = *b"...";
+    disk.read(Side::Primary, seg(1, index), 0, &mut buf) == Err(DiskErr::Failed)
 }
 
 /// A file, or a link that leads nowhere, in place of a directory.
@@ -401,17 +437,27 @@ fn refuse_directories(
     system: &HostRuntime,
     disk: &mut FileDisk<HostRuntime>,
 ) -> Result<(), Fail> {
-    let (side, name) = (Side::Secondary, seg(1, 0));
     fs::write(system, "./wal_secondary", "a file")?;
-    for _ in 0..2 {
-        assert_eq!(rt;
-            run(system, DiskOp::Create { side, name })?,
-            Progress::Failed
-        );
-        assert!(rt; has_failed(disk.list(side)));
-        fs::remove_file(system, "./wal_secondary")?;
-        symlink(system, "./nowhere", "./wal_secondary")?;
-    }
+    refuse_secondary(rt, system, disk)?;
     fs::remove_file(system, "./wal_secondary")?;
+    symlink(system, "./nowhere", "./wal_secondary")?;
+    refuse_secondary(rt, system, disk)?;
+    fs::remove_file(system, "./wal_secondary")?;
+    Ok(())
+}
+
+fn refuse_secondary(
+    rt: &impl Abort,
+    system: &HostRuntime,
+    disk: &mut FileDisk<HostRuntime>,
+) -> Result<(), NoMemory> {
+    let (side, name) = (Side::Secondary, seg(1, 0));
+    end_each(
+        rt,
+        system,
+        &[DiskOp::Create { side, name }],
+        Progress::Failed,
+    )?;
+    assert!(rt; count_listed(rt, disk, side).is_none());
     Ok(())
 }
