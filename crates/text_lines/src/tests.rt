@@ -1,168 +1,183 @@
-ghost use Rattle.std.specs.Prelude.{◌≢◌};
-ghost use Rattle.batch_repr.specs.declared.fault.BatchFault.TheVariants as faults;
-
 use crate::{
     SegmentLine, put_bad_batch, put_batch, put_conflict, put_duplicate, put_gap, put_number,
     put_printed, put_recovered_end, put_segment, put_store, side_name,
 };
-use batch_repr::{Batch, BatchBuilder, BatchFault};
+use batch_repr::{Batch, BatchBuilder, BatchFault, BuildFault};
 use disk_face::{SegName, Side};
 use std::alloc::Global;
 use std::process::Abort;
-use wal_base::Buf;
+use wal_base::{Buf, NoMemory};
 
-/// The batch of the entries that were added, with the first number 10.
-fn batch_of(rt: &impl Abort, builder: BatchBuilder) -> Batch {
+const NAME: SegName = SegName { wal: 1, index: 0 };
+
+const LATER: SegName = SegName { wal: 1, index: 1 };
+
+/// What a batch is to have.
+#[derive(Clone, Copy)]
+enum Change {
+    Set(&'static [u8], &'static [u8]),
+    Delete(&'static [u8]),
+    Note(&'static [u8]),
+}
+
+fn add_all(builder: &mut BatchBuilder, changes: &[Change]) -> Result<(), BuildFault> {
+    for change in changes {
+        match change {
+            Change::Set(key, value) => builder.set(key, value)?,
+            Change::Delete(key) => builder.delete(key)?,
+            Change::Note(bytes) => builder.note(bytes)?,
+        }
+    }
+    Ok(())
+}
+
+/// A batch with the first number 10.
+fn batch_of(rt: &impl Abort, alloc: Global, changes: &[Change]) -> Batch {
+    let mut builder = BatchBuilder::new(alloc).expect(rt, "memory");
+    let added = add_all(&mut builder, changes);
     let Ok(batch) = builder.finish() else {
         panic!(rt; "a batch");
     };
     let (numbered, entries) = batch.number_keeping_entries(10);
     let first = numbered.first();
+    assert!(rt; added.is_ok());
     Batch { first, entries }
 }
 
+/// Each is printed on a line of its own.
+fn put_each(out: &mut Buf, texts: &[&[u8]]) -> Result<(), NoMemory> {
+    for text in texts {
+        put_printed(out, text)?;
+        out.append(b"\n")?;
+    }
+    Ok(())
+}
+
+const PRINTED: &[u8] = b"\\e\n\\x20\n\\x5c\na\\x20b\\x5c\n\\x00!~\\x7f\\xff\nplain\n\\x0a\\x0ax\n";
+
 #[test]
 fn a_byte_that_does_not_print_as_itself_has_its_digits(rt: HostRuntime) {
-    for (bytes, printed) in [
-        (b"".as_slice(), b"\\e".as_slice()),
-        (b" ", b"\\x20"),
-        (b"\\", b"\\x5c"),
-        (b"a b\\", b"a\\x20b\\x5c"),
-        (b"\x00!~\x7f\xff", b"\\x00!~\\x7f\\xff"),
-        (b"plain", b"plain"),
-        (b"\n\nx", b"\\x0a\\x0ax"),
-    ] {
-        let mut out = Buf::new(rt.alloc()).expect(&rt, "memory");
-        out.append(b"k=").expect(&rt, "memory");
-        put_printed(&mut out, bytes).expect(&rt, "memory");
-        assert_eq!(rt; &out.as_slice()[..2], b"k=".as_slice());
-        assert_eq!(rt; &out.as_slice()[2..], printed);
-    }
+    let texts: [&[u8]; 7] = [
+        b"",
+        b" ",
+        b"\\",
+        b"a b\\",
+        b"\x00!~\x7f\xff",
+        b"plain",
+        b"\n\nx",
+    ];
+    let mut out = Buf::new(rt.alloc()).expect(&rt, "memory");
+    let put = put_each(&mut out, &texts);
+    assert!(rt; put.is_ok() && out.as_slice() == PRINTED);
 }
 
 #[test]
 fn a_number_has_its_decimal_digits(rt: HostRuntime) {
     let mut out = Buf::new(rt.alloc()).expect(&rt, "memory");
-    put_number(&mut out, 0).expect(&rt, "memory");
-    put_number(&mut out, 18_446_744_073_709_551_615).expect(&rt, "memory");
-    assert_eq!(rt; out.as_slice(), b"018446744073709551615".as_slice());
+    let is_put = put_number(&mut out, 0).is_ok()
+        && put_number(&mut out, 18_446_744_073_709_551_615).is_ok();
+    assert!(rt; is_put && out.as_slice() == b"018446744073709551615".as_slice());
 }
 
 #[test]
 fn a_batch_has_a_line_for_each_entry(rt: HostRuntime) {
-    let mut builder = BatchBuilder::new(rt.alloc()).expect(&rt, "memory");
-    builder.set(b"a", b"1").expect(&rt, "an entry");
-    builder.delete(b"b").expect(&rt, "an entry");
-    builder.note(b"x").expect(&rt, "an entry");
-    let batch = batch_of(&rt, builder);
     let mut out = Buf::new(rt.alloc()).expect(&rt, "memory");
-    put_batch(&mut out, &batch).expect(&rt, "memory");
-    assert_eq!(rt;
-        out.as_slice(),
-        b"batch 10 2\nset a 1\ndel b\nnote x\n".as_slice()
-    );
+    let put = put_changes(&rt, rt.alloc(), &mut out);
+    let text = b"batch 10 2\nset a 1\ndel b\nnote x\n".as_slice();
+    assert!(rt; put.is_ok() && out.as_slice() == text);
+}
+
+fn put_changes(rt: &impl Abort, alloc: Global, out: &mut Buf) -> Result<(), NoMemory> {
+    let changes = [
+        Change::Set(b"a", b"1"),
+        Change::Delete(b"b"),
+        Change::Note(b"x"),
+    ];
+    let batch = batch_of(rt, alloc, &changes);
+    put_batch(out, &batch)
 }
 
 #[test]
 fn a_segment_has_one_line(rt: HostRuntime) {
-    let name = SegName { wal: 1, index: 0 };
+    assert!(rt; side_name(Side::Secondary) == "secondary");
+    let mut out = Buf::new(rt.alloc()).expect(&rt, "memory");
+    let put = put_segments(&mut out);
+    let text =
+        b"segment 000001.log primary bytes 56 records 1 ends 28 torn\nsegment 000001-001.log secondary bytes 0 records 0 ends 0 clean\nend batches 1 next 11\n";
+    assert!(rt; put.is_ok() && out.as_slice() == text.as_slice());
+}
+
+fn put_segments(out: &mut Buf) -> Result<(), NoMemory> {
     let torn = SegmentLine {
         side: Side::Primary,
-        name,
+        name: NAME,
         len: 56,
         ends_at: 28,
         torn: true,
     };
+    put_segment(out, &torn, 1)?;
     let clean = SegmentLine {
         side: Side::Secondary,
-        name: SegName { wal: 1, index: 1 },
+        name: LATER,
         len: 0,
         ends_at: 0,
         torn: false,
     };
-    assert_eq!(rt; side_name(Side::Secondary), "secondary");
-    let mut out = Buf::new(rt.alloc()).expect(&rt, "memory");
-    put_segment(&mut out, &torn, 1).expect(&rt, "memory");
-    put_segment(&mut out, &clean, 0).expect(&rt, "memory");
-    put_recovered_end(&mut out, 1, 11).expect(&rt, "memory");
-    let text =
-        b"segment 000001.log primary bytes 56 records 1 ends 28 torn\nsegment 000001-001.log secondary bytes 0 records 0 ends 0 clean\nend batches 1 next 11\n";
-    assert_eq!(rt; out.as_slice(), text.as_slice());
+    put_segment(out, &clean, 0)?;
+    put_recovered_end(out, 1, 11)
 }
 
 #[test]
 fn a_refusal_has_one_line(rt: HostRuntime) {
-    let name = SegName { wal: 1, index: 0 };
-    let later = SegName { wal: 1, index: 1 };
     let mut out = Buf::new(rt.alloc()).expect(&rt, "memory");
-    put_duplicate(&mut out, name).expect(&rt, "memory");
-    let unknown = BatchFault::UnknownKind { at: 12, kind: 2 };
-    put_bad_batch(&mut out, name, 0, unknown).expect(&rt, "memory");
-    put_gap(&mut out, later, 13, 15).expect(&rt, "memory");
-    put_conflict(&mut out, later, 12).expect(&rt, "memory");
+    let put = put_refusals(&mut out);
     let text =
-        b"refused duplicate 000001.log\nrefused batch 000001.log 0 unknown-kind 12 2\nrefused gap 000001-001.log expected 13 found 15\nrefused conflict 000001-001.log 12\n";
-    assert_eq!(rt; out.as_slice(), text.as_slice());
+        b"refused duplicate 000001.log\nrefused gap 000001-001.log expected 13 found 15\nrefused conflict 000001-001.log 12\n";
+    assert!(rt; put.is_ok() && out.as_slice() == text.as_slice());
 }
 
-/// Whether a record of this fault is told by these words.
-fn has_words(rt: &impl Abort, alloc: Global, fault: BatchFault, words: &[u8]) -> bool
-    requires { fault ≢ faults.NoMemory }
-{
-    let mut line = Buf::new(alloc).expect(rt, "memory");
-    line.append(b"refused batch 000001.log 28 ")
-        .expect(rt, "memory");
-    line.append(words).expect(rt, "memory");
-    line.append(b"\n").expect(rt, "memory");
-    let mut out = Buf::new(alloc).expect(rt, "memory");
-    let name = SegName { wal: 1, index: 0 };
-    put_bad_batch(&mut out, name, 28, fault).expect(rt, "memory");
-    out.as_slice() == line.as_slice()
+fn put_refusals(out: &mut Buf) -> Result<(), NoMemory> {
+    put_duplicate(out, NAME)?;
+    put_gap(out, LATER, 13, 15)?;
+    put_conflict(out, LATER, 12)
 }
 
 #[test]
 fn each_fault_of_a_batch_has_its_words(rt: HostRuntime) {
-    let alloc = rt.alloc();
-    let short_entry = BatchFault::ShortEntry { at: 12 };
-    let unknown = BatchFault::UnknownKind { at: 15, kind: 4 };
-    let count = BatchFault::Count { said: 2, found: 1 };
-    assert!(rt; has_words(&rt, alloc, BatchFault::ShortHeader, b"short-header"));
-    assert!(rt; has_words(&rt, alloc, short_entry, b"short-entry 12"));
-    assert!(rt;
-        has_words(
-            &rt,
-            alloc,
-            BatchFault::BadVarint { at: 13 },
-            b"bad-varint 13"
-        )
-    );
-    assert!(rt; has_words(&rt, alloc, BatchFault::TooLong { at: 14 }, b"too-long 14"));
-    assert!(rt; has_words(&rt, alloc, unknown, b"unknown-kind 15 4"));
-    assert!(rt; has_words(&rt, alloc, count, b"count 2 1"));
-    assert!(rt;
-        has_words(
-            &rt,
-            alloc,
-            BatchFault::SeqRange { first: 9 },
-            b"seq-range 9"
-        )
-    );
+    let mut out = Buf::new(rt.alloc()).expect(&rt, "memory");
+    let put = put_faults(&mut out);
+    let text =
+        b"refused batch 000001.log 0 short-header\nrefused batch 000001.log 1 short-entry 12\nrefused batch 000001.log 2 bad-varint 13\nrefused batch 000001.log 3 too-long 14\nrefused batch 000001.log 4 unknown-kind 15 4\nrefused batch 000001.log 5 count 2 1\nrefused batch 000001.log 28 seq-range 9\n";
+    assert!(rt; put.is_ok() && out.as_slice() == text.as_slice());
+}
+
+fn put_faults(out: &mut Buf) -> Result<(), NoMemory> {
+    put_bad_batch(out, NAME, 0, BatchFault::ShortHeader)?;
+    put_bad_batch(out, NAME, 1, BatchFault::ShortEntry { at: 12 })?;
+    put_bad_batch(out, NAME, 2, BatchFault::BadVarint { at: 13 })?;
+    put_bad_batch(out, NAME, 3, BatchFault::TooLong { at: 14 })?;
+    put_bad_batch(out, NAME, 4, BatchFault::UnknownKind { at: 15, kind: 4 })?;
+    put_bad_batch(out, NAME, 5, BatchFault::Count { said: 2, found: 1 })?;
+    put_bad_batch(out, NAME, 28, BatchFault::SeqRange { first: 9 })
 }
 
 #[test]
 fn a_store_has_a_line_for_each_key_with_a_value(rt: HostRuntime) {
-    let mut builder = BatchBuilder::new(rt.alloc()).expect(&rt, "memory");
-    builder.set(b"a", b"1").expect(&rt, "an entry");
-    let first = batch_of(&rt, builder);
-    let mut builder = BatchBuilder::new(rt.alloc()).expect(&rt, "memory");
-    builder.set(b"c", b"").expect(&rt, "an entry");
-    builder.set(b"b", b"2").expect(&rt, "an entry");
-    builder.note(b"a").expect(&rt, "an entry");
-    builder.delete(b"a").expect(&rt, "an entry");
-    let second = batch_of(&rt, builder);
     let mut out = Buf::new(rt.alloc()).expect(&rt, "memory");
-    put_store(rt.alloc(), &mut out, &[first, second]).expect(&rt, "memory");
-    assert_eq!(rt; out.as_slice(), b"b = 2\nc = \\e\n".as_slice());
+    let put = put_two_batches(&rt, rt.alloc(), &mut out);
+    assert!(rt; put.is_ok() && out.as_slice() == b"b = 2\nc = \\e\n".as_slice());
+}
+
+fn put_two_batches(rt: &impl Abort, alloc: Global, out: &mut Buf) -> Result<(), NoMemory> {
+    let changes = [
+        Change::Set(b"c", b""),
+        Change::Set(b"b", b"2"),
+        Change::Note(b"a"),
+        Change::Delete(b"a"),
+    ];
+    let first = batch_of(rt, alloc, &[Change::Set(b"a", b"1")]);
+    let second = batch_of(rt, alloc, &changes);
+    put_store(alloc, out, &[first, second])
 }
 
 /// Adds a line many times, and looks each time at what it added. An allocation is refused only where that is asked for:
