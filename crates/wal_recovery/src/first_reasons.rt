@@ -4,11 +4,9 @@
 //! worked out by hand: duplicates before all; then WAL by WAL the first record that is cut short, by index and place;
 //! then the first batch that leaves a gap (only where none is accepted) or that denies one before it.
 
-use crate::tests::{CUT, Rig, Segment, Summary, primary, secondary, summary};
-use crate::{Mode, RecoverFault};
+use crate::RecoverFault;
+use crate::tests::{CUT, Summary, primary, secondary, see};
 use batch_repr::BatchFault;
-use std::alloc::Global;
-use std::process::Abort;
 
 const fn twice(wal: u64, index: u32) -> Summary {
     Err(RecoverFault::DuplicateSegment { wal, index })
@@ -38,49 +36,7 @@ const fn conflict(wal: u64, index: u32, first: u64) -> Summary {
     Err(RecoverFault::Conflict { wal, index, first })
 }
 
-/// The directories with these segments recover to this, strictly and leniently.
-fn see(
-    rt: &impl Abort,
-    alloc: Global,
-    segments: &[Segment<'_>],
-    strict: Summary,
-    lenient: Summary,
-) {
-    let mut rig = Rig::of(rt, alloc, segments);
-    let found = rig.recover(alloc, Mode::Strict);
-    assert_eq!(rt; summary(found), strict);
-    let found = rig.recover(alloc, Mode::Lenient);
-    assert_eq!(rt; summary(found), lenient);
-}
-
-#[test]
-fn a_conflict_comes_before_a_bad_batch_of_a_later_wal(rt: HostRuntime) {
-    let twins = [
-        primary(1, 0, &[(10, 1)]),
-        secondary(1, 1, &[(10, 2)]),
-        primary(2, 0, &[(11, CUT)]),
-    ];
-    see(
-        &rt,
-        rt.alloc(),
-        &twins,
-        conflict(1, 1, 10),
-        conflict(1, 1, 10),
-    );
-    let within = [
-        primary(1, 0, &[(10, 1), (10, 2)]),
-        primary(2, 0, &[(11, CUT)]),
-    ];
-    see(
-        &rt,
-        rt.alloc(),
-        &within,
-        conflict(1, 0, 10),
-        conflict(1, 0, 10),
-    );
-}
-
-/// A bad batch, a gap and a conflict, each in a WAL of its own, in each order.
+/// A bad batch, a gap and a conflict, each in a WAL of its own. A gap is passed where gaps are accepted.
 #[test]
 fn the_first_wal_that_is_wrong_is_named(rt: HostRuntime) {
     let bad_gap_conflict = [
@@ -94,18 +50,6 @@ fn the_first_wal_that_is_wrong_is_named(rt: HostRuntime) {
         &bad_gap_conflict,
         bad(1, 0, 28),
         bad(1, 0, 28),
-    );
-    let bad_conflict_gap = [
-        primary(1, 0, &[(10, CUT)]),
-        primary(2, 0, &[(10, 1), (10, 2)]),
-        primary(3, 0, &[(20, 1)]),
-    ];
-    see(
-        &rt,
-        rt.alloc(),
-        &bad_conflict_gap,
-        bad(1, 0, 0),
-        bad(1, 0, 0),
     );
     let gap_bad_conflict = [
         primary(1, 0, &[(10, 1), (12, 1)]),
@@ -133,7 +77,7 @@ fn the_first_wal_that_is_wrong_is_named(rt: HostRuntime) {
     );
     let conflict_bad_gap = [
         primary(1, 0, &[(10, 1), (11, 1)]),
-        secondary(1, 1, &[(11, 2)]),
+        secondary(1, 5, &[(11, 2)]),
         primary(2, 0, &[(12, CUT)]),
         primary(3, 0, &[(20, 1)]),
     ];
@@ -141,20 +85,8 @@ fn the_first_wal_that_is_wrong_is_named(rt: HostRuntime) {
         &rt,
         rt.alloc(),
         &conflict_bad_gap,
-        conflict(1, 1, 11),
-        conflict(1, 1, 11),
-    );
-    let conflict_gap_bad = [
-        primary(1, 0, &[(10, 1), (10, 2)]),
-        primary(2, 0, &[(20, 1)]),
-        primary(3, 0, &[(21, CUT)]),
-    ];
-    see(
-        &rt,
-        rt.alloc(),
-        &conflict_gap_bad,
-        conflict(1, 0, 10),
-        conflict(1, 0, 10),
+        conflict(1, 5, 11),
+        conflict(1, 5, 11),
     );
 }
 
@@ -167,19 +99,6 @@ fn a_duplicate_comes_before_all(rt: HostRuntime) {
         secondary(2, 0, &[(11, 1)]),
     ];
     see(&rt, rt.alloc(), &behind_bad, twice(2, 0), twice(2, 0));
-    let behind_gap = [
-        primary(1, 0, &[(10, 1), (12, 1)]),
-        primary(2, 7, &[]),
-        secondary(2, 7, &[]),
-    ];
-    see(&rt, rt.alloc(), &behind_gap, twice(2, 7), twice(2, 7));
-    let behind_conflict = [
-        primary(1, 0, &[(10, 1)]),
-        secondary(1, 1, &[(10, 2)]),
-        primary(3, 4, &[]),
-        secondary(3, 4, &[]),
-    ];
-    see(&rt, rt.alloc(), &behind_conflict, twice(3, 4), twice(3, 4));
     let ahead = [
         primary(1, 0, &[(10, 1)]),
         secondary(1, 0, &[(10, 1)]),
@@ -189,9 +108,9 @@ fn a_duplicate_comes_before_all(rt: HostRuntime) {
     see(&rt, rt.alloc(), &ahead, twice(1, 0), twice(1, 0));
     let two = [
         primary(1, 2, &[(10, CUT)]),
-        secondary(1, 2, &[]),
         primary(2, 0, &[]),
         secondary(2, 0, &[]),
+        secondary(1, 2, &[]),
     ];
     see(&rt, rt.alloc(), &two, twice(1, 2), twice(1, 2));
 }
@@ -217,13 +136,6 @@ fn a_bad_batch_comes_before_what_its_own_wal_merges_to(rt: HostRuntime) {
         secondary(2, 3, &[(12, 1), (13, CUT)]),
     ];
     see(&rt, rt.alloc(), &behind_gap, bad(2, 3, 28), bad(2, 3, 28));
-    let behind_earlier = [
-        primary(1, 0, &[(10, 1)]),
-        primary(2, 0, &[(11, 1)]),
-        secondary(2, 1, &[(10, 2)]),
-        primary(2, 2, &[(12, CUT)]),
-    ];
-    see(&rt, rt.alloc(), &behind_earlier, bad(2, 2, 0), bad(2, 2, 0));
 }
 
 /// Of a gap and a conflict the first in the row is named, and gaps are passed where they are accepted.
@@ -269,16 +181,15 @@ fn a_gap_and_a_conflict_are_named_by_their_places(rt: HostRuntime) {
         bad(2, 0, 0),
     );
     let a_repeated_wal = [
-        primary(1, 0, &[(10, 1), (11, 1)]),
-        primary(2, 0, &[(10, 1)]),
-        primary(3, 0, &[(12, CUT)]),
+        primary(3, 0, &[(10, 1), (11, 2)]),
+        secondary(7, 2, &[(10, 1), (12, 3)]),
     ];
     see(
         &rt,
         rt.alloc(),
         &a_repeated_wal,
-        conflict(2, 0, 10),
-        bad(3, 0, 0),
+        conflict(7, 2, 10),
+        Ok((3, Some(b'3'), 13, 8)),
     );
     let only_a_gap = [
         primary(1, 0, &[(10, 1)]),

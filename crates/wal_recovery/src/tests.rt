@@ -132,23 +132,32 @@ fn digit_at(batches: &Batches, at: usize) -> Option<u8> {
     }
 }
 
-/// What the report at a place says: the segment, its length, where it ends, whether it is torn, how many batches.
-fn report_at(
-    found: &Result<Recovered, RecoverFault>,
-    at: usize,
-) -> Option<(Side, SegName, u64, u64, bool, usize)> {
+/// What a report says of a segment.
+#[derive(Clone, Copy, PartialEq, Eq)]
+struct Told {
+    side: Side,
+    name: SegName,
+    len: u64,
+    ends_at: u64,
+    torn: bool,
+    /// How many batches it has.
+    batches: usize,
+}
+
+/// What the report at a place says.
+fn told_at(found: &Result<Recovered, RecoverFault>, at: usize) -> Option<Told> {
     let Ok(found) = found else {
         return None;
     };
     let report = found.segments.get(at)?;
-    Some((
-        report.side,
-        report.name,
-        report.len,
-        report.ends_at,
-        report.torn,
-        report.batches.len(),
-    ))
+    Some(Told {
+        side: report.side,
+        name: report.name,
+        len: report.len,
+        ends_at: report.ends_at,
+        torn: report.torn,
+        batches: report.batches.len(),
+    })
 }
 
 /// What a recovery gave: how many batches, the last digit, and the numbers that come next.
@@ -161,6 +170,40 @@ pub(crate) fn summary(found: Result<Recovered, RecoverFault>) -> Summary {
     Ok((len, last, found.next, found.next_wal))
 }
 
+/// The disk recovers to this.
+pub(crate) fn gives(rt: &impl Abort, alloc: Global, rig: &mut Rig, mode: Mode, wanted: &Summary) {
+    let found = summary(rig.recover(alloc, mode));
+    assert!(rt; found == *wanted);
+}
+
+/// The directories with these segments recover to this, strictly and leniently.
+pub(crate) fn see(
+    rt: &impl Abort,
+    alloc: Global,
+    segments: &[Segment<'_>],
+    strict: Summary,
+    lenient: Summary,
+) {
+    let mut rig = Rig::of(rt, alloc, segments);
+    gives(rt, alloc, &mut rig, Mode::Strict, &strict);
+    gives(rt, alloc, &mut rig, Mode::Lenient, &lenient);
+}
+
+/// The disk recovers to this, and says this of the segment at a place.
+fn tells(
+    rt: &impl Abort,
+    alloc: Global,
+    rig: &mut Rig,
+    mode: Mode,
+    at: usize,
+    told: Told,
+    wanted: &Summary,
+) {
+    let found = rig.recover(alloc, mode);
+    let is_told = told_at(&found, at) == Some(told);
+    assert!(rt; is_told && summary(found) == *wanted);
+}
+
 const FIRST: SegName = SegName { wal: 1, index: 0 };
 
 const SECOND: SegName = SegName { wal: 1, index: 1 };
@@ -171,39 +214,73 @@ fn overlapping_segments_are_merged(rt: HostRuntime) {
         primary(1, 0, &[(10, 1), (11, 2), (12, 3)]),
         secondary(1, 1, &[(11, 2), (12, 3), (13, 4), (14, 5)]),
     ];
-    let mut rig = Rig::of(&rt, rt.alloc(), &segments);
-    let found = rig.recover(rt.alloc(), Mode::Strict);
-    assert_eq!(rt; summary(found), Ok((5, Some(b'5'), 15, 2)));
-    let found = rig.recover(rt.alloc(), Mode::Lenient);
-    assert_eq!(rt; summary(found), Ok((5, Some(b'5'), 15, 2)));
+    let all = Ok((5, Some(b'5'), 15, 2));
+    see(&rt, rt.alloc(), &segments, all, all);
+}
+
+/// A disk with three batches in the first segment, cut to a length with zeros behind it, and three in the second one.
+fn cut_to(rt: &impl Abort, alloc: Global, len: usize, zeros: &[u8]) -> Rig {
+    let mut rig = Rig::of(rt, alloc, &[secondary(1, 1, &[(11, 2), (12, 3), (13, 4)])]);
+    let mut bytes = bytes_of(rt, alloc, 1, &[(10, 1), (11, 2), (12, 3)]);
+    bytes.truncate(len);
+    bytes.append(zeros).expect(rt, "memory");
+    rig.put(rt, Side::Primary, FIRST, bytes.as_slice());
+    rig
+}
+
+/// The segment ends at 56 in both, and all batches are found.
+fn check_cut(rt: &impl Abort, alloc: Global, len: usize, zeros: &[u8], torn: bool) {
+    let mut rig = cut_to(rt, alloc, len, zeros);
+    let told = Told {
+        side: Side::Primary,
+        name: FIRST,
+        len: (len as u64).wrapping_add(zeros.len() as u64),
+        ends_at: 56,
+        torn,
+        batches: 2,
+    };
+    let all = Ok((4, Some(b'4'), 14, 2));
+    tells(rt, alloc, &mut rig, Mode::Strict, 0, told, &all);
 }
 
 #[test]
 fn a_torn_segment_is_passed(rt: HostRuntime) {
-    for (len, zeros, torn) in [(56usize, 28usize, false), (70, 0, true)] {
-        let mut rig = Rig::new(&rt, rt.alloc());
-        let mut bytes = bytes_of(&rt, rt.alloc(), 1, &[(10, 1), (11, 2), (12, 3)]);
-        bytes.truncate(len);
-        bytes.append(&[0u8; 28][..zeros]).expect(&rt, "memory");
-        let len = bytes.as_slice().len() as u64;
-        rig.put(&rt, Side::Primary, FIRST, bytes.as_slice());
-        let bytes = bytes_of(&rt, rt.alloc(), 1, &[(11, 2), (12, 3), (13, 4)]);
-        rig.put(&rt, Side::Secondary, SECOND, bytes.as_slice());
-        let found = rig.recover(rt.alloc(), Mode::Strict);
-        assert!(rt; report_at(&found, 0) == Some((Side::Primary, FIRST, len, 56, torn, 2)));
-        assert_eq!(rt; summary(found), Ok((4, Some(b'4'), 14, 2)));
-    }
+    check_cut(&rt, rt.alloc(), 56, &[0; 28], false);
+    check_cut(&rt, rt.alloc(), 70, &[], true);
+}
+
+/// A disk with a segment of two batches, of which the second one has another log.
+fn of_two_logs(rt: &impl Abort, alloc: Global) -> Rig {
+    let mut rig = Rig::new(rt, alloc);
+    let mut bytes = bytes_of(rt, alloc, 1, &[(10, 1)]);
+    append(rt, &mut bytes, 7, &record_of(11, 9));
+    rig.put(rt, Side::Primary, FIRST, bytes.as_slice());
+    rig
 }
 
 #[test]
 fn another_log_ends_a_segment(rt: HostRuntime) {
-    let mut rig = Rig::new(&rt, rt.alloc());
-    let mut bytes = bytes_of(&rt, rt.alloc(), 1, &[(10, 1)]);
-    append(&rt, &mut bytes, 7, &record_of(11, 9));
-    rig.put(&rt, Side::Primary, FIRST, bytes.as_slice());
-    let found = rig.recover(rt.alloc(), Mode::Lenient);
-    assert!(rt; report_at(&found, 0) == Some((Side::Primary, FIRST, 56, 28, true, 1)));
-    assert_eq!(rt; summary(found), Ok((1, Some(b'1'), 11, 2)));
+    let mut rig = of_two_logs(&rt, rt.alloc());
+    let told = Told {
+        side: Side::Primary,
+        name: FIRST,
+        len: 56,
+        ends_at: 28,
+        torn: true,
+        batches: 1,
+    };
+    let first = Ok((1, Some(b'1'), 11, 2));
+    tells(&rt, rt.alloc(), &mut rig, Mode::Lenient, 0, told, &first);
+}
+
+/// A disk with a segment of two batches and this record between them.
+fn with_between(rt: &impl Abort, alloc: Global, record: &[u8; 17]) -> Rig {
+    let mut rig = Rig::new(rt, alloc);
+    let mut bytes = bytes_of(rt, alloc, 1, &[(10, 1)]);
+    append(rt, &mut bytes, 1, record);
+    append(rt, &mut bytes, 1, &record_of(11, 2));
+    rig.put(rt, Side::Secondary, SECOND, bytes.as_slice());
+    rig
 }
 
 #[test]
@@ -212,90 +289,33 @@ fn a_batch_without_a_number_is_only_reported(rt: HostRuntime) {
     note[8] = 0;
     note[12] = 3;
     note[13] = 3;
-    let mut bytes = bytes_of(&rt, rt.alloc(), 1, &[(10, 1)]);
-    append(&rt, &mut bytes, 1, &note);
-    append(&rt, &mut bytes, 1, &record_of(11, 2));
-    let mut rig = Rig::new(&rt, rt.alloc());
-    rig.put(&rt, Side::Secondary, FIRST, bytes.as_slice());
-    for mode in [Mode::Strict, Mode::Lenient] {
-        let found = rig.recover(rt.alloc(), mode);
-        assert!(rt; report_at(&found, 0) == Some((Side::Secondary, FIRST, 84, 84, false, 3)));
-        assert_eq!(rt; summary(found), Ok((2, Some(b'2'), 12, 2)));
-    }
-}
-
-#[test]
-fn a_gap_is_refused_where_none_is_accepted(rt: HostRuntime) {
-    let segments = [
-        primary(1, 0, &[(10, 1), (11, 2), (12, 3)]),
-        secondary(1, 1, &[(15, 6)]),
-    ];
-    let mut rig = Rig::of(&rt, rt.alloc(), &segments);
-    let gap = RecoverFault::Gap {
-        wal: 1,
-        index: 1,
-        expected: 13,
-        found: 15,
+    let mut rig = with_between(&rt, rt.alloc(), &note);
+    let told = Told {
+        side: Side::Secondary,
+        name: SECOND,
+        len: 84,
+        ends_at: 84,
+        torn: false,
+        batches: 3,
     };
-    let found = rig.recover(rt.alloc(), Mode::Strict);
-    assert_eq!(rt; summary(found), Err(gap));
-    let found = rig.recover(rt.alloc(), Mode::Lenient);
-    assert_eq!(rt; summary(found), Ok((4, Some(b'6'), 16, 2)));
-}
-
-#[test]
-fn another_batch_of_one_number_is_refused(rt: HostRuntime) {
-    // The second segment has index 5, and in the row of all WALs the place 1.
-    let segments = [
-        primary(1, 0, &[(10, 1), (11, 2), (12, 3)]),
-        secondary(1, 5, &[(12, 9)]),
-    ];
-    let mut rig = Rig::of(&rt, rt.alloc(), &segments);
-    let conflict = RecoverFault::Conflict {
-        wal: 1,
-        index: 5,
-        first: 12,
-    };
-    for mode in [Mode::Strict, Mode::Lenient] {
-        let found = rig.recover(rt.alloc(), mode);
-        assert_eq!(rt; summary(found), Err(conflict));
-    }
-}
-
-#[test]
-fn the_least_name_on_both_sides_is_refused(rt: HostRuntime) {
-    let segments = [
-        primary(1, 0, &[(10, 1)]),
-        primary(2, 3, &[]),
-        secondary(2, 3, &[]),
-        secondary(1, 0, &[(10, 1)]),
-    ];
-    let mut rig = Rig::of(&rt, rt.alloc(), &segments);
-    let twice = RecoverFault::DuplicateSegment { wal: 1, index: 0 };
-    for mode in [Mode::Strict, Mode::Lenient] {
-        let found = rig.recover(rt.alloc(), mode);
-        assert_eq!(rt; summary(found), Err(twice));
-    }
+    let both = Ok((2, Some(b'2'), 12, 2));
+    tells(&rt, rt.alloc(), &mut rig, Mode::Strict, 0, told, &both);
+    tells(&rt, rt.alloc(), &mut rig, Mode::Lenient, 0, told, &both);
 }
 
 #[test]
 fn a_record_that_is_no_batch_is_refused(rt: HostRuntime) {
-    let mut record = record_of(12, 3);
+    let mut record = record_of(11, 2);
     record[12] = 2;
-    let mut rig = Rig::of(&rt, rt.alloc(), &[primary(1, 0, &[(10, 1)])]);
-    let mut bytes = bytes_of(&rt, rt.alloc(), 1, &[(11, 2)]);
-    append(&rt, &mut bytes, 1, &record);
-    rig.put(&rt, Side::Secondary, SECOND, bytes.as_slice());
-    let bad = RecoverFault::BadBatch {
+    let mut rig = with_between(&rt, rt.alloc(), &record);
+    let bad = Err(RecoverFault::BadBatch {
         wal: 1,
         index: 1,
         place: 28,
         fault: BatchFault::UnknownKind { at: 12, kind: 2 },
-    };
-    for mode in [Mode::Strict, Mode::Lenient] {
-        let found = rig.recover(rt.alloc(), mode);
-        assert_eq!(rt; summary(found), Err(bad));
-    }
+    });
+    gives(&rt, rt.alloc(), &mut rig, Mode::Strict, &bad);
+    gives(&rt, rt.alloc(), &mut rig, Mode::Lenient, &bad);
 }
 
 #[test]
@@ -308,42 +328,21 @@ fn a_wal_goes_on_from_the_one_before_it(rt: HostRuntime) {
         primary(3, 0, &[(10, 1)]),
     ];
     let mut rig = Rig::of(&rt, rt.alloc(), &segments);
-    let found = rig.recover(rt.alloc(), Mode::Strict);
-    assert!(rt;
-        report_at(&found, 1)
-            == Some((
-                Side::Secondary,
-                SegName { wal: 3, index: 2 },
-                0,
-                0,
-                false,
-                0
-            ))
-    );
-    assert_eq!(rt; summary(found), Ok((3, Some(b'3'), 13, 8)));
-}
-
-#[test]
-fn a_wal_may_repeat_another_only_where_gaps_are_accepted(rt: HostRuntime) {
-    let segments = [
-        primary(3, 0, &[(10, 1), (11, 2)]),
-        secondary(7, 2, &[(10, 1), (12, 3)]),
-    ];
-    let mut rig = Rig::of(&rt, rt.alloc(), &segments);
-    let conflict = RecoverFault::Conflict {
-        wal: 7,
-        index: 2,
-        first: 10,
+    let told = Told {
+        side: Side::Secondary,
+        name: SegName { wal: 3, index: 2 },
+        len: 0,
+        ends_at: 0,
+        torn: false,
+        batches: 0,
     };
-    let found = rig.recover(rt.alloc(), Mode::Strict);
-    assert_eq!(rt; summary(found), Err(conflict));
-    let found = rig.recover(rt.alloc(), Mode::Lenient);
-    assert_eq!(rt; summary(found), Ok((3, Some(b'3'), 13, 8)));
+    let all = Ok((3, Some(b'3'), 13, 8));
+    tells(&rt, rt.alloc(), &mut rig, Mode::Strict, 1, told, &all);
 }
 
 #[test]
 fn the_greatest_wal_is_read(rt: HostRuntime) {
-    // 999,999,999,999 is 232 * 2^32 + 3,567,587,327.
+    // The log number of 999,999,999,999, which is 232 * 2^32 + 3,567,587,327.
     let bytes = bytes_of(&rt, rt.alloc(), 3_567_587_327, &[(10, 1)]);
     let name = SegName {
         wal: 999_999_999_999,
@@ -351,47 +350,57 @@ fn the_greatest_wal_is_read(rt: HostRuntime) {
     };
     let mut rig = Rig::new(&rt, rt.alloc());
     rig.put(&rt, Side::Primary, name, bytes.as_slice());
-    let found = rig.recover(rt.alloc(), Mode::Strict);
-    assert_eq!(rt; summary(found), Ok((1, Some(b'1'), 11, 1_000_000_000_000)));
+    let found = Ok((1, Some(b'1'), 11, 1_000_000_000_000));
+    gives(&rt, rt.alloc(), &mut rig, Mode::Strict, &found);
 }
 
 #[test]
 fn empty_directories_recover_to_nothing(rt: HostRuntime) {
-    let mut rig = Rig::new(&rt, rt.alloc());
+    let nothing = Ok((0, None, 10, 1));
+    see(&rt, rt.alloc(), &[], nothing, nothing);
+}
+
+/// A disk with a segment of one batch on each side.
+fn two_sides(rt: &impl Abort, alloc: Global) -> Rig {
+    let segments = [primary(1, 0, &[(10, 1)]), secondary(1, 1, &[(11, 2)])];
+    Rig::of(rt, alloc, &segments)
+}
+
+/// The call of this number fails, in both modes.
+fn check_call(rt: &impl Abort, alloc: Global, call: u64, side: Side) {
     for mode in [Mode::Strict, Mode::Lenient] {
-        let found = rig.recover(rt.alloc(), mode);
-        assert_eq!(rt; summary(found), Ok((0, None, 10, 1)));
+        let mut rig = two_sides(rt, alloc);
+        rig.fail_call(rt, call);
+        gives(rt, alloc, &mut rig, mode, &Err(RecoverFault::Disk { side }));
     }
 }
 
 #[test]
 fn a_failing_call_names_its_side(rt: HostRuntime) {
     // Two listings, and then a read of each segment.
-    let segments = [primary(1, 0, &[(10, 1)]), secondary(1, 1, &[(11, 2)])];
-    for (call, side) in [
-        (0, Side::Primary),
-        (1, Side::Secondary),
-        (2, Side::Primary),
-        (3, Side::Secondary),
-    ] {
-        for mode in [Mode::Strict, Mode::Lenient] {
-            let mut rig = Rig::of(&rt, rt.alloc(), &segments);
-            rig.fail_call(&rt, call);
-            let found = rig.recover(rt.alloc(), mode);
-            assert_eq!(rt; summary(found), Err(RecoverFault::Disk { side }));
-        }
-    }
+    check_call(&rt, rt.alloc(), 0, Side::Primary);
+    check_call(&rt, rt.alloc(), 1, Side::Secondary);
+    check_call(&rt, rt.alloc(), 2, Side::Primary);
+    check_call(&rt, rt.alloc(), 3, Side::Secondary);
+}
+
+/// The operation of this number fails. Where gaps are accepted none is started.
+fn check_sync(rt: &impl Abort, alloc: Global, number: u64, side: Side) {
+    let mut rig = two_sides(rt, alloc);
+    rig.fail_op(rt, number);
+    let both = Ok((2, Some(b'2'), 12, 2));
+    gives(rt, alloc, &mut rig, Mode::Lenient, &both);
+    gives(
+        rt,
+        alloc,
+        &mut rig,
+        Mode::Strict,
+        &Err(RecoverFault::Disk { side }),
+    );
 }
 
 #[test]
 fn a_failing_sync_names_its_side(rt: HostRuntime) {
-    let segments = [primary(1, 0, &[(10, 1)]), secondary(1, 1, &[(11, 2)])];
-    for (number, side) in [(0, Side::Primary), (1, Side::Secondary)] {
-        let mut rig = Rig::of(&rt, rt.alloc(), &segments);
-        rig.fail_op(&rt, number);
-        let found = rig.recover(rt.alloc(), Mode::Lenient);
-        assert_eq!(rt; summary(found), Ok((2, Some(b'2'), 12, 2)));
-        let found = rig.recover(rt.alloc(), Mode::Strict);
-        assert_eq!(rt; summary(found), Err(RecoverFault::Disk { side }));
-    }
+    check_sync(&rt, rt.alloc(), 0, Side::Primary);
+    check_sync(&rt, rt.alloc(), 1, Side::Secondary);
 }
