@@ -7,13 +7,28 @@ use std::alloc::Global;
 use std::process::Abort;
 use wal_base::{Blob, Entries, Entry};
 
+fn blob(rt: &impl Abort, alloc: Global, bytes: &[u8]) -> Blob {
+    Blob::copy_of(alloc, bytes).expect(rt, "memory")
+}
+
 /// The batch with this first number of one Set, of the key `a` to one byte.
 fn batch(rt: &impl Abort, alloc: Global, first: u64, value: u8) -> Batch {
-    let key = Blob::copy_of(alloc, b"a").expect(rt, "memory");
-    let value = Blob::copy_of(alloc, [value].as_slice()).expect(rt, "memory");
+    let key = blob(rt, alloc, b"a");
+    let value = blob(rt, alloc, [value].as_slice());
     let mut entries = Entries::new(alloc);
     assert!(rt; entries.push(Entry::Set { key, value }).is_ok());
     Batch { first, entries }
+}
+
+/// It is that batch.
+fn is_batch(found: &Batch, first: u64, value: u8) -> bool {
+    match found.entries.as_slice() {
+        [Entry::Set { key, value: set }] => {
+            let is_set = key.as_slice() == b"a".as_slice() && set.as_slice() == [value].as_slice();
+            found.first == first && is_set
+        }
+        _ => false,
+    }
 }
 
 /// The batch takes a number and ends within the numbers.
@@ -46,78 +61,60 @@ fn see_row(rt: &impl Abort, segments: &[SegmentRead])
     }
 }
 
+/// The segment of this index, with the first numbers and values of its batches.
+fn segment(rt: &impl Abort, alloc: Global, index: u32, numbers: &[(u64, u8)]) -> SegmentRead {
+    let mut batches = Batches::new(alloc);
+    for (first, value) in numbers {
+        assert!(rt; batches.push(batch(rt, alloc, *first, *value)).is_ok());
+    }
+    SegmentRead { index, batches }
+}
+
 /// The row of these segments, each with its index and the first numbers and values of its batches.
 fn row(rt: &impl Abort, alloc: Global, segments: &[(u32, &[(u64, u8)])]) -> Segments
     ensures { IsRow result }
 {
     let mut row = Segments::new(alloc);
     for (index, numbers) in segments {
-        let mut batches = Batches::new(alloc);
-        for (first, value) in *numbers {
-            assert!(rt; batches.push(batch(rt, alloc, *first, *value)).is_ok());
-        }
-        let segment = SegmentRead {
-            index: *index,
-            batches,
-        };
-        assert!(rt; row.push(segment).is_ok());
+        assert!(rt; row.push(segment(rt, alloc, *index, *numbers)).is_ok());
     }
     see_row(rt, row.as_slice());
     row
 }
 
+/// They are the batches of these first numbers and values.
+fn are_batches(found: &[Batch], wanted: &[(u64, u8)]) -> bool {
+    for (batch, (first, value)) in found.iter().zip(wanted) {
+        if !is_batch(batch, *first, *value) {
+            return false;
+        }
+    }
+    found.len() == wanted.len()
+}
+
 /// What was merged is these batches.
-fn gives(
-    rt: &impl Abort,
-    alloc: Global,
-    answer: Result<Batches, MergeFault>,
-    wanted: &[(u64, u8)],
-) {
+fn gives(rt: &impl Abort, answer: Result<Batches, MergeFault>, wanted: &[(u64, u8)]) {
     let Ok(merged) = answer else {
         panic!(rt; "a merged list");
     };
-    assert_eq!(rt; merged.len(), wanted.len());
-    for ((first, value), found) in wanted.iter().zip(merged.as_slice()) {
-        assert!(rt; found.same_as(&batch(rt, alloc, *first, *value)));
-    }
+    assert!(rt; are_batches(merged.as_slice(), wanted));
 }
 
-/// Both ways of merging from 10 give these batches.
-fn both_give(
+/// Merging was refused.
+fn refused(rt: &impl Abort, answer: Result<Batches, MergeFault>, fault: MergeFault) {
+    assert!(rt; answer.err() == Some(fault));
+}
+
+/// Merges the two rows that accept gaps, one after the other.
+fn merge_in_turn(
     rt: &impl Abort,
     alloc: Global,
-    segments: &[(u32, &[(u64, u8)])],
-    wanted: &[(u64, u8)],
-) {
-    gives(
-        rt,
-        alloc,
-        merge(alloc, 10, row(rt, alloc, segments)),
-        wanted,
-    );
-    gives(
-        rt,
-        alloc,
-        merge_lenient(alloc, row(rt, alloc, segments)),
-        wanted,
-    );
-}
-
-/// Merging from 10 without gaps is refused.
-fn refuses(rt: &impl Abort, alloc: Global, segments: &[(u32, &[(u64, u8)])], fault: MergeFault) {
-    let answer = merge(alloc, 10, row(rt, alloc, segments));
-    assert_eq!(rt; answer.err(), Some(fault));
-}
-
-/// Merging that accepts gaps is refused.
-fn refuses_leniently(
-    rt: &impl Abort,
-    alloc: Global,
-    segments: &[(u32, &[(u64, u8)])],
-    fault: MergeFault,
-) {
-    let answer = merge_lenient(alloc, row(rt, alloc, segments));
-    assert_eq!(rt; answer.err(), Some(fault));
+    first: &[(u32, &[(u64, u8)])],
+    second: &[(u32, &[(u64, u8)])],
+) -> Result<Batches, MergeFault> {
+    let merge = LenientMerge::new(alloc).add(row(rt, alloc, first))?;
+    let merge = merge.add(row(rt, alloc, second))?;
+    Ok(merge.into_batches())
 }
 
 #[test]
@@ -126,62 +123,31 @@ fn what_two_segments_share_is_kept_once(rt: HostRuntime) {
     let first = [(10, b'1'), (11, b'2'), (12, b'3')];
     let second = [(11, b'2'), (12, b'3'), (13, b'4'), (14, b'5')];
     let all = [(10, b'1'), (11, b'2'), (12, b'3'), (13, b'4'), (14, b'5')];
-    let segments = [(0, first.as_slice()), (1, second.as_slice())];
-    both_give(&rt, alloc, segments.as_slice(), all.as_slice());
-    // The first segment ends before 12.
-    let segments = [(0, &first[..2]), (1, &second[..3])];
-    both_give(&rt, alloc, segments.as_slice(), &all[..4]);
-    // It ends before 11, and the second one begins right there.
-    let segments = [(0, &first[..1]), (1, second.as_slice())];
-    both_give(&rt, alloc, segments.as_slice(), all.as_slice());
-    // All of the second one is kept already, and one of the first repeats it.
-    let segments = [
-        (0, all.as_slice()),
-        (1, second.as_slice()),
-        (2, first.as_slice()),
-    ];
-    both_give(&rt, alloc, segments.as_slice(), all.as_slice());
-}
-
-#[test]
-fn empty_segments_and_left_out_indexes_change_nothing(rt: HostRuntime) {
-    let alloc = rt.alloc();
-    let batches = [(10, b'1'), (11, b'2')];
-    let none = &batches[..0];
-    both_give(&rt, alloc, [].as_slice(), none);
-    both_give(&rt, alloc, [(3, none)].as_slice(), none);
-    let segments = [(1, none), (4, &batches[..1]), (5, none), (9, &batches[1..])];
-    both_give(&rt, alloc, segments.as_slice(), batches.as_slice());
+    // An empty segment and left out indexes change nothing.
+    let segments = [(1, first.as_slice()), (4, &first[..0]), (5, &second)];
+    let segments = segments.as_slice();
+    gives(&rt, merge(alloc, 10, row(&rt, alloc, segments)), &all);
+    gives(&rt, merge_lenient(alloc, row(&rt, alloc, segments)), &all);
 }
 
 #[test]
 fn a_gap_is_refused_where_none_is_accepted(rt: HostRuntime) {
     let alloc = rt.alloc();
     let batches = [(10, b'1'), (11, b'2'), (12, b'3'), (15, b'6')];
-    let gap = |index| MergeFault::Gap {
-        index,
+    // The index that is told is the segment's own.
+    let segments = [(2, &batches[..3]), (7, &batches[3..])];
+    let segments = segments.as_slice();
+    let gap = MergeFault::Gap {
+        index: 7,
         expected: 13,
         found: 15,
     };
-    let two = [(0, &batches[..3]), (1, &batches[3..])];
-    refuses(&rt, alloc, two.as_slice(), gap(1));
+    refused(&rt, merge(alloc, 10, row(&rt, alloc, segments)), gap);
     gives(
         &rt,
-        alloc,
-        merge_lenient(alloc, row(&rt, alloc, two.as_slice())),
-        batches.as_slice(),
+        merge_lenient(alloc, row(&rt, alloc, segments)),
+        &batches,
     );
-    // The index that is told is the segment's own.
-    let later = [(2, &batches[..3]), (7, &batches[3..])];
-    refuses(&rt, alloc, later.as_slice(), gap(7));
-    // Within one segment, and before the first batch.
-    refuses(&rt, alloc, [(4, batches.as_slice())].as_slice(), gap(4));
-    let fault = MergeFault::Gap {
-        index: 6,
-        expected: 10,
-        found: 15,
-    };
-    refuses(&rt, alloc, [(6, &batches[3..])].as_slice(), fault);
 }
 
 #[test]
@@ -190,36 +156,13 @@ fn two_batches_of_one_number_are_refused(rt: HostRuntime) {
     let first = [(10, b'1'), (11, b'2'), (12, b'3')];
     let second = [(12, b'9')];
     let segments = [(0, first.as_slice()), (1, second.as_slice())];
+    let segments = segments.as_slice();
     let fault = MergeFault::Conflict {
         index: 1,
         first: 12,
     };
-    refuses(&rt, alloc, segments.as_slice(), fault);
-    refuses_leniently(&rt, alloc, segments.as_slice(), fault);
-    // A number before the first one.
-    let below = [(8, b'0')];
-    let segments = [(0, first.as_slice()), (1, below.as_slice())];
-    let fault = MergeFault::Conflict { index: 1, first: 8 };
-    refuses(&rt, alloc, segments.as_slice(), fault);
-    refuses_leniently(&rt, alloc, segments.as_slice(), fault);
-}
-
-#[test]
-fn a_segment_that_repeats_itself_is_accepted_with_gaps_alone(rt: HostRuntime) {
-    let alloc = rt.alloc();
-    let batches = [(10, b'1'), (10, b'1')];
-    let segments = [(0, batches.as_slice())];
-    let fault = MergeFault::Conflict {
-        index: 0,
-        first: 10,
-    };
-    refuses(&rt, alloc, segments.as_slice(), fault);
-    gives(
-        &rt,
-        alloc,
-        merge_lenient(alloc, row(&rt, alloc, segments.as_slice())),
-        &batches[..1],
-    );
+    refused(&rt, merge(alloc, 10, row(&rt, alloc, segments)), fault);
+    refused(&rt, merge_lenient(alloc, row(&rt, alloc, segments)), fault);
 }
 
 #[test]
@@ -227,27 +170,15 @@ fn a_merge_with_gaps_goes_on_from_row_to_row(rt: HostRuntime) {
     let alloc = rt.alloc();
     let batches = [(10, b'1'), (12, b'2'), (15, b'3')];
     // The second row repeats a batch of the first one, under the same index.
-    let first = row(&rt, alloc, [(0, &batches[..2])].as_slice());
-    let second = row(&rt, alloc, [(0, &batches[1..])].as_slice());
-    let merged = LenientMerge::new(alloc)
-        .add(first)
-        .and_then(|so_far| so_far.add(second));
-    gives(
-        &rt,
-        alloc,
-        merged.map(|so_far| so_far.into_batches()),
-        batches.as_slice(),
-    );
-    // The third one has another batch 12. Its index is told.
-    let first = row(&rt, alloc, [(0, &batches[..2])].as_slice());
+    let first = [(0, &batches[..2])];
+    let second = [(0, &batches[1..])];
+    gives(&rt, merge_in_turn(&rt, alloc, &first, &second), &batches);
+    // The other one has another batch 12. Its index is told.
     let other = [(15, b'3'), (12, b'9')];
-    let third = row(&rt, alloc, [(4, other.as_slice())].as_slice());
-    let refused = LenientMerge::new(alloc)
-        .add(first)
-        .and_then(|so_far| so_far.add(third));
+    let second = [(4, other.as_slice())];
     let fault = MergeFault::Conflict {
         index: 4,
         first: 12,
     };
-    assert_eq!(rt; refused.err(), Some(fault));
+    refused(&rt, merge_in_turn(&rt, alloc, &first, &second), fault);
 }
