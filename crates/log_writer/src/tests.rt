@@ -106,11 +106,6 @@ impl<D: StallDisk> Rig<D> {
         self.writer.broken()
     }
 
-    fn into_disk(self) -> D {
-        let Rig { disk, .. } = self;
-        disk
-    }
-
     /// The ends of what is sent, written and synced.
     fn ends(&self) -> (u64, u64, u64) {
         (
@@ -128,16 +123,21 @@ fn goal_at(step: u32, all: u64, acked: u64) -> Goal {
     Goal { len, want, acked }
 }
 
+/// The batch of this number that sets `a` to a value, if there is memory for it.
+fn batch_of(alloc: Global, first: u32, value: &[u8]) -> Option<Numbered> {
+    let mut builder = BatchBuilder::new(alloc).ok()?;
+    builder.set(b"a", value).ok()?;
+    let batch = builder.finish().ok()?;
+    if batch.count() != 1 {
+        return None;
+    }
+    Some(batch.number(u64::from(first)))
+}
+
 /// The batch of this number that sets `a` to a value of so many equal bytes.
 fn numbered(rt: &impl Abort, alloc: Global, first: u32, byte: u8, len: usize) -> Numbered {
     let value = vec![in alloc; byte; len].expect(rt, "memory");
-    let mut builder = BatchBuilder::new(alloc).expect(rt, "memory");
-    builder.set(b"a", &value).expect(rt, "an entry");
-    let Ok(batch) = builder.finish() else {
-        panic!(rt; "a batch");
-    };
-    assert_eq!(rt; batch.count(), 1);
-    batch.number(u64::from(first))
+    batch_of(alloc, first, &value).expect(rt, "memory")
 }
 
 /// A record for each length of a value, the first with the number 10.
@@ -169,12 +169,17 @@ fn pick_of(rt: &impl Abort, alloc: Global, tail: Option<&[u8]>) -> CrashPick {
     CrashPick { files }
 }
 
-/// What the segment reads out as in the image with this tail, which no torn chunk may deceive.
+/// The image that the pick names, in which no torn chunk may deceive.
+fn image_of(rt: &impl Abort, disk: MemDisk, pick: &CrashPick) -> MemDisk {
+    let free = disk.chance_free(pick).expect(rt, "memory");
+    assert!(rt; free);
+    disk.crash(pick).expect(rt, "memory")
+}
+
+/// What the segment reads out as in the image with this tail.
 fn read_after(rt: &impl Abort, alloc: Global, disk: MemDisk, tail: Option<&[u8]>) -> ReadOut {
     let pick = pick_of(rt, alloc, tail);
-    let free = disk.chance_free(&pick).expect(rt, "memory");
-    assert!(rt; free);
-    let image = disk.crash(&pick).expect(rt, "memory");
+    let image = image_of(rt, disk, &pick);
     let bytes = image.content(Side::Primary, NAME).unwrap_or(b"");
     read_out(alloc, 1, bytes).expect(rt, "memory")
 }
@@ -208,50 +213,21 @@ fn rig_of(rt: &impl Abort, alloc: Global, failing: Option<u64>, lens: &[usize]) 
     rig_from(rt, alloc, failing, lens, 0)
 }
 
-#[test]
-fn three_records_of_which_two_are_synced(rt: HostRuntime) {
-    let sync_two = Goal {
-        len: 2,
-        want: 2,
-        acked: 0,
-    };
-    let write_three = Goal {
-        len: 3,
-        want: 2,
-        acked: 2,
-    };
-    for (tail, changed, records) in [(false, false, 2), (true, false, 3), (true, true, 2)] {
-        let mut rig = rig_of(&rt, rt.alloc(), None, &[1, 1, 1]);
-        for goal in [sync_two, sync_two, sync_two, write_three] {
-            assert_eq!(rt; rig.step(&rt, goal), Step::Begun);
-            assert_eq!(rt; rig.step(&rt, goal), Step::Polled(Progress::Done));
-        }
-        assert_eq!(rt; rig.step(&rt, write_three), Step::Resting);
-        assert_eq!(rt; rig.ends(), (3, 3, 2));
-        let disk = rig.into_disk();
-        let mut sent = [0; 84];
-        match disk.sent(Side::Primary, NAME) {
-            Some(bytes) if bytes.len() == 84 => sent.copy_from_slice(bytes),
-            _ => panic!(rt; "84 bytes are sent"),
-        }
-        if changed {
-            sent[80] ^= 1;
-        }
-        let behind = if tail { Some(&sent[56..]) } else { None };
-        let read = read_after(&rt, rt.alloc(), disk, behind);
-        assert_eq!(rt;
-            (read.records.len(), read.ends_at),
-            (records, 28 * records as u64)
-        );
-    }
-}
-
 /// What a crash leaves after the stable bytes.
 #[derive(Clone, Copy, Debug, PartialEq, Eq)]
 enum Tail {
     Nothing,
     AllSent,
     LastByteChanged,
+}
+
+/// Where the bytes after the first of so many records begin.
+fn end_of(rt: &impl Abort, alloc: Global, sent: &[u8], records: u64) -> usize {
+    let read = read_out(alloc, 1, sent).expect(rt, "memory");
+    match read.records.get(records as usize) {
+        Some(record) => record.at as usize,
+        None => sent.len(),
+    }
 }
 
 /// The bytes that were sent after the first of so many records, changed as the tail says.
@@ -262,19 +238,24 @@ fn tail_of(
     synced: u64,
     tail: Tail,
 ) -> Option<Vec<u8>> {
+    if tail == Tail::Nothing {
+        return None;
+    }
     let sent = disk.sent(Side::Primary, NAME)?;
-    let read = read_out(alloc, 1, sent).expect(rt, "memory");
-    let from = match read.records.get(synced as usize) {
-        Some(record) => record.at as usize,
-        None => sent.len(),
-    };
-    let mut bytes = Vec::from_slice(alloc, sent.get(from..)?).expect(rt, "memory");
+    let behind = sent.get(end_of(rt, alloc, sent, synced)..)?;
+    let mut bytes = Vec::from_slice(alloc, behind).expect(rt, "memory");
     if tail == Tail::LastByteChanged
         && let Some(last) = bytes.last_mut()
     {
         *last ^= 1;
     }
-    (tail != Tail::Nothing).then_some(bytes)
+    Some(bytes)
+}
+
+/// The record is the one of the queue at this place.
+fn check_record(rt: &impl Abort, queue: &RecordQueue, place: u64, record: &[u8]) {
+    let wanted = queue.get(place).map(|rec| rec.bytes());
+    assert!(rt; wanted == Some(record), "record {place}");
 }
 
 /// What a crash leaves with this tail reads out as a prefix of the records, with all that is synced.
@@ -283,21 +264,73 @@ fn crash(rt: &impl Abort, alloc: Global, rig: Rig<MemDisk>, tail: Tail) {
     let (sent, _, synced) = rig.ends();
     let sent = sent.saturating_sub(from);
     let synced = synced.saturating_sub(from);
+    let count = match tail {
+        Tail::Nothing => synced,
+        Tail::AllSent => sent,
+        Tail::LastByteChanged => synced.max(sent.saturating_sub(1)),
+    };
     let Rig { disk, queue, .. } = rig;
     let bytes = tail_of(rt, alloc, &disk, synced, tail);
     let read = read_after(rt, alloc, disk, bytes.as_deref());
-    let count = read.records.len() as u64;
-    match tail {
-        Tail::Nothing => assert_eq!(rt; count, synced),
-        Tail::AllSent => assert_eq!(rt; count, sent),
-        Tail::LastByteChanged => assert!(rt; synced <= count && count <= sent),
-    }
+    assert!(rt; read.records.len() as u64 == count);
     for (number, record) in read.records.as_slice().iter().enumerate() {
-        let wanted = queue
-            .get(from.saturating_add(number as u64))
-            .map(|rec| rec.bytes());
-        assert!(rt; wanted == Some(record.bytes.as_slice()), "record {number}");
+        let place = from.saturating_add(number as u64);
+        check_record(rt, &queue, place, record.bytes.as_slice());
     }
+}
+
+/// The step of a rig comes to this.
+fn step_is(rt: &impl Abort, rig: &mut Rig<MemDisk>, goal: Goal, wanted: Step) {
+    let step = rig.step(rt, goal);
+    assert!(rt; step == wanted);
+}
+
+/// An operation is begun, and is done at the first poll.
+fn does_one(rt: &impl Abort, rig: &mut Rig<MemDisk>, goal: Goal) {
+    step_is(rt, rig, goal, Step::Begun);
+    step_is(rt, rig, goal, Step::Polled(Progress::Done));
+}
+
+/// So much is sent, written and synced.
+fn ends_are(rt: &impl Abort, rig: &Rig<MemDisk>, sent: u64, written: u64, synced: u64) {
+    assert!(rt; rig.ends() == (sent, written, synced));
+}
+
+/// A rig with three records written, of which two are synced.
+fn rig_of_three(rt: &impl Abort, alloc: Global) -> Rig<MemDisk> {
+    let sync_two = Goal {
+        len: 2,
+        want: 2,
+        acked: 0,
+    };
+    let write_three = Goal {
+        len: 3,
+        want: 2,
+        acked: 2,
+    };
+    let mut rig = rig_of(rt, alloc, None, &[1, 1, 1]);
+    does_one(rt, &mut rig, sync_two);
+    does_one(rt, &mut rig, sync_two);
+    does_one(rt, &mut rig, sync_two);
+    does_one(rt, &mut rig, write_three);
+    step_is(rt, &mut rig, write_three, Step::Resting);
+    ends_are(rt, &rig, 3, 3, 2);
+    rig
+}
+
+#[test]
+fn three_records_of_which_two_are_synced(rt: HostRuntime) {
+    for tail in [Tail::Nothing, Tail::AllSent, Tail::LastByteChanged] {
+        crash(&rt, rt.alloc(), rig_of_three(&rt, rt.alloc()), tail);
+    }
+}
+
+/// A rig after so many steps of its run.
+fn rig_after(rt: &impl Abort, alloc: Global, lens: &[usize], steps: u32) -> Rig<MemDisk> {
+    let mut rig = rig_of(rt, alloc, None, lens);
+    let made = rig.run(rt, steps);
+    assert!(rt; made == steps);
+    rig
 }
 
 #[test]
@@ -312,8 +345,7 @@ fn a_stop_after_each_step_of_fifty_records(rt: HostRuntime) {
     assert!(rt; 100 < steps && steps < 1_000);
     for stopped in 0..=steps {
         for tail in [Tail::Nothing, Tail::AllSent, Tail::LastByteChanged] {
-            let mut rig = rig_of(&rt, rt.alloc(), None, &lens);
-            assert_eq!(rt; rig.run(&rt, stopped), stopped);
+            let rig = rig_after(&rt, rt.alloc(), &lens, stopped);
             crash(&rt, rt.alloc(), rig, tail);
         }
     }
@@ -322,36 +354,36 @@ fn a_stop_after_each_step_of_fifty_records(rt: HostRuntime) {
 #[test]
 fn a_segment_that_begins_with_a_later_record(rt: HostRuntime) {
     let mut rig = rig_from(&rt, rt.alloc(), None, &[1, 1, 33_000, 1, 1], 2);
-    assert_eq!(rt; (rig.from(), rig.ends()), (2, (2, 2, 2)));
+    ends_are(&rt, &rig, 2, 2, 2);
     rig.run(&rt, 1_000);
-    assert_eq!(rt; (rig.from(), rig.ends()), (2, (5, 5, 5)));
+    ends_are(&rt, &rig, 5, 5, 5);
+    assert!(rt; rig.from() == 2);
     crash(&rt, rt.alloc(), rig, Tail::Nothing);
+}
+
+/// Where the operation of that number is to fail, the run of nine records ends with so much sent, written and synced.
+fn check_failing(rt: &impl Abort, alloc: Global, number: u64, ends: (u64, u64, u64)) {
+    let mut rig = rig_of(rt, alloc, Some(number), &[1; 9]);
+    rig.run(rt, 1_000);
+    assert!(rt;
+        rig.ends() == ends && rig.is_broken() == (number < 13),
+        "where {number} fails"
+    );
+    crash(rt, alloc, rig, Tail::Nothing);
 }
 
 #[test]
 fn each_operation_fails_once(rt: HostRuntime) {
-    for (number, ends) in [
-        (0, (0, 0, 0)),
-        (1, (1, 0, 0)),
-        (2, (2, 1, 0)),
-        (3, (3, 2, 0)),
-        (4, (4, 3, 0)),
-        (5, (4, 4, 0)),
-        (6, (5, 4, 4)),
-        (7, (6, 5, 4)),
-        (8, (7, 6, 4)),
-        (9, (8, 7, 4)),
-        (10, (8, 8, 4)),
-        (11, (9, 8, 8)),
-        (12, (9, 9, 8)),
-        (13, (9, 9, 9)),
-    ] {
-        let mut rig = rig_of(&rt, rt.alloc(), Some(number), &[1; 9]);
-        rig.run(&rt, 1_000);
-        assert_eq!(rt; rig.ends(), ends, "where {number} fails");
-        assert_eq!(rt; rig.is_broken(), number < 13, "where {number} fails");
-        crash(&rt, rt.alloc(), rig, Tail::Nothing);
-    }
+    let alloc = rt.alloc();
+    // The creation, a write, and a sync; a write and a sync after one that is done. No operation has the number 13.
+    check_failing(&rt, alloc, 0, (0, 0, 0));
+    check_failing(&rt, alloc, 1, (1, 0, 0));
+    check_failing(&rt, alloc, 4, (4, 3, 0));
+    check_failing(&rt, alloc, 5, (4, 4, 0));
+    check_failing(&rt, alloc, 6, (5, 4, 4));
+    check_failing(&rt, alloc, 10, (8, 8, 4));
+    check_failing(&rt, alloc, 12, (9, 9, 8));
+    check_failing(&rt, alloc, 13, (9, 9, 9));
 }
 
 #[test]
@@ -361,23 +393,13 @@ fn pending_answers_are_counted_to_a_thousand(rt: HostRuntime) {
         want: 0,
         acked: 0,
     };
-    for (polls, counted) in [
-        (0, 0),
-        (1, 1),
-        (2, 2),
-        (999, 999),
-        (1_000, 1_000),
-        (1_001, 1_000),
-        (1_500, 1_000),
-    ] {
-        let mut rig = rig_of(&rt, rt.alloc(), None, &[1]);
-        assert_eq!(rt; rig.step(&rt, goal), Step::Begun);
-        rig.stall(polls);
-        for _ in 0..polls {
-            assert_eq!(rt; rig.step(&rt, goal), Step::Polled(Progress::Pending));
-        }
-        assert_eq!(rt; rig.waiting(), counted);
-        assert_eq!(rt; rig.step(&rt, goal), Step::Polled(Progress::Done));
-        assert_eq!(rt; rig.waiting(), 0);
+    let mut rig = rig_of(&rt, rt.alloc(), None, &[1]);
+    step_is(&rt, &mut rig, goal, Step::Begun);
+    rig.stall(1_001);
+    for polls in 1..1_002u32 {
+        step_is(&rt, &mut rig, goal, Step::Polled(Progress::Pending));
+        assert!(rt; rig.waiting() == polls.min(1_000));
     }
+    step_is(&rt, &mut rig, goal, Step::Polled(Progress::Done));
+    assert!(rt; rig.waiting() == 0);
 }
