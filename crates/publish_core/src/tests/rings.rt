@@ -1,4 +1,4 @@
-//! The ring as it fills and is freed, and the marks in each order.
+//! The ring as it fills and is freed, once and through a whole run.
 
 use crate::{Core, CoreEvent};
 use std::process::Abort;
@@ -47,44 +47,56 @@ fn publish(rt: &impl Abort, core: &mut Core, seat: u64) -> Result<(), Fail> {
     )
 }
 
+const SESSION: CoreEvent = CoreEvent::Split {
+    from: 0,
+    note: false,
+};
+
+const OVER: CoreEvent = CoreEvent::Place {
+    count: 1,
+    shards: 0,
+};
+
+const HEAD: CoreEvent = CoreEvent::LoadSlot { seat: 0, at: 0 };
+
+/// No batch is placed, though the slot of head was read.
+fn is_full(rt: &impl Abort, core: &mut Core) -> Result<(), Fail> {
+    does(rt, core, &[HEAD])?;
+    assert!(rt; !core.step(&OVER)?);
+    Ok(())
+}
+
+/// Batches are placed in all slots.
+fn fill(rt: &impl Abort, core: &mut Core) -> Result<(), Fail> {
+    for at in 0u32..64 {
+        place(rt, core, at)?;
+    }
+    Ok(())
+}
+
+/// A ring that is filled and freed, while session 1 still has to publish the first batch.
+fn free(rt: &impl Abort, core: &mut Core) -> Result<(), Fail> {
+    is_full(rt, core)?;
+    take(rt, core, 1, 0)?;
+    is_full(rt, core)?;
+    for at in 1u32..64 {
+        take(rt, core, 0, at)?;
+        publish(rt, core, 0)?;
+    }
+    // Tail is head, and the slot of both holds an odd word.
+    does(rt, core, &[CoreEvent::LoadEnds { seat: 0 }, HEAD])?;
+    assert!(rt; !core.step(&CoreEvent::Claim { seat: 0 })?);
+    publish(rt, core, 1)
+}
+
 #[test]
 fn the_ring_is_filled_and_freed_in_order(rt: HostRuntime) -> Result<(), Fail> {
     let mut core = Core::new(rt.alloc(), 10)?;
-    let session = CoreEvent::Split {
-        from: 0,
-        note: false,
-    };
-    does(&rt, &mut core, &[session])?;
-    for at in 0u32..64 {
-        place(&rt, &mut core, at)?;
-    }
-    let over = CoreEvent::Place {
-        count: 1,
-        shards: 0,
-    };
-    // The slot of head holds the first batch, marked or taken, until it is emptied.
-    does(&rt, &mut core, &[CoreEvent::LoadSlot { seat: 0, at: 0 }])?;
-    assert!(rt; !core.step(&over)?);
-    take(&rt, &mut core, 1, 0)?;
-    does(&rt, &mut core, &[CoreEvent::LoadSlot { seat: 0, at: 0 }])?;
-    assert!(rt; !core.step(&over)?);
-    for at in 1u32..64 {
-        take(&rt, &mut core, 0, at)?;
-        publish(&rt, &mut core, 0)?;
-    }
-    // Tail is head, and the slot of both holds an odd word.
-    let ends = CoreEvent::LoadEnds { seat: 0 };
-    does(
-        &rt,
-        &mut core,
-        &[ends, CoreEvent::LoadSlot { seat: 0, at: 0 }],
-    )?;
-    assert!(rt; !core.step(&CoreEvent::Claim { seat: 0 })?);
-    publish(&rt, &mut core, 1)?;
+    does(&rt, &mut core, &[SESSION])?;
+    fill(&rt, &mut core)?;
+    free(&rt, &mut core)?;
     assert_eq!(rt; core.kept.published, 64);
-    for at in 0u32..64 {
-        place(&rt, &mut core, at)?;
-    }
+    fill(&rt, &mut core)?;
     assert_eq!(rt; core.kept.head, 128);
     Ok(())
 }
@@ -97,109 +109,7 @@ fn a_run_has_so_many_batches(rt: HostRuntime) -> Result<(), Fail> {
         take(&rt, &mut core, 0, batch % 64)?;
         publish(&rt, &mut core, 0)?;
     }
-    does(&rt, &mut core, &[CoreEvent::LoadSlot { seat: 0, at: 0 }])?;
-    let over = CoreEvent::Place {
-        count: 1,
-        shards: 0,
-    };
-    assert!(rt; !core.step(&over)?);
+    is_full(&rt, &mut core)?;
     assert_eq!(rt; core.kept.published, 1_048_576);
-    Ok(())
-}
-
-/// The order of that number among those of eight batches.
-fn order(number: u32) -> [u64; 8] {
-    let mut places = [8u64; 8];
-    let mut rest = number;
-    for batch in 0u64..8 {
-        let free = 8 - (batch as u32);
-        let mut steps = rest % free;
-        rest /= free;
-        for place in places.iter_mut() {
-            if *place == 8 {
-                if steps == 0 {
-                    *place = batch;
-                    break;
-                }
-                steps -= 1;
-            }
-        }
-    }
-    places
-}
-
-/// Sessions 1 to 8 hold the batches 0 to 7.
-fn held_by_eight(rt: &impl Abort, core: &mut Core) -> Result<(), Fail> {
-    for _ in 0u32..8 {
-        does(
-            rt,
-            core,
-            &[CoreEvent::Split {
-                from: 0,
-                note: false,
-            }],
-        )?;
-    }
-    for at in 0u32..8 {
-        let into = u64::from(at) + 1;
-        let events = [
-            CoreEvent::LoadSlot { seat: 0, at },
-            CoreEvent::Place {
-                count: 1,
-                shards: 0,
-            },
-            CoreEvent::Admit,
-            CoreEvent::Split {
-                from: 0,
-                note: true,
-            },
-            CoreEvent::Join {
-                into,
-                note: into + 8,
-            },
-        ];
-        does(rt, core, &events)?;
-    }
-    Ok(())
-}
-
-#[test]
-fn eight_batches_are_published_in_sequence_however_they_are_marked(
-    rt: HostRuntime,
-) -> Result<(), Fail> {
-    for number in 0u32..40_320 {
-        let mut core = Core::new(rt.alloc(), 10)?;
-        held_by_eight(&rt, &mut core)?;
-        let mut marked = [false; 8];
-        let mut published = 0usize;
-        for batch in order(number) {
-            does(
-                &rt,
-                &mut core,
-                &[CoreEvent::Mark {
-                    seat: batch.saturating_add(1),
-                }],
-            )?;
-            if let Some(mark) = marked.get_mut(batch as usize) {
-                *mark = true;
-            }
-            // As many as are marked in a row from the front are taken, and not one more.
-            let row = marked.iter().take_while(|m| **m).count();
-            for at in published..row {
-                take(&rt, &mut core, 0, (at % 64) as u32)?;
-                publish(&rt, &mut core, 0)?;
-            }
-            published = row;
-            let at = (published % 64) as u32;
-            let next = [
-                CoreEvent::LoadEnds { seat: 0 },
-                CoreEvent::LoadSlot { seat: 0, at },
-            ];
-            does(&rt, &mut core, &next)?;
-            assert!(rt; !core.step(&CoreEvent::Claim { seat: 0 })?);
-            assert_eq!(rt; core.kept.published, published as u64);
-        }
-        assert_eq!(rt; published, 8);
-    }
     Ok(())
 }
