@@ -203,27 +203,25 @@ fn records_pass_between_two_threads_in_order(rt: HostRuntime) {
     between_threads(&rt, rt.alloc());
 }
 
-/// Nobody takes until the last one is sent.
+/// Nobody takes until the last one is sent; and what is sent to an empty queue is left at the end.
 #[test]
-fn any_number_of_records_waits_in_order(rt: HostRuntime) {
+fn any_number_of_records_waits_in_order_and_what_is_left_at_the_end_is_taken(rt: HostRuntime) {
     let (flow, mut sender, mut pops) = opened(&rt, rt.alloc());
     send_some(&rt, &flow, &mut sender, WAITING);
     take_some(&rt, &flow, &mut pops, FIRST, FIRST + WAITING);
-    assert!(rt; flow.take(&rt, &mut pops).is_none());
-    send_some(&rt, &flow, &mut sender, 1);
-    take_next(&rt, &flow, &mut pops, FIRST + WAITING);
-}
-
-#[test]
-fn what_is_left_at_the_end_is_taken(rt: HostRuntime) {
-    let (flow, mut sender, mut pops) = opened(&rt, rt.alloc());
+    let empty = flow.take(&rt, &mut pops).is_none();
     send_some(&rt, &flow, &mut sender, 3);
-    take_next(&rt, &flow, &mut pops, FIRST);
+    take_next(&rt, &flow, &mut pops, FIRST + WAITING);
     let Sender { pass, .. } = sender;
     flow.end(&rt, &mut pops, pass);
-    take_next(&rt, &flow, &mut pops, FIRST + 1);
-    take_next(&rt, &flow, &mut pops, FIRST + 2);
-    assert!(rt; flow.take(&rt, &mut pops).is_none());
+    take_some(
+        &rt,
+        &flow,
+        &mut pops,
+        FIRST + WAITING + 1,
+        FIRST + WAITING + 3,
+    );
+    assert!(rt; empty && flow.take(&rt, &mut pops).is_none());
 }
 
 /// The records are left in several blocks, of which the first is taken in part.
