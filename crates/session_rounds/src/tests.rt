@@ -1,15 +1,13 @@
 //! What a round comes to, by examples.
-ghost use Rattle.std.specs.Prelude.{◌≡◌, ◌+◌, ◌≤◌, length, IfSome};
+ghost use Rattle.std.specs.Prelude.{◌≡◌, ◌+◌, ◌≤◌, IfSome};
 ghost use Rattle.batch_repr.specs.declared.limits.TheConstants.{NUMBER_FIRST, SESSIONS_MAX};
 ghost use Rattle.session_script.specs.Script.{LinesAreOfSome};
 ghost use Rattle.commit_pipeline.specs.Openings.{opening_on};
 ghost use Rattle.failover_writer.specs.State.{len};
 
-use crate::playing::{deal, gather, share};
-use crate::threads::middle;
 use crate::{Answer, Answers, play_load_round, play_round};
 use batch_repr::{Batches, NUMBER_FIRST, Unwritten};
-use commit_pipeline::{NoGate, Parts, PipeName, Pipeline, Sessions};
+use commit_pipeline::{NoGate, Parts, PipeName, Pipeline};
 use disk_face::Disk;
 use failover_writer::Journal;
 use mem_disk::MemDisk;
@@ -124,7 +122,6 @@ fn played<D: Disk + Drop + Send, R: Threads + Wait + Abort + Sync>(
     alloc: Global,
     journal: Journal<D>,
     row: Row,
-    split: Option<usize>,
 ) -> Answers
     requires sessions { (1 ≤ row.sessions) × (row.sessions ≤ SESSIONS_MAX) }
     requires row { row.first + row.count ≤ row.sessions }
@@ -133,7 +130,7 @@ fn played<D: Disk + Drop + Send, R: Threads + Wait + Abort + Sync>(
 {
     let base = Batches::new(alloc);
     let parts = Parts::new(alloc, &base, NUMBER_FIRST, row.sessions as usize).expect(rt, "memory");
-    with_table::<D, Brand, R>(rt, alloc, parts, journal, row, split)
+    with_table::<D, Brand, R>(rt, alloc, parts, journal, row)
 }
 
 /// The name of the table is picked.
@@ -143,7 +140,6 @@ fn with_table<D: Disk + Drop + Send, N: PipeName + Send + Sync, R: Threads + Wai
     parts: Parts,
     journal: Journal<D>,
     row: Row,
-    split: Option<usize>,
 ) -> Answers
     requires opening { N.opening ≡ opening_on D.view parts.base journal N.opening.may_stall }
     requires table { parts.table ≡ N.table }
@@ -153,7 +149,7 @@ fn with_table<D: Disk + Drop + Send, N: PipeName + Send + Sync, R: Threads + Wai
     requires next { journal.state.next ≡ parts.next }
     requires row { (row.first + row.count ≤ row.sessions) × (row.sessions ≡ parts.sessions) }
 {
-    with_names::<D, N, Brand, R>(rt, alloc, parts, journal, row, split)
+    with_names::<D, N, Brand, R>(rt, alloc, parts, journal, row)
 }
 
 /// All names are picked.
@@ -162,14 +158,7 @@ fn with_names<
     N: PipeName + Send + Sync,
     M: Ledger + Send + Sync,
     R: Threads + Wait + Abort + Sync,
->(
-    rt: &R,
-    alloc: Global,
-    parts: Parts,
-    journal: Journal<D>,
-    row: Row,
-    split: Option<usize>,
-) -> Answers
+>(rt: &R, alloc: Global, parts: Parts, journal: Journal<D>, row: Row) -> Answers
     requires opening { N.opening ≡ opening_on D.view parts.base journal N.opening.may_stall }
     requires table { parts.table ≡ N.table }
     requires queue { parts.queue ≡ N.queue }
@@ -183,7 +172,6 @@ fn with_names<
     let Ok((pipe, sessions)) = made else {
         panic!(rt; "memory");
     };
-    let sessions = split_there(rt, alloc, sessions, row, split);
     let played = match load_of(row) {
         Some(round) => play_load_round(rt, alloc, &pipe, sessions, round),
         None => play_round(rt, alloc, &pipe, sessions, lines_of(rt, alloc, row)),
@@ -193,120 +181,80 @@ fn with_names<
     answers
 }
 
-/// Asserts where the turns of the round are split in two parts, and answers the sessions.
-fn split_there<N: PipeName, M: Ledger>(
-    rt: &impl Abort,
-    alloc: Global,
-    sessions: Sessions<N, M>,
-    row: Row,
-    split: Option<usize>,
-) -> Sessions<N, M>
-    requires row { (row.first + row.count ≤ row.sessions) × (row.sessions ≡ length sessions.items) }
-    ensures { length result.items ≡ row.sessions }
-{
-    let turns = match load_of(row) {
-        Some(round) => share(alloc, sessions, &round),
-        None => deal(alloc, sessions, lines_of(rt, alloc, row)),
-    };
-    let turns = turns.expect(rt, "memory");
-    assert_eq!(rt; middle(turns.as_slice(), 2), split);
-    assert!(rt; middle(turns.as_slice(), 1).is_none());
-    let (sessions, _answers) = gather(alloc, turns).expect(rt, "memory");
-    assert_eq!(rt; sessions.len(), row.sessions as usize);
-    sessions
-}
-
-/// Asserts that it is the reply to the commit of the session's one entry, within so many numbers, and
-/// answers its number.
-fn committed(rt: &impl Abort, answer: &Answer, session: u32, sessions: u32) -> u64 {
-    assert_eq!(rt; answer.session, session);
+/// Whether it is the reply to the commit of the session's one entry.
+fn has_committed(answer: &Answer, session: u32) -> bool {
     match &answer.said {
         Said::Committed {
-            first,
+            first: _,
             count,
             synced,
-        } => {
-            assert_eq!(rt; *count, 1);
-            assert_eq!(rt; *synced, session % 2 == 1);
-            assert!(rt; NUMBER_FIRST <= *first && *first < NUMBER_FIRST + u64::from(sessions));
-            *first
-        }
-        _ => panic!(rt; "the reply to a commit"),
+        } => answer.session == session && *count == 1 && *synced == (session % 2 == 1),
+        _ => false,
     }
 }
 
-/// Asserts that it is the reply to the read of what the session has set, after its batch.
-fn has_read(rt: &impl Abort, answer: &Answer, session: u32, first: u64) {
-    assert_eq!(rt; answer.session, session);
+/// Whether it is the reply to the read of what the session has set.
+fn has_read(answer: &Answer, session: u32) -> bool {
     match &answer.said {
         Said::Got {
-            key,
+            key: _,
             value: Some(value),
-            visible,
-        } => {
-            assert_eq!(rt; key.as_slice(), [(session % 256) as u8].as_slice());
-            assert_eq!(rt; value.as_slice(), [7u8].as_slice());
-            assert!(rt; *visible > first);
-        }
-        _ => panic!(rt; "the reply to a read"),
+            visible: _,
+        } => answer.session == session && value.as_slice() == [7u8].as_slice(),
+        _ => false,
     }
 }
 
-/// Plays a round, and asserts where it is split and that the answers stand session by session.
-fn plays<R: Threads + Wait + Abort + Sync>(rt: &R, alloc: Global, row: Row, split: Option<usize>)
+/// Plays a round, and asserts that the answers stand session by session.
+fn plays<R: Threads + Wait + Abort + Sync>(rt: &R, alloc: Global, row: Row)
     requires sessions { (1 ≤ row.sessions) × (row.sessions ≤ SESSIONS_MAX) }
     requires row { row.first + row.count ≤ row.sessions }
 {
     let journal = new_journal(rt, alloc);
-    let answers = played(rt, alloc, journal, row, split);
-    let answers = answers.as_slice();
-    assert_eq!(rt; answers.len(), 2 * row.count as usize);
+    let answers = played(rt, alloc, journal, row);
+    let mut left = answers.as_slice().iter();
     for k in 0..row.count {
-        let at = 2 * k as usize;
         let session = row.first + k;
-        let number = committed(rt, &answers[at], session, row.count);
-        has_read(rt, &answers[at + 1], session, number);
+        assert!(rt;
+            left.next()
+                .is_some_and(|answer| has_committed(answer, session))
+        );
+        assert!(rt; left.next().is_some_and(|answer| has_read(answer, session)));
     }
+    assert!(rt; left.next().is_none());
 }
 
 #[test]
 fn each_session_reads_what_it_wrote(rt: HostRuntime) {
-    plays(&rt, rt.alloc(), chosen(1, 0, 1), None);
-    plays(&rt, rt.alloc(), chosen(2, 0, 2), Some(1));
-    plays(&rt, rt.alloc(), chosen(64, 0, 64), Some(32));
+    plays(&rt, rt.alloc(), chosen(1, 0, 1));
+    plays(&rt, rt.alloc(), chosen(2, 0, 2));
+    plays(&rt, rt.alloc(), chosen(64, 0, 64));
 }
 
 #[test]
 fn sessions_without_a_line_answer_nothing(rt: HostRuntime) {
-    plays(&rt, rt.alloc(), chosen(64, 0, 0), None);
-    plays(&rt, rt.alloc(), chosen(64, 0, 1), None);
-    plays(&rt, rt.alloc(), chosen(64, 63, 1), None);
-    plays(&rt, rt.alloc(), chosen(64, 40, 3), Some(41));
+    plays(&rt, rt.alloc(), chosen(64, 0, 0));
+    plays(&rt, rt.alloc(), chosen(64, 63, 1));
+    plays(&rt, rt.alloc(), chosen(64, 40, 3));
 }
 
-/// Asserts that it is the reply to the commit of this batch of a load.
-fn has_committed(rt: &impl Abort, answer: &Answer, index: usize) {
-    assert_eq!(rt; answer.session as usize, index % 4);
+/// Whether it is the reply to the commit of this batch of a load.
+fn has_loaded(answer: &Answer, index: u32) -> bool {
     match &answer.said {
         Said::Committed {
             first: _,
             count,
             synced,
         } => {
-            assert_eq!(rt; *count, if index % 8 == 7 { 2 } else { 1 });
-            assert_eq!(rt; *synced, index % 16 == 15);
+            let entries = if index % 8 == 7 { 2 } else { 1 };
+            answer.session == index % 4 && *count == entries && *synced == (index % 16 == 15)
         }
-        _ => panic!(rt; "the reply to a commit"),
+        _ => false,
     }
 }
 
-/// Plays the first round of a load, and asserts where it is split and that its batches are answered session by session.
-fn plays_load<R: Threads + Wait + Abort + Sync>(
-    rt: &R,
-    alloc: Global,
-    batches: u32,
-    split: Option<usize>,
-) {
+/// Plays the first round of a load, and asserts that its batches are answered session by session.
+fn plays_load<R: Threads + Wait + Abort + Sync>(rt: &R, alloc: Global, batches: u32) {
     let row = Row {
         sessions: LOAD_SESSIONS,
         first: 0,
@@ -314,12 +262,12 @@ fn plays_load<R: Threads + Wait + Abort + Sync>(
         batches,
     };
     let journal = new_journal(rt, alloc);
-    let answers = played(rt, alloc, journal, row, split);
+    let answers = played(rt, alloc, journal, row);
     let mut left = answers.as_slice().iter();
-    for session in 0..4usize {
-        for index in 0..batches as usize {
+    for session in 0..4u32 {
+        for index in 0..batches {
             if index % 4 == session {
-                has_committed(rt, left.next().expect(rt, "an answer"), index);
+                assert!(rt; left.next().is_some_and(|answer| has_loaded(answer, index)));
             }
         }
     }
@@ -328,8 +276,7 @@ fn plays_load<R: Threads + Wait + Abort + Sync>(
 
 #[test]
 fn the_sessions_of_a_load_make_their_own_lines(rt: HostRuntime) {
-    plays_load(&rt, rt.alloc(), 1, None);
-    plays_load(&rt, rt.alloc(), 2, Some(1));
-    plays_load(&rt, rt.alloc(), 7, Some(2));
-    plays_load(&rt, rt.alloc(), 1_000, Some(2));
+    plays_load(&rt, rt.alloc(), 1);
+    plays_load(&rt, rt.alloc(), 7);
+    plays_load(&rt, rt.alloc(), 1_000);
 }
