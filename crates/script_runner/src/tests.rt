@@ -7,13 +7,13 @@ use crate::{Outcome, Run, Work, run_work};
 use commit_pipeline::NoGate;
 use disk_face::Disk;
 use mem_disk::MemDisk;
-use session_script::{Script, ScriptFault, read_script};
+use session_script::{Script, ScriptFault, put_run_end, read_script};
 use std::alloc::Global;
 use std::process::Abort;
 use std::sync::Wait;
 use std::test::Fail;
 use std::thread::Threads;
-use wal_base::{ListOf, NoMemory};
+use wal_base::{Buf, ListOf, NoMemory};
 
 mod numbers;
 mod whole;
@@ -75,6 +75,23 @@ fn outcome_of<R: Threads + Wait + Sync>(
     outcome
 }
 
+/// What a script says over a disk, with the line of its end.
+fn said_over<R: Threads + Wait + Sync + Abort>(
+    rt: &R,
+    alloc: Global,
+    fresh: Fresh,
+    threshold: u32,
+    script: &[u8],
+) -> Result<Buf, NoMemory>
+    requires threshold { (1 ≤ threshold) × (threshold ≤ 3) }
+{
+    let work = Work::Script(script_of(rt, alloc, script)?);
+    let Outcome { told, end } = outcome_of(rt, alloc, fresh, threshold, work)?;
+    let mut said = told.text;
+    put_run_end(&mut said, &end)?;
+    Ok(said)
+}
+
 /// Asserts that what a script says over a disk is one of these texts.
 fn check<R: Threads + Wait + Sync + Abort>(
     rt: &R,
@@ -83,27 +100,24 @@ fn check<R: Threads + Wait + Sync + Abort>(
     script: &[u8],
     texts: &[&str],
 ) -> Result<(), Fail> {
-    let work = Work::Script(script_of(rt, alloc, script)?);
-    let Outcome { told, .. } = outcome_of(rt, alloc, fresh, 3, work)?;
-    let said = told.text.as_slice();
+    let said = said_over(rt, alloc, fresh, 3, script)?;
+    let said = said.as_slice();
     assert!(rt; texts.iter().any(|text| text.as_bytes() == said));
-    assert!(rt; !told.limited);
     Ok(())
 }
 
-/// Asserts how many segments a script begins over an empty disk.
+/// Asserts how what a script says over an empty disk ends. The last line tells how many segments were begun.
 fn check_segments<R: Threads + Wait + Sync + Abort>(
     rt: &R,
     alloc: Global,
     threshold: u32,
     script: &[u8],
-    segments: u32,
+    end: &str,
 ) -> Result<(), Fail>
     requires threshold { (1 ≤ threshold) × (threshold ≤ 3) }
 {
-    let work = Work::Script(script_of(rt, alloc, script)?);
-    let outcome = outcome_of(rt, alloc, Fresh::new(alloc)?, threshold, work)?;
-    assert_eq!(rt; outcome.end.segments, segments);
+    let said = said_over(rt, alloc, Fresh::new(alloc)?, threshold, script)?;
+    assert!(rt; said.as_slice().ends_with(end.as_bytes()));
     Ok(())
 }
 
@@ -113,8 +127,8 @@ fn the_sessions_of_a_round_commit_in_either_order(rt: HostRuntime) -> Result<(),
     let fresh = Fresh::new(alloc)?;
     let script = b"commit 1 nosync set b 2\ncommit 0 nosync set a 1\nhalt\n";
     let texts = [
-        "s0 commit 10 1\ns1 commit 11 1\n",
-        "s0 commit 11 1\ns1 commit 10 1\n",
+        "s0 commit 10 1\ns1 commit 11 1\nend visible 12 batches 2 acked 0 segments 1 halted\n",
+        "s0 commit 11 1\ns1 commit 10 1\nend visible 12 batches 2 acked 0 segments 1 halted\n",
     ];
     check(&rt, alloc, fresh, script, &texts)
 }
@@ -126,26 +140,12 @@ fn the_replies_of_a_round_stand_by_the_numbers_of_its_sessions(
     let alloc = rt.alloc();
     let fresh = Fresh::new(alloc)?;
     let script = b"commit 1 nosync set a 1\nround\nget 3 a\nget 0 a\nget 3 b\nget 2 b\n";
-    let text =
-        "s1 commit 10 1\ns0 get a = 1 @11\ns2 get b none @11\ns3 get a = 1 @11\ns3 get b none @11\n";
-    check(&rt, alloc, fresh, script, &[text])
-}
-
-#[test]
-fn a_session_that_is_not_named_has_no_line(rt: HostRuntime) -> Result<(), Fail> {
-    let alloc = rt.alloc();
-    let fresh = Fresh::new(alloc)?;
-    let script = b"commit 1 nosync set a 1\nround\nget 3 a\ncommit 3 nosync set b 2\n";
-    let text = "s1 commit 10 1\ns3 get a = 1 @11\ns3 commit 11 1\n";
-    check(&rt, alloc, fresh, script, &[text])
-}
-
-#[test]
-fn a_round_begins_after_the_one_before_it(rt: HostRuntime) -> Result<(), Fail> {
-    let alloc = rt.alloc();
-    let fresh = Fresh::new(alloc)?;
-    let script = b"commit 0 nosync set a 1\nround\nstall p 10\ncommit 0 sync set a 2\n";
-    let text = "s0 commit 10 1\ns0 commit 11 1 synced\n";
+    let text = "s1 commit 10 1\n\
+        s0 get a = 1 @11\n\
+        s2 get b none @11\n\
+        s3 get a = 1 @11\n\
+        s3 get b none @11\n\
+        end visible 11 batches 1 acked 1 segments 1 closed\n";
     check(&rt, alloc, fresh, script, &[text])
 }
 
@@ -156,30 +156,38 @@ fn a_commit_is_synced_though_all_polls_but_the_last_are_stalled(
     let alloc = rt.alloc();
     let fresh = Fresh::new(alloc)?;
     let script = b"stall p 60\nstall s 60\ncommit 0 sync set a 1\n";
-    check(&rt, alloc, fresh, script, &["s0 commit 10 1 synced\n"])
+    let said = said_over(&rt, alloc, fresh, 3, script)?;
+    assert!(rt; said.as_slice().starts_with(b"s0 commit 10 1 synced\n"));
+    Ok(())
 }
 
 #[test]
 fn a_segment_is_left_from_the_threshold_on(rt: HostRuntime) -> Result<(), Fail> {
     let alloc = rt.alloc();
-    check_segments(&rt, alloc, 1, b"commit 0 sync set a 1\n", 1)?;
+    check_segments(
+        &rt,
+        alloc,
+        1,
+        b"commit 0 sync set a 1\n",
+        " segments 1 closed\n",
+    )?;
     let one = b"stall p 1\ncommit 0 sync set a 1\n";
-    check_segments(&rt, alloc, 1, one, 2)?;
+    check_segments(&rt, alloc, 1, one, " segments 2 closed\n")?;
     let two = b"stall p 2\ncommit 0 sync set a 1\n";
-    check_segments(&rt, alloc, 3, two, 1)?;
+    check_segments(&rt, alloc, 3, two, " segments 1 closed\n")?;
     let three = b"stall p 2\nstall p 1\ncommit 0 sync set a 1\n";
-    check_segments(&rt, alloc, 3, three, 2)
+    check_segments(&rt, alloc, 3, three, " segments 2 closed\n")
 }
 
 #[test]
 fn the_stalls_of_a_round_come_before_its_lines(rt: HostRuntime) -> Result<(), Fail> {
     let alloc = rt.alloc();
     let other = b"stall s 3\ncommit 0 sync set a 1\n";
-    check_segments(&rt, alloc, 3, other, 1)?;
+    check_segments(&rt, alloc, 3, other, " segments 1 closed\n")?;
     let both = b"commit 0 sync set a 1\nround\ncommit 0 sync set b 2\nstall s 3\nstall p 3\n";
-    check_segments(&rt, alloc, 3, both, 3)?;
+    check_segments(&rt, alloc, 3, both, " segments 3 closed\n")?;
     let late = b"commit 0 sync set a 1\nround\nstall s 3\nstall p 3\n";
-    check_segments(&rt, alloc, 3, late, 1)
+    check_segments(&rt, alloc, 3, late, " segments 1 closed\n")
 }
 
 #[test]
@@ -191,6 +199,10 @@ fn a_dead_journal_is_told_and_read(rt: HostRuntime) -> Result<(), Fail> {
     }
     let script =
         b"commit 0 sync set a 1\ncommit 0 nosync set b 2\nget 0 a\nround\ncommit 1 sync set a 3\n";
-    let text = "s0 commit 10 1 unsynced\ns0 commit dead\ns0 get a = 1 @11\ns1 commit dead\n";
+    let text = "s0 commit 10 1 unsynced\n\
+        s0 commit dead\n\
+        s0 get a = 1 @11\n\
+        s1 commit dead\n\
+        end visible 11 batches 1 acked 0 segments 10 dead\n";
     check(&rt, alloc, fresh, script, &[text])
 }

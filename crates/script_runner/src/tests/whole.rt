@@ -1,34 +1,13 @@
 //! Whole runs.
 
-use super::{Fresh, outcome_of, script_of};
-use crate::{Outcome, Told, Work};
-use session_script::{Load, put_run_end};
+use super::{Fresh, check, outcome_of};
+use crate::Work;
+use session_script::{Load, RunEnd};
 use std::alloc::Global;
 use std::process::Abort;
 use std::sync::Wait;
 use std::test::Fail;
 use std::thread::Threads;
-
-/// Asserts all that a script says over a disk.
-fn check<R: Threads + Wait + Sync + Abort>(
-    rt: &R,
-    alloc: Global,
-    fresh: Fresh,
-    script: &[u8],
-    text: &str,
-) -> Result<(), Fail> {
-    let script = script_of(rt, alloc, script)?;
-    let Outcome { told, end } = outcome_of(rt, alloc, fresh, 3, Work::Script(script))?;
-    let Told {
-        text: mut said,
-        limited,
-        live: _,
-    } = told;
-    put_run_end(&mut said, &end)?;
-    assert!(rt; said.as_slice() == text.as_bytes());
-    assert!(rt; !limited);
-    Ok(())
-}
 
 /// Asserts how a load of seed 7 and so many batches ends over an empty disk.
 fn check_load<R: Threads + Wait + Sync + Abort>(
@@ -40,17 +19,14 @@ fn check_load<R: Threads + Wait + Sync + Abort>(
 ) -> Result<(), Fail> {
     let load = Load::new(7, batches);
     let outcome = outcome_of(rt, alloc, Fresh::new(alloc)?, 3, Work::Load(load))?;
-    assert!(rt; outcome.end.visible == visible);
-    assert!(rt; outcome.end.batches == u64::from(batches));
-    assert!(rt; outcome.end.acked == u64::from(batches));
     assert!(rt; outcome.told.live == live);
-    assert!(rt; !outcome.told.limited);
+    let RunEnd {
+        visible: end,
+        acked,
+        ..
+    } = outcome.end;
+    assert!(rt; end == visible && acked == u64::from(batches));
     Ok(())
-}
-
-#[test]
-fn a_load_of_one_batch_sets_one_key(rt: HostRuntime) -> Result<(), Fail> {
-    check_load(&rt, rt.alloc(), 1, 11, 1)
 }
 
 #[test]
@@ -65,7 +41,7 @@ fn a_script_that_halts_leaves_its_journal_as_it_is(rt: HostRuntime) -> Result<()
     let script = b"commit 1 nosync set b 2\nround\ncommit 0 nosync set a 1\nhalt\n";
     let text =
         "s1 commit 10 1\ns0 commit 11 1\nend visible 12 batches 2 acked 0 segments 1 halted\n";
-    check(&rt, alloc, fresh, script, text)
+    check(&rt, alloc, fresh, script, &[text])
 }
 
 #[test]
@@ -74,5 +50,5 @@ fn a_script_that_does_not_halt_closes_its_journal(rt: HostRuntime) -> Result<(),
     let fresh = Fresh::new(alloc)?;
     let script = b"commit 0 nosync set a 1\n";
     let text = "s0 commit 10 1\nend visible 11 batches 1 acked 1 segments 1 closed\n";
-    check(&rt, alloc, fresh, script, text)
+    check(&rt, alloc, fresh, script, &[text])
 }
