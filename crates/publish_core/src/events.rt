@@ -11,7 +11,7 @@ use wal_base::NoMemory;
 /// Seats are numbered as they are made; seat 0 is the producer's. No event is possible whose seat
 /// wasn't made yet or is spent, nor one whose seat is a note, other than the `note` of a `Join`.
 /// Slots are below `SLOTS`, shards below `SHARDS`, and head, tail and the acked number count batches.
-#[derive(Clone, Copy, Debug, PartialEq, Eq, Drop)]
+#[derive(Clone, Copy, Drop)]
 pub enum CoreEvent {
     /// The seat reads the ring word of the slot `at`, which is below `SLOTS`.
     LoadSlot { seat: u64, at: u32 },

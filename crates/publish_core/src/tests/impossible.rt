@@ -97,8 +97,8 @@ const OTHER_GIVE: CoreEvent = CoreEvent::GiveShard {
 fn goes(rt: &impl Abort, alloc: Global, start: u64, story: &[Told]) -> Result<(), Fail> {
     assert!(rt; start < 72_057_594_037_927_936);
     let mut core = Core::new(alloc, start)?;
-    for (possible, event) in story {
-        assert_eq!(rt; core.step(event)?, *possible, "{event:?}");
+    for (at, (possible, event)) in story.iter().enumerate() {
+        assert_eq!(rt; core.step(event)?, *possible, "event {at}");
     }
     Ok(())
 }
@@ -428,7 +428,7 @@ fn is_idle(rt: &impl Abort, core: &mut Core, seat: u64) -> Result<(), Fail> {
         CoreEvent::GiveShard { seat, apply: false },
     ];
     for event in &events {
-        assert!(rt; !core.step(event)?, "{event:?}");
+        assert!(rt; !core.step(event)?);
     }
     Ok(())
 }
@@ -437,7 +437,7 @@ fn is_idle(rt: &impl Abort, core: &mut Core, seat: u64) -> Result<(), Fail> {
 fn a_seat_that_is_a_note_or_spent_or_not_made_does_nothing(rt: HostRuntime) -> Result<(), Fail> {
     let mut core = Core::new(rt.alloc(), 10)?;
     for event in &SEATS {
-        assert!(rt; core.step(event)?, "{event:?}");
+        assert!(rt; core.step(event)?);
     }
     for seat in [2u64, 3, 4, u64::MAX] {
         is_idle(&rt, &mut core, seat)?;

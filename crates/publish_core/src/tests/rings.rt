@@ -7,7 +7,7 @@ use std::test::Fail;
 /// All of these are possible.
 fn does(rt: &impl Abort, core: &mut Core, events: &[CoreEvent]) -> Result<(), Fail> {
     for event in events {
-        assert!(rt; core.step(event)?, "{event:?}");
+        assert!(rt; core.step(event)?);
     }
     Ok(())
 }
