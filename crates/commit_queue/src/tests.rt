@@ -82,6 +82,20 @@ fn one_set(rt: &impl Abort, alloc: Global) -> Unnumbered {
     }
 }
 
+/// The batch that takes this one number, and its pieces.
+fn next_batch(rt: &impl Abort, alloc: Global, next: u64) -> (Numbered, Pieces)
+    ensures first { result.0.first ≡ next }
+    ensures pieces { result.1 ≡ record (whole_pieces result.0.entries) { first = Some result.0.first } }
+{
+    let batch = one_set(rt, alloc);
+    if next > NUMBER_MAX || u64::from(batch.count()) > NUMBER_MAX - next {
+        panic!(rt; "a number left");
+    }
+    let mut pieces = split(alloc, &batch).expect(rt, "memory");
+    pieces.number(next);
+    (batch.number(next), pieces)
+}
+
 /// Applies all pieces of the batch that the seat holds. No shard is with another seat.
 fn apply_all<H: Holder>(rt: &impl Abort, table: &PipeTable, h: &mut H, mut pieces: Pieces)
     requires table { IsOfTable table.now (H.table_id h.old) }
@@ -148,29 +162,15 @@ impl Rig {
         }
     }
 
-    /// The next batch, which takes one number, and its pieces.
-    fn batch(&self, rt: &impl Abort) -> (Numbered, Pieces)
-        ensures first { result.0.first ≡ self.now.next }
-        ensures pieces { result.1 ≡ record (whole_pieces result.0.entries) { first = Some result.0.first } }
-    {
-        let batch = one_set(rt, self.alloc);
-        if self.next > NUMBER_MAX || u64::from(batch.count()) > NUMBER_MAX - self.next {
-            panic!(rt; "a number left");
-        }
-        let mut pieces = split(self.alloc, &batch).expect(rt, "memory");
-        pieces.number(self.next);
-        (batch.number(self.next), pieces)
-    }
-
     /// Places, admits and hands over the next batch, and answers its index, where its slot is free.
     fn send_next(&mut self, rt: &impl Abort) -> Option<u64> {
-        let (batch, pieces) = self.batch(rt);
         if self.placed >= BATCHES_MAX {
             panic!(rt; "a batch left");
         }
         if !self.table.slot_free(&mut self.producer) {
             return None;
         }
+        let (batch, pieces) = next_batch(rt, self.alloc, self.next);
         self.table.place(&mut self.producer, &batch);
         let index = self.table.admit(&mut self.producer);
         let Ok(note) = self.table.hand(&mut self.producer) else {
@@ -192,6 +192,14 @@ impl Rig {
         self.table.adopt(&mut self.one, note);
         apply_all(rt, &self.table, &mut self.one, pieces);
         self.table.mark(&mut self.one);
+    }
+
+    /// The index of the batch of the parcel at that place.
+    fn index_at(&self, rt: &impl Abort, at: usize) -> u64 {
+        match self.parcels.get(at) {
+            Some(parcel) => parcel.note.index,
+            None => panic!(rt; "a parcel"),
+        }
     }
 
     /// The same, while another thread is about to sleep for the shard of the batch's key, and a third one for the batch
@@ -235,13 +243,13 @@ impl Rig {
 
     /// The producer commits the next batch by itself, and tries to publish.
     fn commit_alone(&mut self, rt: &impl Abort) -> Option<Published> {
-        let (batch, pieces) = self.batch(rt);
         if self.placed >= BATCHES_MAX {
             panic!(rt; "a batch left");
         }
         if !self.table.slot_free(&mut self.producer) {
             return None;
         }
+        let (batch, pieces) = next_batch(rt, self.alloc, self.next);
         self.table.place(&mut self.producer, &batch);
         self.table.admit(&mut self.producer);
         apply_all(rt, &self.table, &mut self.producer, pieces);
@@ -348,36 +356,14 @@ fn a_batch_is_published_once_it_is_marked(rt: HostRuntime) {
     assert_eq!(rt; rig.other_visible(), 11);
 }
 
-#[test]
-fn the_acked_word_is_raised_to_head_at_most(rt: HostRuntime) {
-    let mut rig = Rig::open(&rt, rt.alloc());
-    assert_eq!(rt; rig.raise_acked(1), 0);
-    assert_eq!(rt; rig.send_next(&rt), Some(0));
-    assert_eq!(rt; rig.other_acked(), 0);
-    assert_eq!(rt; rig.raise_acked(2), 1);
-    assert_eq!(rt; rig.other_acked(), 1);
-}
-
-fn is_sent<T: Send>(_: &T) -> bool {
-    true
-}
-
-fn is_shared<T: Sync>(_: &T) -> bool {
+/// Whether one of the first type may be shared by threads, and one of each other may go to them.
+fn go_to_threads<T: Sync, P: Send, F: Send, S: Send, N: Send>() -> bool {
     true
 }
 
 #[test]
 fn a_table_is_shared_by_threads_and_seats_go_to_them(rt: HostRuntime) {
-    let mut rig = Rig::open(&rt, rt.alloc());
-    assert_eq!(rt; rig.send_next(&rt), Some(0));
-    assert!(rt; is_shared(&rig.table));
-    assert!(rt; is_sent(&rig.producer));
-    assert!(rt; is_sent(&rig.flush));
-    assert!(rt; is_sent(&rig.one));
-    let Some(parcel) = rig.parcels.first() else {
-        panic!(rt; "a parcel");
-    };
-    assert!(rt; is_sent(&parcel.note));
+    assert!(rt; go_to_threads::<PipeTable, ProducerSeat, FlushSeat, SessionSeat, Handed>());
 }
 
 #[test]
@@ -397,7 +383,7 @@ fn a_session_publishes_until_its_batch_is_visible_and_what_is_ready(rt: HostRunt
 }
 
 #[test]
-fn the_producer_publishes_by_itself(rt: HostRuntime) {
+fn the_producer_publishes_by_itself_and_shows_it(rt: HostRuntime) {
     let mut rig = Rig::open(&rt, rt.alloc());
     for index in 0..3u64 {
         let raised = Published::Raised {
@@ -406,6 +392,7 @@ fn the_producer_publishes_by_itself(rt: HostRuntime) {
         };
         assert_eq!(rt; rig.commit_alone(&rt), Some(raised));
     }
+    rig.show();
     assert_eq!(rt; rig.other_visible(), 13);
 }
 
@@ -426,18 +413,6 @@ fn a_full_ring_is_freed_from_the_front(rt: HostRuntime) {
         assert_eq!(rt; rig.publish(), raised);
         assert_eq!(rt; rig.send_next(&rt), Some(index + 64));
     }
-}
-
-#[test]
-fn a_session_is_shown_what_the_producer_has_seen(rt: HostRuntime) {
-    let mut rig = Rig::open(&rt, rt.alloc());
-    let raised = Published::Raised {
-        index: 0,
-        visible: 11,
-    };
-    assert_eq!(rt; rig.commit_alone(&rt), Some(raised));
-    rig.show();
-    assert_eq!(rt; rig.other_visible(), 11);
 }
 
 #[test]
@@ -475,66 +450,65 @@ fn what_one_seat_applies_another_finds(rt: HostRuntime) {
 }
 
 #[test]
-fn each_seat_goes_back_to_the_producer(rt: HostRuntime) {
+fn the_acked_word_is_raised_to_head_at_most_and_each_seat_goes_back(rt: HostRuntime) {
     let mut rig = Rig::open(&rt, rt.alloc());
+    let none = rig.raise_acked(1);
     assert_eq!(rt; rig.send_next(&rt), Some(0));
+    let acked = rig.other_acked();
+    let raised = rig.raise_acked(2);
+    assert_eq!(rt; [none, acked, raised, rig.other_acked()], [0, 0, 1, 1]);
     rig.mark(&rt, 0);
-    let raised = Published::Raised {
-        index: 0,
-        visible: 11,
-    };
-    assert_eq!(rt; rig.publish(), raised);
-    assert_eq!(rt; rig.raise_acked(1), 1);
+    rig.publish_until(&rt, 11);
     assert_eq!(rt; rig.close(), 11);
 }
 
 /// Sends eight batches, marks them in the order that the number picks among all, and publishes
 /// after each mark what is marked at the front.
 fn publishes_in_order(rt: &impl Abort, rig: &mut Rig, order: u32) {
-    let alloc = rig.alloc;
-    let mut waiting: Vec<u64> = Vec::new(alloc);
     for _ in 0..8 {
-        let index = rig.send_next(rt).expect(rt, "a free slot");
-        waiting.push(index).expect(rt, "memory");
+        assert!(rt; rig.send_next(rt).is_some(), "a free slot");
     }
-    let mut marked: Vec<u64> = Vec::new(alloc);
-    let mut front = match waiting.first() {
-        Some(first) => *first,
-        None => panic!(rt; "a batch that waits"),
-    };
+    let first = rig.index_at(rt, 0);
+    let mut marked = [false; 8];
+    let mut front = 0usize;
     let mut rest = order;
     for left in (1..=8u32).rev() {
         let at = (rest % left) as usize;
         rest /= left;
-        rig.mark(rt, at);
-        if at >= waiting.len() {
-            panic!(rt; "a batch that waits");
+        let index = rig.index_at(rt, at);
+        if let Some(mark) = marked.get_mut(index.wrapping_sub(first) as usize) {
+            *mark = true;
         }
-        marked.push(waiting.remove(at)).expect(rt, "memory");
-        front = published_from(rt, rig, &marked, front);
+        rig.mark(rt, at);
+        front = published_from(rt, rig, marked, first, front);
     }
-    assert!(rt; waiting.is_empty());
+    assert_eq!(rt; front, 8);
 }
 
-/// Publishes while the batch at the front is marked, and answers the front that is left.
-fn published_from(rt: &impl Abort, rig: &mut Rig, marked: &[u64], from: u64) -> u64 {
+/// Publishes as many of the eight batches as are marked in a row from there on, and not one more. Answers where the
+/// row ends.
+fn published_from(
+    rt: &impl Abort,
+    rig: &mut Rig,
+    marked: [bool; 8],
+    first: u64,
+    from: usize,
+) -> usize {
     let mut front = from;
-    for _ in 0..9 {
-        match rig.publish() {
-            Published::Raised { index, visible } => {
-                assert!(rt; marked.contains(&front));
-                assert_eq!(rt; index, front);
-                assert_eq!(rt; visible, FIRST.wrapping_add(front).wrapping_add(1));
-                front = front.wrapping_add(1);
-            }
-            Published::NotReady { .. } => {
-                assert!(rt; !marked.contains(&front));
-                return front;
-            }
-            Published::Raced { .. } => panic!(rt; "no other seat publishes"),
+    for at in from..8 {
+        if marked.get(at) != Some(&true) {
+            break;
         }
+        let index = first.wrapping_add(at as u64);
+        let raised = Published::Raised {
+            index,
+            visible: index.wrapping_add(FIRST + 1),
+        };
+        assert_eq!(rt; rig.publish(), raised);
+        front = at.saturating_add(1);
     }
-    panic!(rt; "at most eight batches to publish")
+    assert!(rt; matches!(rig.publish(), Published::NotReady { .. }));
+    front
 }
 
 #[test]

@@ -9,12 +9,12 @@ use Rattle.commit_queue.proofs.GoesOn.{tries_goes_on}
 use Rattle.commit_queue.proofs.tests.Rig.commit_alone.Goals as goal
 
 pub apply_all-requires-clause-unapplied : goal.apply_all-requires-clause-unapplied
-apply_all-requires-clause-unapplied g c = let b : Batch = c.batch-batch.result.0 in let cut = c.batch-batch.ensures.pieces in
+apply_all-requires-clause-unapplied g c = let b : Batch = c.next_batch-batch.result.0 in let cut = c.next_batch-batch.ensures.pieces in
     unapplied_next (producer_view c.slot_free.new.p) (producer_view c.place.new.p) _ b _ c.place.ensures.placed c.admit-self.ensures.admitted
     (ap (λ (p : PiecesLeft). p.entries) cut) (ap (λ (p : PiecesLeft). p.first) cut) (ap (λ (p : PiecesLeft). p.from) cut)
 
 pub mark-requires-clause-applied : goal.mark-requires-clause-applied
-mark-requires-clause-applied g c = let r = c.args.self.now in let b : Batch = c.batch-batch.result.0 in
+mark-requires-clause-applied g c = let r = c.args.self.now in let b : Batch = c.next_batch-batch.result.0 in
     let v : View = producer_view c.slot_free.new.p in let v1 : View = producer_view c.place.new.p in
     let v2 : View = producer_view c.admit-self.new.p in let only = c.apply_all.ensures.only in
     can_mark v2 _ (holds_next v v1 v2 r.next r.placed b (awaits_read (producer_view r.producer) v _ r.next r.placed r.awaits c.slot_free.ensures.read)
@@ -22,7 +22,7 @@ mark-requires-clause-applied g c = let r = c.args.self.now in let b : Batch = c.
     (ap (λ (x : View). x.seat.kind) only) (ap (λ (x : View). x.seat.held) only) (ap (λ (x : View). x.head) only) c.apply_all.ensures.applied
 
 pub invariant_of-self-2 : goal.invariant_of-self-2
-invariant_of-self-2 g c = let r = c.args.self.now in let b : Batch = c.batch-batch.result.0 in let v0 : View = producer_view r.producer in
+invariant_of-self-2 g c = let r = c.args.self.now in let b : Batch = c.next_batch-batch.result.0 in let v0 : View = producer_view r.producer in
     let v : View = producer_view c.slot_free.new.p in let v1 : View = producer_view c.place.new.p in
     let v2 : View = producer_view c.admit-self.new.p in let v3 : View = producer_view c.apply_all.new.h in
     let v4 : View = producer_view c.mark.new.h in let v5 : View = producer_view c.try_publish.new.h in
@@ -41,7 +41,7 @@ invariant_of-self-2 g c = let r = c.args.self.now in let b : Batch = c.batch-bat
           (awaits_marked v v1 v2 v3 v4 r.next r.placed _ b awaits
           c.place.ensures.placed c.admit-self.ensures.admitted (ap (λ (x : View). x.seat.held) only) (ap (λ (x : View). x.head) only)
           (ap (λ (x : View). x.history) only) (ap (λ (x : View). x.base) only) c.mark.ensures.marked
-          (c.end-self.ensures.end ∙ ap (λ (x : ℕ). x + numbers b) c.batch-batch.ensures.first))
+          (c.end-self.ensures.end ∙ ap (λ (x : ℕ). x + numbers b) c.next_batch-batch.ensures.first))
           on;
       no_turn = on.turn ∙ turn_marked v3 v4 can.holds c.mark.ensures.marked ∙ c.apply_all.ensures.no_turn;
       one_idle = r.one_idle;

@@ -16,17 +16,17 @@ added P true xs x all here = All-push P xs x all here
 added P false xs x all here = all
 
 pub invariant_of-parcel : goal.invariant_of-parcel
-invariant_of-parcel g c = let b : Batch = c.batch-batch.result.0 in let cut = c.batch-batch.ensures.pieces in
+invariant_of-parcel g c = let b : Batch = c.next_batch-batch.result.0 in let cut = c.next_batch-batch.ensures.pieces in
     let v2 : View = producer_view c.admit-index.new.p in let w : View = note_view c.in-Ok.note in record {
       unapplied = kept_unapplied w _ (unapplied_handed v2 w _
-          (unapplied_next (producer_view c.slot_free.new.p) (producer_view c.place.new.p) v2 b c.batch-batch.result.1
+          (unapplied_next (producer_view c.slot_free.new.p) (producer_view c.place.new.p) v2 b c.next_batch-batch.result.1
           c.place.ensures.placed c.admit-index.ensures.admitted
           (ap (λ (p : PiecesLeft). p.entries) cut) (ap (λ (p : PiecesLeft). p.first) cut) (ap (λ (p : PiecesLeft). p.from) cut))
           c.in-Ok.ensures.given.note);
     }
 
 pub invariant_of-self-2 : goal.invariant_of-self-2
-invariant_of-self-2 g c = let r = c.args.self.now in let b : Batch = c.batch-batch.result.0 in let v0 : View = producer_view r.producer in
+invariant_of-self-2 g c = let r = c.args.self.now in let b : Batch = c.next_batch-batch.result.0 in let v0 : View = producer_view r.producer in
     let v : View = producer_view c.slot_free.new.p in let v1 : View = producer_view c.place.new.p in
     let v2 : View = producer_view c.admit-index.new.p in let v3 : View = producer_view c.hand.new.p in
     let of_table : Parcel → Type 0 = λ parcel. IsOfTable r.table (note_table parcel.note) in
@@ -39,7 +39,7 @@ invariant_of-self-2 g c = let r = c.args.self.now in let b : Batch = c.batch-bat
           (added of_table _ r.parcels.items _ r.parcels_of (c.in-Ok.ensures.given.table ∙ here));
       awaits = awaits_handed v v1 v2 v3 r.next r.placed _ b (awaits_read v0 v _ r.next r.placed r.awaits c.slot_free.ensures.read)
           c.place.ensures.placed c.admit-index.ensures.admitted c.in-Ok.ensures.given.left
-          (c.end-self.ensures.end ∙ ap (λ (x : ℕ). x + numbers b) c.batch-batch.ensures.first);
+          (c.end-self.ensures.end ∙ ap (λ (x : ℕ). x + numbers b) c.next_batch-batch.ensures.first);
       no_turn = ap (λ (x : View). x.seat.turn) c.in-Ok.ensures.given.left ∙ ap (λ (x : View). x.seat.turn) c.admit-index.ensures.admitted
           ∙ ap (λ (x : View). x.seat.turn) c.place.ensures.placed ∙ ap (λ (x : View). x.seat.turn) c.slot_free.ensures.read.1 ∙ r.no_turn;
       one_idle = r.one_idle;
