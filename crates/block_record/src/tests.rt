@@ -45,8 +45,9 @@ fn has_record(rt: &impl Abort, read: &ReadOut, record: usize, at: u64, bytes: &[
 fn a_record_in_one_chunk(rt: HostRuntime) -> Result<(), NoMemory> {
     assert_eq!(rt; Framer::new(1).framed_len(17), 28);
     let out = framed(rt.alloc(), &RECORD)?;
-    assert_eq!(rt; &out.as_slice()[..11], CHUNK_HEADER.as_slice());
-    assert_eq!(rt; &out.as_slice()[11..], RECORD.as_slice());
+    let bytes = out.as_slice();
+    assert!(rt; bytes.get(..11) == Some(CHUNK_HEADER.as_slice()));
+    assert!(rt; bytes.get(11..) == Some(RECORD.as_slice()));
     let read = read_out(rt.alloc(), 1, out.as_slice())?;
     assert_eq!(rt;
         (read.records.len(), read.ends_at, read.torn),
