@@ -159,13 +159,13 @@ struct Told {
 }
 
 /// What a run over a disk comes to.
-fn tell<R: Threads + Wait + Sync>(rt: &R, alloc: Global, given: Given, disk: MemDisk) -> Told {
+fn tell<R: Threads + Wait + Sync>(rt: &R, alloc: Global, given: Given, rig: Rig) -> Told {
     let Given {
         words,
         mut source,
         mut sink,
     } = given;
-    let Ran { status, disk } = run(rt, alloc, &words, &mut source, &mut sink, disk, &NoGate);
+    let Ran { status, disk } = run(rt, alloc, &words, &mut source, &mut sink, rig.disk, &NoGate);
     Told { status, sink, disk }
 }
 
@@ -178,7 +178,7 @@ fn told_of<R: Threads + Wait + Sync>(
     script: &[u8],
 ) -> Result<Told, NoMemory> {
     let given = Given::new(alloc, words, script)?;
-    Ok(tell(rt, alloc, given, rig.disk))
+    Ok(tell(rt, alloc, given, rig))
 }
 
 /// Asserts what a run wrote, and its status. Answers the disk.

@@ -142,33 +142,44 @@ fn an_operation_hangs_from_the_third_pending_poll_on(rt: HostRuntime) -> Result<
     check_hanging(&rt, rt.alloc(), 3, two, b"", Some(FIRST_LOG))
 }
 
-/// Asserts that a run has three segments where the creation of segment 0 hangs, an operation of that number fails, and
-/// so many polls of the other side are pending, and what segment 1 then has.
-fn check_three<R: Threads + Wait + Sync + Abort>(
+/// The disk after a run of three segments: the creation of segment 0 hangs, an operation of that number fails, and so many
+/// polls of the other side are pending.
+fn three_segments<R: Threads + Wait + Sync + Abort>(
     rt: &R,
     alloc: Global,
     fails: u64,
     hangs: u32,
-    second: Option<&[u8]>,
-) -> Result<(), Fail> {
-    let script = b"commit 0 nosync set a 1\n";
-    let text = "s0 commit 10 1\nend visible 11 batches 1 acked 1 segments 3 closed\n";
+) -> Result<MemDisk, Fail> {
     let mut rig = Rig::new(alloc)?;
     rig.stall(Side::Primary, 3);
     rig.stall(Side::Secondary, hangs);
     rig.fail_op(rt, fails);
-    let disk = check_command(rt, alloc, rig, &["replay"], script, Status::Done, text)?;
+    let script = b"commit 0 nosync set a 1\n";
+    let text = "s0 commit 10 1\nend visible 11 batches 1 acked 1 segments 3 closed\n";
+    check_command(rt, alloc, rig, &["replay"], script, Status::Done, text)
+}
+
+/// Asserts that segment 2 has the log, and segment 0 nothing.
+fn check_third<R: Threads + Wait + Sync + Abort>(
+    rt: &R,
+    alloc: Global,
+    disk: MemDisk,
+) -> Result<(), Fail> {
     assert!(rt; segment_at(&disk, 0) == Some(b"".as_slice()));
-    assert!(rt; segment_at(&disk, 1) == second);
     assert!(rt; segment_at(&disk, 2) == Some(FIRST_LOG));
     check_crash(rt, alloc, disk, "a = 1\nend batches 1 next 11\n")
 }
 
 #[test]
 fn a_living_run_has_three_segments(rt: HostRuntime) -> Result<(), Fail> {
+    let alloc = rt.alloc();
     // The creation of segment 1 fails, or hangs too and ends once segment 2 is begun.
-    check_three(&rt, rt.alloc(), 1, 0, None)?;
-    check_three(&rt, rt.alloc(), 1_000, 3, Some(b""))
+    let disk = three_segments(&rt, alloc, 1, 0)?;
+    assert!(rt; segment_at(&disk, 1).is_none());
+    check_third(&rt, alloc, disk)?;
+    let disk = three_segments(&rt, alloc, 1_000, 3)?;
+    assert!(rt; segment_at(&disk, 1) == Some(b"".as_slice()));
+    check_third(&rt, alloc, disk)
 }
 
 /// A disk that answers so many polls of one operation on the primary side pending.
@@ -227,33 +238,29 @@ impl<D: Disk> Disk for Late<D> {
     ghost sound = { λ d p f told is. D.sound d.inner p f told is };
 }
 
-/// A disk on which the sync of segment 0 hangs and the nine creations after it fail. In the step that finds the last of
-/// them failed, the sync is done at its twelfth poll.
-fn late_disk(rt: &impl Abort, alloc: Global) -> Result<Late<MemDisk>, NoMemory> {
+/// A disk on which the nine creations after the first sync fail.
+fn nine_failing(rt: &impl Abort, alloc: Global) -> Result<Rig, NoMemory> {
     let mut rig = Rig::new(alloc)?;
     for number in 3..12 {
         rig.fail_op(rt, number);
     }
-    Ok(Late {
-        inner: rig.disk,
-        op: 2,
-        polls: 11,
-        log: CallLog::new(),
-    })
+    Ok(rig)
 }
 
-/// What a run over such a disk comes to.
-fn tell_late<R: Threads + Wait + Sync>(
-    rt: &R,
-    alloc: Global,
-    given: Given,
-    late: Late<MemDisk>,
-) -> Told {
+/// What a run over a disk comes to where the sync of segment 0 hangs. In the step that finds the last of nine creations
+/// failed, the sync is done at its twelfth poll.
+fn tell_late<R: Threads + Wait + Sync>(rt: &R, alloc: Global, given: Given, rig: Rig) -> Told {
     let Given {
         words,
         mut source,
         mut sink,
     } = given;
+    let late = Late {
+        inner: rig.disk,
+        op: 2,
+        polls: 11,
+        log: CallLog::new(),
+    };
     let Ran { status, disk } = run(rt, alloc, &words, &mut source, &mut sink, late, &NoGate);
     Told {
         status,
@@ -270,7 +277,7 @@ fn check_late<R: Threads + Wait + Sync + Abort>(
     text: &str,
 ) -> Result<(), Fail> {
     let given = Given::new(alloc, &["replay"], script)?;
-    let told = tell_late(rt, alloc, given, late_disk(rt, alloc)?);
+    let told = tell_late(rt, alloc, given, nine_failing(rt, alloc)?);
     let disk = check_told(rt, told, Status::Disk, text);
     check_crash(rt, alloc, disk, "a = 1\nend batches 1 next 11\n")
 }
