@@ -53,8 +53,11 @@ impl Rig {
 fn shows(rt: &impl Abort, walk: Walk<'_>, wanted: &[(&[u8], u64)]) {
     let mut walk = walk;
     for (key, seq) in wanted {
-        let found = walk.next().map(|version| (version.key, version.seq));
-        assert_eq!(rt; found, Some((*key, *seq)));
+        let Some(version) = walk.next() else {
+            panic!(rt; "a version");
+        };
+        assert_eq!(rt; version.key, *key);
+        assert_eq!(rt; version.seq, *seq);
     }
     assert!(rt; walk.next().is_none());
 }
@@ -62,71 +65,152 @@ fn shows(rt: &impl Abort, walk: Walk<'_>, wanted: &[(&[u8], u64)]) {
 #[test]
 fn towers_are_as_high_as_the_insertions_count(rt: HostRuntime) {
     let mut rig = Rig::new(&rt, rt.alloc());
-    put_and_remove(&rt, &mut rig);
+    rig.put(&rt, b"a", 10, Some(b"1"));
+    rig.put(&rt, b"b", 11, Some(b"2"));
+    rig.put(&rt, b"a", 12, None);
+    shows(&rt, rig.list.walk(), &[(b"a", 12), (b"a", 10), (b"b", 11)]);
+    shows(&rt, rig.list.walk_level(1), &[(b"b", 11)]);
+    assert_eq!(&rt; rig.list.newest(b"a", 13), Found::Gone { seq: 12 });
+    assert_eq!(&rt;
+        rig.list.newest(b"a", 12),
+        Found::Value {
+            seq: 10,
+            bytes: b"1"
+        }
+    );
+    assert_eq!(&rt; rig.list.newest(b"a", 10), Found::Nothing);
+    assert!(&rt; rig.list.remove(b"a", 12));
+    assert!(&rt; !rig.list.remove(b"a", 12));
+    assert_eq!(&rt;
+        rig.list.newest(b"a", 13),
+        Found::Value {
+            seq: 10,
+            bytes: b"1"
+        }
+    );
+    rig.has_places(&rt, 3, 1);
+    rig.put(&rt, b"c", 13, Some(b"3"));
+    rig.has_places(&rt, 3, 0);
+    shows(&rt, rig.list.walk_level(1), &[(b"b", 11), (b"c", 13)]);
+    shows(&rt, rig.list.walk_level(2), &[(b"c", 13)]);
+    shows(&rt, rig.list.walk_level(3), &[]);
 }
 
-/// The fourth insertion takes the place of the third one, and its tower is as high as the fourth's.
-fn put_and_remove(rt: &impl Abort, rig: &mut Rig) {
-    rig.put(rt, b"a", 10, Some(b"1"));
-    rig.put(rt, b"b", 11, Some(b"2"));
-    rig.put(rt, b"a", 12, None);
-    shows(rt, rig.list.walk(), &[(b"a", 12), (b"a", 10), (b"b", 11)]);
-    shows(rt, rig.list.walk_level(1), &[(b"b", 11)]);
-    assert!(rt; rig.list.remove(b"a", 12));
-    rig.put(rt, b"c", 13, Some(b"3"));
-    rig.has_places(rt, 3, 0);
-    shows(rt, rig.list.walk_level(1), &[(b"b", 11), (b"c", 13)]);
-    shows(rt, rig.list.walk_level(2), &[(b"c", 13)]);
-    shows(rt, rig.list.walk_level(3), &[]);
+#[test]
+fn a_walk_shows_keys_numbers_and_values(rt: HostRuntime) {
+    let mut rig = Rig::new(&rt, rt.alloc());
+    rig.put(&rt, b"k", 1, Some(b"v"));
+    rig.put(&rt, b"k", 2, None);
+    let mut walk = rig.list.walk();
+    let newer = Version {
+        key: b"k",
+        seq: 2,
+        value: None,
+    };
+    let older = Version {
+        key: b"k",
+        seq: 1,
+        value: Some(b"v"),
+    };
+    assert_eq!(&rt; walk.next(), Some(newer));
+    assert_eq!(&rt; walk.next(), Some(older));
+    assert_eq!(&rt; walk.next(), None);
+}
+
+#[test]
+fn keys_that_are_prefixes_of_each_other_stay_apart(rt: HostRuntime) {
+    let mut rig = Rig::new(&rt, rt.alloc());
+    let keys: [&[u8]; 6] = [b"ab", b"", b"b", b"a", b"a\0", b"aa"];
+    let mut seq = 0u64;
+    for key in keys {
+        rig.put(&rt, key, seq, Some(key));
+        seq = seq.saturating_add(1);
+    }
+    shows(
+        &rt,
+        rig.list.walk(),
+        &[
+            (b"", 1),
+            (b"a", 3),
+            (b"a\0", 4),
+            (b"aa", 5),
+            (b"ab", 0),
+            (b"b", 2),
+        ],
+    );
+    assert_eq!(&rt;
+        rig.list.newest(b"a", u64::MAX),
+        Found::Value {
+            seq: 3,
+            bytes: b"a"
+        }
+    );
+    assert_eq!(&rt; rig.list.newest(b"aaa", u64::MAX), Found::Nothing);
+    assert_eq!(&rt; rig.list.newest(b"b", 0), Found::Nothing);
+}
+
+/// How many versions the test of one key has, and what its numbers are stepped by.
+const MANY: u64 = 2_000;
+
+const STEP: u64 = 617;
+
+/// Gives one key versions with the numbers from 0 on, in a mixed order.
+fn fill(rt: &impl Abort, rig: &mut Rig) {
+    for k in 0..MANY {
+        rig.put(rt, b"key", k * STEP % MANY, Some(b"value"));
+    }
+}
+
+#[test]
+fn one_key_has_many_versions_again_and_again(rt: HostRuntime) {
+    let mut rig = Rig::new(&rt, rt.alloc());
+    for _ in 0..2 {
+        fill(&rt, &mut rig);
+        rig.has_places(&rt, 2_000, 0);
+        for k in 0..MANY {
+            let wanted = Found::Value {
+                seq: k,
+                bytes: b"value",
+            };
+            assert_eq!(&rt; rig.list.newest(b"key", k + 1), wanted);
+        }
+        let mut below = MANY;
+        for version in rig.list.walk() {
+            assert_eq!(&rt; Some(version.seq), below.checked_sub(1));
+            below = version.seq;
+        }
+        assert_eq!(&rt; below, 0);
+        for k in 0..MANY {
+            assert!(&rt; rig.list.remove(b"key", k));
+        }
+        rig.has_places(&rt, 2_000, 2_000);
+        shows(&rt, rig.list.walk(), &[]);
+        shows(&rt, rig.list.walk_level(11), &[]);
+    }
 }
 
 /// As many versions as one key is asked to have.
 const MOST: u64 = 100_000;
 
-/// How many of them are taken out and put back, and what their numbers are stepped by.
-const MANY: u64 = 2_000;
-
-const STEP: u64 = 617;
-
-/// Gives one key versions with the numbers from 0 on.
-fn fill(rt: &impl Abort, rig: &mut Rig) {
+#[test]
+fn one_key_has_a_hundred_thousand_versions(rt: HostRuntime) {
+    let mut rig = Rig::new(&rt, rt.alloc());
     for k in 0..MOST {
-        rig.put(rt, b"key", k, None);
+        let key = blob(&rt, rt.alloc(), b"key");
+        let held = rig.list.remove(b"key", k);
+        assert!(&rt; !held);
+        assert!(&rt; rig.list.insert(key, k, None).is_ok());
     }
-}
-
-/// Takes some of them out, and puts them back in a mixed order.
-fn fill_again(rt: &impl Abort, rig: &mut Rig) {
-    for k in 0..MANY {
-        assert!(rt; rig.list.remove(b"key", k));
-    }
-    rig.has_places(rt, 100_000, 2_000);
-    for k in 0..MANY {
-        rig.put(rt, b"key", k * STEP % MANY, None);
-    }
-}
-
-/// A walk shows each number, the greatest first, and a read finds the newest one below a bound.
-fn has_most(rt: &impl Abort, list: &ArenaList) {
+    rig.has_places(&rt, 100_000, 0);
     for k in [1, 2, 617, 50_000, 99_999, 100_000] {
-        assert_eq!(rt; list.newest(b"key", k), Found::Gone { seq: k - 1 });
+        assert_eq!(&rt; rig.list.newest(b"key", k), Found::Gone { seq: k - 1 });
     }
     let mut below = MOST;
-    for version in list.walk() {
-        assert_eq!(rt; Some(version.seq), below.checked_sub(1));
+    for version in rig.list.walk() {
+        assert_eq!(&rt; Some(version.seq), below.checked_sub(1));
         below = version.seq;
     }
-    assert_eq!(rt; below, 0);
-}
-
-#[test]
-fn one_key_has_a_hundred_thousand_versions_again(rt: HostRuntime) {
-    let mut rig = Rig::new(&rt, rt.alloc());
-    fill(&rt, &mut rig);
-    has_most(&rt, &rig.list);
-    fill_again(&rt, &mut rig);
-    rig.has_places(&rt, 100_000, 0);
-    has_most(&rt, &rig.list);
+    assert_eq!(&rt; below, 0);
 }
 
 /// Numbers that look random: those of a linear congruential generator.
@@ -148,44 +232,52 @@ impl Dice {
 }
 
 /// What a list is to hold: for each key its values, by number.
-type Plain = BTreeMap<&'static [u8], BTreeMap<u64, Option<&'static [u8]>>>;
+type Plain = BTreeMap<Vec<u8>, BTreeMap<u64, Option<Vec<u8>>>>;
 
-fn plain_newest(plain: &Plain, key: &'static [u8], below: u64) -> Found<'static> {
-    let Some(values) = plain.get(&key) else {
+fn plain_newest<'a>(plain: &'a Plain, key: &[u8], below: u64) -> Found<'a> {
+    let Some(values) = plain.get(key) else {
         return Found::Nothing;
     };
     match values.range(..below).next_back() {
         None => Found::Nothing,
         Some((seq, None)) => Found::Gone { seq: *seq },
-        Some((seq, Some(bytes))) => Found::Value { seq: *seq, bytes },
+        Some((seq, Some(bytes))) => Found::Value {
+            seq: *seq,
+            bytes: bytes.as_slice(),
+        },
     }
 }
 
-fn plain_holds(plain: &Plain, key: &'static [u8], seq: u64) -> bool {
+fn plain_holds(plain: &Plain, key: &[u8], seq: u64) -> bool {
     plain
-        .get(&key)
+        .get(key)
         .is_some_and(|values| values.contains_key(&seq))
 }
 
 fn plain_put(
     alloc: Global,
     plain: &mut Plain,
-    key: &'static [u8],
+    key: &[u8],
     seq: u64,
-    value: Option<&'static [u8]>,
+    value: Option<&[u8]>,
 ) -> Result<(), NoMemory> {
-    if let Some(values) = plain.get_mut(&key) {
+    let value = match value {
+        Some(bytes) => Some(Vec::from_slice(alloc, bytes)?),
+        None => None,
+    };
+    if let Some(values) = plain.get_mut(key) {
         values.insert(seq, value)?;
         return Ok(());
     }
     let mut values = BTreeMap::new(alloc);
     values.insert(seq, value)?;
+    let key = Vec::from_slice(alloc, key)?;
     plain.insert(key, values)?;
     Ok(())
 }
 
-fn plain_remove(plain: &mut Plain, key: &'static [u8], seq: u64) -> bool {
-    match plain.get_mut(&key) {
+fn plain_remove(plain: &mut Plain, key: &[u8], seq: u64) -> bool {
+    match plain.get_mut(key) {
         Some(values) => values.remove(&seq).is_some(),
         None => false,
     }
@@ -196,40 +288,22 @@ fn same_walk(rt: &impl Abort, list: &ArenaList, plain: &Plain) {
     let mut walk = list.walk();
     for (key, values) in plain {
         for (seq, value) in values.iter().rev() {
-            let wanted = Version {
-                key: *key,
-                seq: *seq,
-                value: *value,
+            let Some(version) = walk.next() else {
+                panic!(rt; "a version");
             };
-            assert_eq!(rt; walk.next(), Some(wanted));
+            assert_eq!(rt; version.key, key.as_slice());
+            assert_eq!(rt; version.seq, *seq);
+            assert_eq!(rt; version.value, value.as_ref().map(|bytes| bytes.as_slice()));
         }
     }
     assert!(rt; walk.next().is_none());
 }
 
-/// Keys of 0 to 11 bytes, of which some begin others, and many have the same first eight bytes, or the same but for zeros
-/// at the end.
-const KEYS: [&[u8]; 14] = [
-    b"abcdefgh",
-    b"",
-    b"a\0\0",
-    b"abcdefgh\0",
-    b"a",
-    b"\0\0\0\0\0\0\0\0",
-    b"abcdefg",
-    b"\0",
-    b"\xFF\xFF\xFF\xFF\xFF\xFF\xFF\xFF\xFF",
-    b"a\0",
-    b"\0\0\0\0\0\0\0\0\0",
-    b"\xFF\xFF\xFF\xFF\xFF\xFF\xFF\xFF",
-    b"ab",
-    b"abcdefghijk",
-];
-
 /// One step at random, on both: their answers agree.
 fn step(rt: &impl Abort, rig: &mut Rig, plain: &mut Plain, dice: &mut Dice) {
-    let key = KEYS[dice.roll(14) as usize];
-    let seq = dice.roll(100);
+    let keys: [&[u8]; 8] = [b"", b"a", b"a\0", b"ab", b"abc", b"b", b"ba", b"c"];
+    let key = keys[dice.roll(8) as usize];
+    let seq = dice.roll(200);
     match dice.roll(5) {
         0 => assert_eq!(rt; rig.list.remove(key, seq), plain_remove(plain, key, seq)),
         1 => assert_eq!(rt; rig.list.newest(key, seq), plain_newest(plain, key, seq)),
@@ -289,5 +363,74 @@ fn an_insertion_that_lacks_memory_changes_nothing(rt: HostRuntime) {
         assert!(&rt; put_twice(&rt, &mut rig, key, 40 - k));
         held = held.saturating_add(1);
         rig.has_places(&rt, held, 0);
+    }
+}
+
+/// How many keys the test of near keys has.
+const NEAR: usize = 26;
+
+/// Keys of 0 to 11 bytes, many of which have the same first eight bytes, or the same but for zeros at the end.
+fn near_keys() -> [&'static [u8]; NEAR] {
+    [
+        b"abcdefgh",
+        b"",
+        b"a\0\0",
+        b"\xFF",
+        b"abcdefgh\0",
+        b"a",
+        b"abcdefghij",
+        b"\0\0\0\0\0\0\0\0",
+        b"abcdefg",
+        b"\0",
+        b"\xFF\xFF\xFF\xFF\xFF\xFF\xFF\xFF\xFF",
+        b"abcdefgi",
+        b"a\0",
+        b"abcdefgh\xFF",
+        b"abc",
+        b"hgfedcba",
+        b"abcdefghi",
+        b"\0\0\0\0\0\0\0\0\0",
+        b"\xFF\xFF\xFF\xFF\xFF\xFF\xFF\xFF",
+        b"abcd",
+        b"ab",
+        b"a\0\0\0\0\0\0\0",
+        b"abcdef",
+        b"abcde",
+        b"\xFF\0",
+        b"abcdefghijk",
+    ]
+}
+
+/// A walk shows the keys in the order of their bytes, and each of them is found.
+fn has_near_keys(rt: &impl Abort, list: &ArenaList, keys: &[&[u8]]) {
+    let mut last: Option<&[u8]> = None;
+    let mut count = 0usize;
+    for version in list.walk() {
+        assert!(rt; last < Some(version.key));
+        last = Some(version.key);
+        count = count.saturating_add(1);
+    }
+    assert_eq!(rt; count, keys.len());
+    for key in keys {
+        let Found::Value { bytes, .. } = list.newest(*key, u64::MAX) else {
+            panic!(rt; "a value");
+        };
+        assert_eq!(rt; bytes, *key);
+    }
+}
+
+#[test]
+fn keys_are_in_the_order_of_their_bytes_whatever_their_leads(rt: HostRuntime) {
+    let mut rig = Rig::new(&rt, rt.alloc());
+    let keys = near_keys();
+    for held in 0..NEAR {
+        assert_eq!(&rt; rig.list.newest(keys[held], u64::MAX), Found::Nothing);
+        rig.put(&rt, keys[held], held as u64, Some(keys[held]));
+        has_near_keys(&rt, &rig.list, &keys[..held + 1]);
+    }
+    for held in 0..NEAR {
+        assert!(&rt; rig.list.remove(keys[held], held as u64));
+        assert_eq!(&rt; rig.list.newest(keys[held], u64::MAX), Found::Nothing);
+        has_near_keys(&rt, &rig.list, &keys[held + 1..]);
     }
 }

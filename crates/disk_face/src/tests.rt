@@ -1,24 +1,21 @@
-ghost use Rattle.std.specs.Prelude.{◌≡◌, None, IsTrue};
-ghost use Rattle.disk_face.specs.View.{segment, files, NothingInFlight};
+ghost use Rattle.std.specs.Prelude.{◌≡◌, None, IsSome, IsTrue};
+ghost use Rattle.disk_face.specs.View.{segment, table, files, NothingInFlight, IsFree};
+ghost use Rattle.disk_face.specs.Listing.{IsTableNumber};
 
 use crate::{
     BySide, CallLog, Disk, DiskErr, DiskOp, NoDisk, OpId, Progress, ScriptDisk, SegName, Side,
     StallDisk, TableDisk,
 };
 use std::mem::size_of;
-use std::process::Abort;
 use wal_base::{Buf, NoMemory};
 
-const NAME: SegName = SegName { wal: 1, index: 0 };
+fn listed_on<D: Disk>(disk: &mut D, side: Side) -> Result<usize, DiskErr> {
+    Ok(disk.list(side)?.len())
+}
 
-/// Whether a disk lists no segment, and reads nothing of one.
-fn has_no_segments<D: Disk>(disk: &mut D) -> bool {
-    let is_empty = match disk.list(Side::Primary) {
-        Ok(names) => names.is_empty(),
-        Err(_) => false,
-    };
+fn read_two<D: Disk>(disk: &mut D, side: Side, name: SegName) -> (Result<usize, DiskErr>, [u8; 2]) {
     let mut buf = *b"..";
-    is_empty && disk.read(Side::Primary, NAME, 0, &mut buf) == Ok(0) && buf == *b".."
+    (disk.read(side, name, 0, &mut buf), buf)
 }
 
 /// Starts the creation of a segment on a stalled side, and polls it once.
@@ -35,44 +32,70 @@ fn create_stalled<D: StallDisk>(
     Ok(disk.poll(id))
 }
 
-/// Whether a disk lists no table, and reads nothing of one.
-fn has_no_tables(disk: &mut NoDisk) -> bool {
-    let is_empty = match disk.tables() {
-        Ok(tables) => tables.is_empty(),
-        Err(_) => false,
-    };
+fn tables_on<D: TableDisk>(disk: &mut D) -> Result<usize, DiskErr> {
+    Ok(disk.tables()?.len())
+}
+
+fn read_table_two<D: TableDisk>(disk: &mut D, upto: u64) -> (Result<usize, DiskErr>, [u8; 2])
+    requires { IsTableNumber upto }
+{
     let mut buf = *b"..";
-    is_empty && disk.read_table(999_999_999_999, 0, &mut buf) == Ok(0) && buf == *b".."
+    (disk.read_table(upto, 0, &mut buf), buf)
+}
+
+fn put_table<D: TableDisk>(disk: &mut D, upto: u64) -> Result<(), DiskErr>
+    requires { IsTableNumber upto }
+{
+    disk.put_table(upto, b"ab")
+}
+
+fn drop_segment<D: TableDisk>(disk: &mut D, side: Side, name: SegName) -> Result<(), DiskErr>
+    requires free { IsFree (D.view disk.old) (segment side name) }
+    requires there { IsTrue D.tells → IsSome (files (D.view disk.old) (segment side name)) }
+{
+    disk.drop_segment(side, name)
+}
+
+fn drop_table<D: TableDisk>(disk: &mut D, upto: u64) -> Result<(), DiskErr>
+    requires number { IsTableNumber upto }
+    requires there { IsTrue D.tells → IsSome (files (D.view disk.old) (table upto)) }
+{
+    disk.drop_table(upto)
 }
 
 #[test]
 fn a_disk_without_files_keeps_nothing(rt: HostRuntime) {
+    let name = SegName { wal: 1, index: 0 };
     let mut disk = NoDisk::new(rt.alloc());
-    keep_nothing(&rt, &mut disk);
-}
-
-fn keep_nothing(rt: &impl Abort, disk: &mut NoDisk)
-    requires idle { NothingInFlight (⟦<NoDisk as Disk>⟧.view disk.old) }
-{
-    let refused = Err(DiskErr::NoMemory);
-    assert!(rt; create_stalled(disk, Side::Primary, NAME) == Err(DiskErr::NoMemory));
-    assert!(rt; has_no_segments(disk) && has_no_tables(disk));
-    assert!(rt; disk.put_table(0, b"ab") == refused && disk.drop_table(0) == refused);
-    assert!(rt; disk.drop_segment(Side::Primary, NAME) == refused);
-    let id = OpId {
-        side: Side::Primary,
-        number: 0,
-    };
-    assert!(rt; disk.poll(id) == Progress::Failed);
+    for side in [Side::Primary, Side::Secondary] {
+        assert_eq!(rt; listed_on(&mut disk, side), Ok(0));
+        assert_eq!(rt; read_two(&mut disk, side, name), (Ok(0), *b".."));
+        assert_eq!(rt;
+            create_stalled(&mut disk, side, name),
+            Err(DiskErr::NoMemory)
+        );
+        assert_eq!(rt; drop_segment(&mut disk, side, name), Err(DiskErr::NoMemory));
+        assert_eq!(rt; disk.poll(OpId { side, number: 0 }), Progress::Failed);
+    }
+    assert_eq!(rt; tables_on(&mut disk), Ok(0));
+    assert_eq!(rt; read_table_two(&mut disk, 999_999_999_999), (Ok(0), *b".."));
+    assert_eq!(rt; put_table(&mut disk, 0), Err(DiskErr::NoMemory));
+    assert_eq!(rt; drop_table(&mut disk, 0), Err(DiskErr::NoMemory));
 }
 
 #[test]
 fn a_script_passes_calls_on_to_the_disk_within(rt: HostRuntime) {
+    let name = SegName { wal: 1, index: 0 };
     let mut disk = ScriptDisk::new(NoDisk::new(rt.alloc()));
-    let started = create_stalled(&mut disk, Side::Primary, NAME);
-    let is_empty = has_no_segments(&mut disk);
-    assert!(rt; started == Err(DiskErr::NoMemory) && is_empty);
-    assert!(rt; has_no_tables(&mut disk.into_inner()));
+    for side in [Side::Primary, Side::Secondary] {
+        assert_eq!(rt; listed_on(&mut disk, side), Ok(0));
+        assert_eq!(rt; read_two(&mut disk, side, name), (Ok(0), *b".."));
+    }
+    assert_eq!(rt;
+        create_stalled(&mut disk, Side::Primary, name),
+        Err(DiskErr::NoMemory)
+    );
+    assert_eq!(rt; tables_on(&mut disk.into_inner()), Ok(0));
 }
 
 #[test]
@@ -89,51 +112,59 @@ fn errors_say_what_failed(rt: HostRuntime) -> Result<(), DiskErr> {
     Ok(())
 }
 
-fn is_read(text: &str, wal: u64, index: u32) -> bool {
-    SegName::parse(text.as_bytes()) == Some(SegName { wal, index })
-}
-
-/// Near spellings of names. That each other text is refused is a clause.
-const OTHERS: &[&str] = &[
-    "1.log",
-    "0000001.log",
-    "1000000000000.log",
-    "000001-1.log",
-    "000001-000.log",
-    "000001-1000.log",
-];
-
 #[test]
 fn a_name_has_one_spelling(rt: HostRuntime) {
-    assert!(rt; is_read("000001.log", 1, 0) && is_read("000012-010.log", 12, 10));
-    assert!(rt; is_read("1234567.log", 1_234_567, 0));
-    assert!(rt; is_read("999999999999-999.log", 999_999_999_999, 999));
-    for text in OTHERS {
-        assert!(rt; SegName::parse(text.as_bytes()).is_none(), "at {text}");
+    let spellings = [
+        ("000000.log", 0, 0),
+        ("000001.log", 1, 0),
+        ("000001-001.log", 1, 1),
+        ("000012-010.log", 12, 10),
+        ("1234567.log", 1_234_567, 0),
+        ("1234567-999.log", 1_234_567, 999),
+        ("999999999999-999.log", 999_999_999_999, 999),
+    ];
+    for (text, wal, index) in spellings {
+        let name = SegName { wal, index };
+        assert_eq!(rt; SegName::parse(text.as_bytes()), Some(name), "at {text}");
+    }
+    let others = [
+        "",
+        ".log",
+        "000001",
+        "1.log",
+        "0000001.log",
+        "1000000000000.log",
+        "000001.LOG",
+        "000001.log.log",
+        "000001.log ",
+        "00000a.log",
+        "-00001.log",
+        "+00001.log",
+        "000001-.log",
+        "000001-1.log",
+        "000001-000.log",
+        "000001-0001.log",
+        "000001-1000.log",
+        "000001-+01.log",
+        "000001-001-001.log",
+        "notes.txt",
+    ];
+    for text in others {
+        assert_eq!(rt; SegName::parse(text.as_bytes()), None, "at {text}");
     }
 }
 
 #[test]
 fn names_are_put_after_one_another(rt: HostRuntime) -> Result<(), NoMemory> {
     let mut text = Buf::new(rt.alloc())?;
-    let put = put_names(&mut text);
-    let wanted = b"000001.log1234567-012.log999999999999-999.log".as_slice();
-    assert!(rt; put.is_ok() && text.as_slice() == wanted);
+    for (wal, index) in [(1, 0), (1, 1), (1_234_567, 12), (999_999_999_999, 999)] {
+        SegName { wal, index }.put(&mut text)?;
+    }
+    assert_eq!(rt;
+        text.as_slice(),
+        b"000001.log000001-001.log1234567-012.log999999999999-999.log".as_slice()
+    );
     Ok(())
-}
-
-fn put_names(text: &mut Buf) -> Result<(), NoMemory> {
-    NAME.put(text)?;
-    let long = SegName {
-        wal: 1_234_567,
-        index: 12,
-    };
-    long.put(text)?;
-    let last = SegName {
-        wal: 999_999_999_999,
-        index: 999,
-    };
-    last.put(text)
 }
 
 #[test]
@@ -142,7 +173,7 @@ fn a_log_number_has_32_bits(rt: HostRuntime) {
         wal: 4_294_967_298,
         index: 7,
     };
-    assert!(rt; name.log() == 2);
+    assert_eq!(rt; name.log(), 2);
 }
 
 #[test]
@@ -151,15 +182,14 @@ fn each_side_has_its_number(rt: HostRuntime) {
         primary: 0,
         secondary: 1,
     };
-    counts.add(Side::Primary, 1);
+    counts.add(Side::Primary, 2);
     counts.raise(Side::Secondary);
-    let taken = [
-        counts.take_one(Side::Primary),
-        counts.take_one(Side::Primary),
-    ];
-    let left = BySide {
-        primary: 0,
+    assert!(rt; counts.take_one(Side::Primary));
+    let expected = BySide {
+        primary: 1,
         secondary: 2,
     };
-    assert!(rt; taken == [true, false] && counts == left);
+    assert_eq!(rt; counts, expected);
+    assert!(rt; counts.take_one(Side::Primary));
+    assert!(rt; !counts.take_one(Side::Primary));
 }

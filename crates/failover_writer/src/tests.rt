@@ -30,19 +30,18 @@ fn side_of(index: u32) -> Side {
     }
 }
 
-/// The batch with this first number that sets `a` to a digit, if there is memory for it.
-fn batch_of(alloc: Global, first: u64, digit: u8) -> Result<Numbered, NoMemory> {
-    let mut builder = BatchBuilder::new(alloc)?;
-    if builder.set(b"a", &[digit]).is_err() {
-        return Err(NoMemory);
-    }
+/// The batch with this first number that sets `a` to a digit.
+fn batch_of(rt: &impl Abort, alloc: Global, first: u64, digit: u8) -> Numbered {
+    let mut builder = BatchBuilder::new(alloc).expect(rt, "memory");
+    builder.set(b"a", &[digit]).expect(rt, "an entry");
     let Ok(batch) = builder.finish() else {
-        return Err(NoMemory);
+        panic!(rt; "a batch");
     };
-    if batch.count() != 1 || first >= NUMBER_MAX {
-        return Err(NoMemory);
-    }
-    Ok(batch.number(first))
+    assert_eq!(rt; batch.count(), 1);
+    let Ok(first) = u32::try_from(first) else {
+        panic!(rt; "a small number");
+    };
+    batch.number(u64::from(first))
 }
 
 /// A disk on which nothing stands and nothing is in flight.
@@ -66,17 +65,28 @@ impl Fresh {
 
     /// A journal of no record over the disk.
     fn journal(self, rt: &impl Abort, alloc: Global, threshold: u32) -> Journal<MemDisk> {
+        self.journal_from(rt, alloc, BASE, threshold)
+    }
+
+    /// The same, which begins with this number.
+    fn journal_from(
+        self,
+        rt: &impl Abort,
+        alloc: Global,
+        base: u64,
+        threshold: u32,
+    ) -> Journal<MemDisk> {
         if threshold == 0 || threshold > 1_000 {
             panic!(rt; "a threshold");
         }
         let Fresh { disk } = self;
-        match Journal::start(alloc, disk, WAL, BASE, threshold) {
+        match Journal::start(alloc, disk, WAL, base, threshold) {
             Ok(journal) => journal,
             Err(_) => panic!(rt; "memory"),
         }
     }
 
-    /// The same with the threshold 3, if there is memory for it.
+    /// The same from the least number, if there is memory for it.
     fn journal_short(self, alloc: Global) -> Option<Journal<MemDisk>> {
         let Fresh { disk } = self;
         Journal::start(alloc, disk, WAL, BASE, 3).ok()
@@ -112,9 +122,9 @@ fn journal_of(rt: &impl Abort, alloc: Global, threshold: u32) -> Journal<MemDisk
 }
 
 /// Pushes the next batch, of one Set.
-fn push<D: Disk>(rt: &impl Abort, alloc: Global, journal: &mut Journal<D>, digit: u8, sync: bool) {
+fn push(rt: &impl Abort, alloc: Global, journal: &mut Journal<MemDisk>, digit: u8, sync: bool) {
+    let batch = batch_of(rt, alloc, journal.next(), digit);
     journal.reserve().expect(rt, "memory");
-    let batch = batch_of(alloc, journal.next(), digit).expect(rt, "memory");
     if journal.dead().is_some() || batch.first() != journal.next() {
         panic!(rt; "a journal that lives");
     }
@@ -129,30 +139,19 @@ fn link(
     batch: Numbered,
     sync: bool,
 ) {
+    if node.filled().is_some() || batch.first() != journal.next() {
+        panic!(rt; "an empty node, and the next batch");
+    }
     let (len, next) = (journal.len(), batch.end());
-    if node.filled().is_some() || batch.first() != journal.next() || len >= BATCHES_MAX {
-        panic!(rt; "an empty node, the next batch, and few records");
+    if len >= BATCHES_MAX {
+        panic!(rt; "few records");
     }
     node.fill(batch, sync);
-    let answer = journal.push_node(node);
-    assert!(rt; answer == len + 1 && journal.len() == answer && journal.next() == next);
+    assert_eq!(rt; journal.push_node(node), len + 1);
+    assert_eq!(rt; (journal.len(), journal.next()), (len + 1, next));
 }
 
-/// Hands the next batch, of one Set, over in a node, if there is memory for the two.
-fn push_short(
-    rt: &impl Abort,
-    alloc: Global,
-    journal: &mut Journal<MemDisk>,
-    digit: u8,
-    sync: bool,
-) -> Result<(), NoMemory> {
-    let batch = batch_of(alloc, journal.next(), digit)?;
-    let node = RecordNode::empty(alloc)?;
-    link(rt, journal, node, batch, sync);
-    Ok(())
-}
-
-/// Hands the next batch over in a node, at the second try where the first one lacks memory.
+/// Hands the next batch, of one Set, over in a node.
 fn push_node(
     rt: &impl Abort,
     alloc: Global,
@@ -160,9 +159,9 @@ fn push_node(
     digit: u8,
     sync: bool,
 ) {
-    if push_short(rt, alloc, journal, digit, sync).is_err() {
-        push_short(rt, alloc, journal, digit, sync).expect(rt, "memory");
-    }
+    let node = RecordNode::empty(alloc).expect(rt, "memory");
+    let batch = batch_of(rt, alloc, journal.next(), digit);
+    link(rt, journal, node, batch, sync);
 }
 
 fn step(rt: &impl Abort, journal: &mut Journal<MemDisk>) -> Step {
@@ -182,44 +181,6 @@ fn settle(rt: &impl Abort, journal: &mut Journal<MemDisk>) {
     panic!(rt; "a step that is idle");
 }
 
-/// So many steps come to this.
-fn steps_are(rt: &impl Abort, journal: &mut Journal<MemDisk>, count: u32, wanted: Step) {
-    for _ in 0..count {
-        let step = step(rt, journal);
-        assert!(rt; step == wanted);
-    }
-}
-
-/// The journal settles with this step, and has acked so many records then.
-fn settles(rt: &impl Abort, journal: &mut Journal<MemDisk>, wanted: Step, acked: u64) {
-    let answer = journal.settle();
-    assert!(rt; answer == Ok(wanted) && journal.acked() == acked);
-}
-
-/// The journal closes. Where memory is refused it has all its records still, and closes at the second try.
-fn close<D: Disk>(rt: &impl Abort, journal: &mut Journal<D>) {
-    let len = journal.len();
-    let mut answer = journal.close();
-    if answer == Err(JournalFault::NoMemory) {
-        answer = journal.close();
-    }
-    assert!(rt; answer == Ok(()) && journal.len() == len && journal.acked() == len);
-}
-
-/// The journal began so many segments and acked so many records, and so many of its polls failed and of its segments
-/// were left by a stall.
-fn counts<D: Disk>(
-    rt: &impl Abort,
-    journal: &Journal<D>,
-    segments: u32,
-    acked: u64,
-    failed: u64,
-    left: u32,
-) {
-    assert!(rt; journal.segments() == segments && journal.acked() == acked);
-    assert!(rt; journal.failed() == failed && journal.left_by_stall() == left);
-}
-
 /// What was sent to the segment of this index is these bytes.
 fn assert_sent(rt: &impl Abort, disk: &MemDisk, index: u32, bytes: &[u8]) {
     let sent = disk.sent(side_of(index), segment_at(index));
@@ -231,108 +192,164 @@ const TWO_FRAMES: [u8; 56] =
     *b"\x5e\x28\x29\x10\x11\0\x05\x01\0\0\0\x0a\0\0\0\0\0\0\0\x01\0\0\0\x01\x01a\x011\
 \xc6\x8f\x73\xd5\x11\0\x05\x01\0\0\0\x0b\0\0\0\0\0\0\0\x01\0\0\0\x01\x01a\x012";
 
-/// A journal of two records of which the first segment wrote one and hangs on the other. They come in nodes where that
-/// is asked for.
-fn stalled(rt: &impl Abort, alloc: Global, in_nodes: bool) -> Journal<MemDisk> {
-    let mut journal = journal_of(rt, alloc, 3);
-    if in_nodes {
-        push_node(rt, alloc, &mut journal, b'1', false);
-    } else {
-        push(rt, alloc, &mut journal, b'1', false);
-    }
-    settle(rt, &mut journal);
-    journal.stall(Side::Primary, 10);
-    if in_nodes {
-        push_node(rt, alloc, &mut journal, b'2', true);
-    } else {
-        push(rt, alloc, &mut journal, b'2', true);
-    }
-    journal
-}
-
-/// It is closed with a second segment, and both have both records.
-fn follows(rt: &impl Abort, mut journal: Journal<MemDisk>) {
-    close(rt, &mut journal);
-    counts(rt, &journal, 2, 2, 0, 1);
-    let disk = journal.into_disk();
-    assert_sent(rt, &disk, 0, &TWO_FRAMES);
-    assert_sent(rt, &disk, 1, &TWO_FRAMES);
-}
-
 #[test]
 fn a_stalled_segment_is_followed_by_the_next(rt: HostRuntime) {
-    follows(&rt, stalled(&rt, rt.alloc(), false));
+    let alloc = rt.alloc();
+    let mut journal = journal_of(&rt, alloc, 3);
+    push(&rt, alloc, &mut journal, b'1', false);
+    settle(&rt, &mut journal);
+    journal.stall(Side::Primary, 10);
+    push(&rt, alloc, &mut journal, b'2', true);
+    assert_eq!(rt; journal.close(), Ok(()));
+    assert_eq!(rt; journal.acked(), 2);
+    assert_eq!(rt; journal.segments(), 2);
+    assert_eq!(rt; (journal.failed(), journal.left_by_stall()), (0, 1));
+    let disk = journal.into_disk();
+    assert_sent(&rt, &disk, 0, &TWO_FRAMES);
+    assert_sent(&rt, &disk, 1, &TWO_FRAMES);
 }
 
-#[test]
-fn records_in_nodes_are_written_as_others_are(rt: HostRuntime) {
-    follows(&rt, stalled(&rt, rt.alloc(), true));
-}
-
-/// A journal of one record, of which the first segment waits for its sync, and that hangs for three polls.
-fn unsynced(rt: &impl Abort, alloc: Global, fresh: Fresh) -> Journal<MemDisk> {
-    let mut journal = fresh.journal(rt, alloc, 3);
-    push(rt, alloc, &mut journal, b'1', true);
-    steps_are(rt, &mut journal, 3, Step::Moved);
-    journal.stall(Side::Primary, 3);
-    counts(rt, &journal, 1, 0, 0, 0);
-    journal
-}
-
-/// The segment is left at the threshold, and not before.
 #[test]
 fn a_late_sync_of_an_older_segment_counts(rt: HostRuntime) {
-    let mut journal = unsynced(&rt, rt.alloc(), Fresh::new(&rt, rt.alloc()));
-    steps_are(&rt, &mut journal, 2, Step::Waited);
-    counts(&rt, &journal, 1, 0, 0, 0);
-    steps_are(&rt, &mut journal, 1, Step::Waited);
-    counts(&rt, &journal, 2, 0, 0, 1);
-    steps_are(&rt, &mut journal, 1, Step::Moved);
-    counts(&rt, &journal, 2, 1, 0, 1);
-    steps_are(&rt, &mut journal, 1, Step::Idle);
+    let alloc = rt.alloc();
+    let mut journal = journal_of(&rt, alloc, 3);
+    push(&rt, alloc, &mut journal, b'1', true);
+    for _ in 0..3 {
+        assert_eq!(rt; step(&rt, &mut journal), Step::Moved);
+    }
+    journal.stall(Side::Primary, 3);
+    for _ in 0..3 {
+        assert_eq!(rt; journal.segments(), 1);
+        assert_eq!(rt; step(&rt, &mut journal), Step::Waited);
+    }
+    assert_eq!(rt; (journal.segments(), journal.acked()), (2, 0));
+    assert_eq!(rt; step(&rt, &mut journal), Step::Moved);
+    assert_eq!(rt; journal.acked(), 1);
+    assert_eq!(rt; step(&rt, &mut journal), Step::Idle);
     assert_sent(&rt, &journal.into_disk(), 1, b"");
+}
+
+#[test]
+fn a_journal_whose_syncs_fail_is_dead_for_good(rt: HostRuntime) {
+    let alloc = rt.alloc();
+    let mut fresh = Fresh::new(&rt, alloc);
+    for index in 0..10 {
+        fresh.fail_op(&rt, 2 + 3 * index);
+    }
+    let mut journal = fresh.journal(&rt, alloc, 3);
+    push(&rt, alloc, &mut journal, b'1', true);
+    let dead = Err(JournalFault::Dead {
+        side: Side::Secondary,
+        faults: 10,
+    });
+    assert_eq!(rt; journal.close(), dead);
+    assert_eq!(rt; journal.close(), dead);
+    let mark = DeadMark {
+        side: Side::Secondary,
+        faults: 10,
+    };
+    assert_eq!(rt; journal.dead(), Some(mark));
+    assert_eq!(rt; (journal.segments(), journal.acked()), (10, 0));
+    assert_eq!(rt; (journal.failed(), journal.left_by_stall()), (10, 0));
 }
 
 /// A segment that is left while it hangs and fails later counts as both.
 #[test]
 fn a_segment_that_is_left_and_fails_later_counts_twice(rt: HostRuntime) {
-    let mut fresh = Fresh::new(&rt, rt.alloc());
-    fresh.fail_op(&rt, 2);
-    let mut journal = unsynced(&rt, rt.alloc(), fresh);
-    close(&rt, &mut journal);
-    counts(&rt, &journal, 2, 1, 1, 1);
-}
-
-/// A disk on which the sync of each of ten segments is to fail.
-fn failing(rt: &impl Abort, alloc: Global) -> Fresh {
-    let mut fresh = Fresh::new(rt, alloc);
-    for index in 0..10 {
-        fresh.fail_op(rt, 2 + 3 * index);
-    }
-    fresh
-}
-
-/// The journal cannot be closed, and is dead after ten failures.
-fn is_dead(rt: &impl Abort, journal: &mut Journal<MemDisk>) {
-    let (side, faults) = (Side::Secondary, 10);
-    let answer = journal.close();
-    assert!(rt; answer == Err(JournalFault::Dead { side, faults }));
-    assert!(rt; journal.dead() == Some(DeadMark { side, faults }));
-    counts(rt, journal, 10, 0, 10, 0);
-}
-
-/// It takes nodes, and stays dead.
-#[test]
-fn a_journal_whose_syncs_fail_is_dead_for_good(rt: HostRuntime) {
     let alloc = rt.alloc();
-    let mut journal = failing(&rt, alloc).journal(&rt, alloc, 3);
+    let mut fresh = Fresh::new(&rt, alloc);
+    fresh.fail_op(&rt, 2);
+    let mut journal = fresh.journal(&rt, alloc, 3);
+    push(&rt, alloc, &mut journal, b'1', true);
+    for _ in 0..3 {
+        assert_eq!(rt; step(&rt, &mut journal), Step::Moved);
+    }
+    journal.stall(Side::Primary, 3);
+    assert_eq!(rt; (journal.failed(), journal.left_by_stall()), (0, 0));
+    assert_eq!(rt; journal.close(), Ok(()));
+    assert_eq!(rt; (journal.segments(), journal.acked()), (2, 1));
+    assert_eq!(rt; (journal.failed(), journal.left_by_stall()), (1, 1));
+}
+
+/// A journal of two records of which the first segment wrote one and hangs on the other. They come in nodes where that
+/// is asked for.
+fn stalled(rt: &impl Abort, alloc: Global, in_nodes: bool) -> MemDisk {
+    let mut journal = journal_of(rt, alloc, 3);
+    for (digit, sync) in [(b'1', false), (b'2', true)] {
+        if in_nodes {
+            push_node(rt, alloc, &mut journal, digit, sync);
+        } else {
+            push(rt, alloc, &mut journal, digit, sync);
+        }
+        settle(rt, &mut journal);
+        if !sync {
+            journal.stall(Side::Primary, 10);
+        }
+    }
+    assert_eq!(rt; (journal.segments(), journal.acked()), (2, 2));
+    journal.into_disk()
+}
+
+#[test]
+fn records_in_nodes_are_written_as_others_are(rt: HostRuntime) {
+    let alloc = rt.alloc();
+    for in_nodes in [false, true] {
+        let disk = stalled(&rt, alloc, in_nodes);
+        assert_sent(&rt, &disk, 0, &TWO_FRAMES);
+        assert_sent(&rt, &disk, 1, &TWO_FRAMES);
+    }
+}
+
+#[test]
+fn a_dead_journal_takes_nodes_and_stays_dead(rt: HostRuntime) {
+    let alloc = rt.alloc();
+    let mut fresh = Fresh::new(&rt, alloc);
+    for index in 0..10 {
+        fresh.fail_op(&rt, 2 + 3 * index);
+    }
+    let mut journal = fresh.journal(&rt, alloc, 3);
     push_node(&rt, alloc, &mut journal, b'1', true);
-    is_dead(&rt, &mut journal);
-    is_dead(&rt, &mut journal);
+    let dead = Err(JournalFault::Dead {
+        side: Side::Secondary,
+        faults: 10,
+    });
+    assert_eq!(rt; journal.close(), dead);
+    let mark = journal.dead();
+    assert!(rt; mark.is_some());
     push_node(&rt, alloc, &mut journal, b'2', true);
     push_node(&rt, alloc, &mut journal, b'3', false);
-    is_dead(&rt, &mut journal);
+    assert_eq!(rt; (journal.len(), journal.next()), (3, 13));
+    assert_eq!(rt; journal.close(), dead);
+    assert_eq!(rt; (journal.dead(), journal.acked()), (mark, 0));
     assert_sent(&rt, &journal.into_disk(), 9, &TWO_FRAMES[..28]);
+}
+
+/// The batch with this first number that sets `a` to a digit, if there is memory for it.
+fn batch_short(alloc: Global, first: u64, digit: u8) -> Result<Numbered, NoMemory> {
+    let mut builder = BatchBuilder::new(alloc)?;
+    if builder.set(b"a", &[digit]).is_err() {
+        return Err(NoMemory);
+    }
+    let Ok(batch) = builder.finish() else {
+        return Err(NoMemory);
+    };
+    if batch.count() != 1 || first >= NUMBER_MAX {
+        return Err(NoMemory);
+    }
+    Ok(batch.number(first))
+}
+
+/// Hands the next batch, of one Set, over in a node, if there is memory for the two.
+fn push_short(
+    rt: &impl Abort,
+    alloc: Global,
+    journal: &mut Journal<MemDisk>,
+    digit: u8,
+) -> Result<(), NoMemory> {
+    let batch = batch_short(alloc, journal.next(), digit)?;
+    let node = RecordNode::empty(alloc)?;
+    link(rt, journal, node, batch, false);
+    Ok(())
 }
 
 /// An allocation is refused only where that is asked for, and then once: `rt try --test --fail-alloc N`. What was
@@ -346,10 +363,16 @@ fn a_journal_of_nodes_that_lacks_memory_is_closed_later(rt: HostRuntime) {
     let Some(mut journal) = (Fresh { disk }).journal_short(alloc) else {
         return;
     };
-    push_node(&rt, alloc, &mut journal, b'1', false);
-    push_node(&rt, alloc, &mut journal, b'2', false);
-    close(&rt, &mut journal);
-    counts(&rt, &journal, 1, 2, 0, 0);
+    for digit in [b'1', b'2'] {
+        if push_short(&rt, alloc, &mut journal, digit).is_err() {
+            push_short(&rt, alloc, &mut journal, digit).expect(&rt, "memory");
+        }
+    }
+    if journal.close() == Err(JournalFault::NoMemory) {
+        assert_eq!(rt; journal.len(), 2);
+        assert_eq!(rt; journal.close(), Ok(()));
+    }
+    assert_eq!(rt; journal.acked(), 2);
     assert_sent(&rt, &journal.into_disk(), 0, &TWO_FRAMES);
 }
 
@@ -357,26 +380,133 @@ fn a_journal_of_nodes_that_lacks_memory_is_closed_later(rt: HostRuntime) {
 fn a_settled_journal_has_done_all_that_waits_for_nothing(rt: HostRuntime) {
     let alloc = rt.alloc();
     let mut journal = journal_of(&rt, alloc, 3);
+    assert_eq!(rt; journal.threshold(), 3);
     push(&rt, alloc, &mut journal, b'1', false);
-    settles(&rt, &mut journal, Step::Idle, 0);
+    assert_eq!(rt; journal.settle(), Ok(Step::Idle));
+    assert_eq!(rt; journal.acked(), 0);
     journal.stall(Side::Primary, 2);
     push(&rt, alloc, &mut journal, b'2', true);
-    settles(&rt, &mut journal, Step::Waited, 0);
-    settles(&rt, &mut journal, Step::Waited, 0);
-    settles(&rt, &mut journal, Step::Idle, 2);
-    counts(&rt, &journal, 1, 2, 0, 0);
-    assert!(rt; journal.threshold() == 3);
+    assert_eq!(rt; journal.settle(), Ok(Step::Waited));
+    assert_eq!(rt; journal.settle(), Ok(Step::Waited));
+    assert_eq!(rt; journal.acked(), 0);
+    assert_eq!(rt; journal.settle(), Ok(Step::Idle));
+    assert_eq!(rt; (journal.segments(), journal.acked()), (1, 2));
     a_journal_at_hand(&journal);
+}
+
+/// Pushes the next batch, of one Set, if its number is not above the greatest one.
+fn push_within(rt: &impl Abort, alloc: Global, journal: &mut Journal<MemDisk>) -> bool {
+    let mut builder = BatchBuilder::new(alloc).expect(rt, "memory");
+    builder.set(b"a", b"1").expect(rt, "an entry");
+    let Ok(batch) = builder.finish() else {
+        panic!(rt; "a batch");
+    };
+    let first = journal.next();
+    if u64::from(batch.count()) > NUMBER_MAX.saturating_sub(first) {
+        return false;
+    }
+    let batch = batch.number(first);
+    journal.reserve().expect(rt, "memory");
+    if journal.dead().is_some() || batch.first() != journal.next() {
+        panic!(rt; "a journal that lives");
+    }
+    journal.push(batch, true);
+    true
+}
+
+#[test]
+fn no_batch_is_numbered_above_the_greatest_number(rt: HostRuntime) {
+    let alloc = rt.alloc();
+    let last = 72_057_594_037_927_934;
+    let mut journal = Fresh::new(&rt, alloc).journal_from(&rt, alloc, last, 3);
+    assert_eq!(rt; journal.next(), last);
+    assert!(rt; push_within(&rt, alloc, &mut journal), "the last number");
+    assert_eq!(rt; journal.next(), 72_057_594_037_927_935);
+    assert!(rt; !push_within(&rt, alloc, &mut journal), "no number is left");
+    assert_eq!(rt; journal.close(), Ok(()));
+    assert_eq!(rt; (journal.len(), journal.acked()), (1, 1));
+}
+
+/// Closes the journal and answers how many segments it began.
+fn segments_of(rt: &impl Abort, mut journal: Journal<MemDisk>) -> u32 {
+    assert_eq!(rt; journal.close(), Ok(()));
+    assert_eq!(rt; journal.acked(), journal.len());
+    journal.segments()
+}
+
+/// A journal with a record to sync, of which the first segment has begun this operation: 0 its creation, 1 its write, 2
+/// its sync.
+fn begun(rt: &impl Abort, alloc: Global, threshold: u32, operation: u32) -> Journal<MemDisk> {
+    let mut journal = journal_of(rt, alloc, threshold);
+    push(rt, alloc, &mut journal, b'1', true);
+    for _ in 0..=operation {
+        assert_eq!(rt; step(rt, &mut journal), Step::Moved);
+    }
+    journal
+}
+
+#[test]
+fn a_segment_is_left_at_the_threshold_and_not_before(rt: HostRuntime) {
+    let alloc = rt.alloc();
+    for threshold in [1, 3, 1_000] {
+        for operation in 0..3 {
+            let mut short = begun(&rt, alloc, threshold, operation);
+            short.stall(Side::Primary, threshold.wrapping_sub(1));
+            assert_eq!(rt; segments_of(&rt, short), 1);
+            let mut long = begun(&rt, alloc, threshold, operation);
+            long.stall(Side::Primary, threshold);
+            assert_eq!(rt; segments_of(&rt, long), 2);
+        }
+    }
+}
+
+/// A journal that has left its first segment, which is polled once more, and begun this operation on the second one.
+fn begun_on_second(
+    rt: &impl Abort,
+    alloc: Global,
+    threshold: u32,
+    operation: u32,
+) -> Journal<MemDisk> {
+    let mut journal = begun(rt, alloc, threshold, 0);
+    journal.stall(Side::Primary, threshold);
+    for _ in 0..threshold {
+        assert_eq!(rt; step(rt, &mut journal), Step::Waited);
+    }
+    assert_eq!(rt; journal.segments(), 2);
+    for _ in 0..operation {
+        assert_eq!(rt; step(rt, &mut journal), Step::Moved);
+    }
+    journal
+}
+
+#[test]
+fn a_second_segment_is_left_at_the_threshold_too(rt: HostRuntime) {
+    let alloc = rt.alloc();
+    for threshold in [1, 3, 1_000] {
+        for operation in 0..3 {
+            let mut short = begun_on_second(&rt, alloc, threshold, operation);
+            short.stall(Side::Secondary, threshold.wrapping_sub(1));
+            assert_eq!(rt; segments_of(&rt, short), 2);
+            let mut long = begun_on_second(&rt, alloc, threshold, operation);
+            long.stall(Side::Secondary, threshold);
+            assert_eq!(rt; segments_of(&rt, long), 3);
+        }
+    }
 }
 
 #[test]
 fn a_journal_runs_over_a_script_disk(rt: HostRuntime) {
     let alloc = rt.alloc();
     let mut journal = Fresh::new(&rt, alloc).scripted(&rt, alloc);
-    push(&rt, alloc, &mut journal, b'1', false);
+    let batch = batch_of(&rt, alloc, journal.next(), b'1');
+    journal.reserve().expect(&rt, "memory");
+    if journal.dead().is_some() || batch.first() != journal.next() {
+        panic!(rt; "a journal that lives");
+    }
+    assert_eq!(rt; journal.push(batch, false), 1);
     journal.stall(Side::Primary, 1);
-    close(&rt, &mut journal);
-    counts(&rt, &journal, 2, 1, 0, 1);
+    assert_eq!(rt; journal.close(), Ok(()));
+    assert_eq!(rt; (journal.segments(), journal.acked()), (2, 1));
     let disk = journal.into_disk().into_inner();
     assert_sent(&rt, &disk, 1, &TWO_FRAMES[..28]);
 }

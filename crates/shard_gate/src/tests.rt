@@ -152,15 +152,82 @@ impl Rig {
     }
 }
 
-/// The read found this value.
-fn finds(rt: &impl Abort, read: Result<Option<Blob>, ReadBusy>, value: &[u8]) {
-    let found = read.expect(rt, "a free shard").expect(rt, "a value");
-    assert_eq!(rt; found.as_slice(), value);
+/// A table whose first number is 10, with the producer's seat and one session.
+fn with_one_session(rt: &impl Abort, alloc: Global) -> (PipeTable, ProducerSeat, SessionSeat)
+    ensures producer { IsOfTable result.0 (producer_table result.1) }
+    ensures session { IsOfTable result.0 (session_table result.2) }
+    ensures awaits { AwaitsBatch (producer_view result.1) FIRST 0 }
+    ensures idle { HoldsNothing (session_view result.2) }
+    ensures none { (session_view result.2).pieces ≡ [] }
+{
+    let made = PipeTable::new(alloc, 1, FIRST, eight(rt, alloc));
+    let Ok((table, producer, _flush, mut sessions)) = made else {
+        panic!(rt; "memory");
+    };
+    let Some(session) = sessions.pop() else {
+        panic!(rt; "a session");
+    };
+    (table, producer, session)
 }
 
-/// The read found no value.
-fn finds_none(rt: &impl Abort, read: Result<Option<Blob>, ReadBusy>) {
-    assert!(rt; read.expect(rt, "a free shard").is_none());
+/// Applies the one piece of the batch that the session holds, and marks the batch.
+fn apply_and_mark(
+    rt: &impl Abort,
+    gate: &ShardGate<'_>,
+    session: &mut SessionSeat,
+    mut pieces: Pieces,
+)
+    requires table { session_table session.old ≡ gate_table gate.now }
+    requires no_turn { (session_view session.old).seat.turn ≡ None }
+    requires holds { HoldsUnapplied (session_view session.old) pieces }
+    ensures same { session_table session.new ≡ session_table session.old }
+    ensures no_turn { (session_view session.new).seat.turn ≡ None }
+{
+    let Some((shard, piece)) = pieces.take() else {
+        panic!(rt; "a piece");
+    };
+    let Ok(()) = gate.try_apply(session, shard, piece) else {
+        panic!(rt; "a free shard");
+    };
+    let None = pieces.take() else {
+        panic!(rt; "one piece");
+    };
+    gate.table.mark(session);
+}
+
+/// What an attempt to publish tells that found these ends, and this word at the front.
+fn not_ready(head: u32, tail: u32, word: u64) -> Published {
+    Published::NotReady { head, tail, word }
+}
+
+#[test]
+fn one_session_publishes_a_batch_step_by_step_and_reads_it(rt: HostRuntime) {
+    let alloc = rt.alloc();
+    let (table, mut producer, mut session) = with_one_session(&rt, alloc);
+    assert_eq!(rt; table.try_publish(&mut session), not_ready(0, 0, 0));
+    let Ready { batch, mut pieces } = one_entry(&rt, alloc, b"a", Some(b"1"));
+    if !table.slot_free(&mut producer) {
+        panic!(rt; "a free slot");
+    }
+    pieces.number(FIRST);
+    table.place(&mut producer, &batch.number(FIRST));
+    assert_eq!(rt; table.admit(&mut producer), 0);
+    let Ok(note) = table.hand(&mut producer) else {
+        panic!(rt; "memory");
+    };
+    table.adopt(&mut session, note);
+    assert_eq!(rt; table.try_publish(&mut session), not_ready(1, 0, 22));
+    let gate = ShardGate::over(alloc, &table);
+    apply_and_mark(&rt, &gate, &mut session, pieces);
+    let Published::Raised { index, visible } = table.try_publish(&mut session) else {
+        panic!(rt; "a batch at the front");
+    };
+    assert_eq!(rt; (index, visible), (0, 11));
+    let value = gate
+        .try_newest(&mut session, b"a", visible)
+        .expect(&rt, "a free shard");
+    let value = value.expect(&rt, "a value");
+    assert_eq!(rt; value.as_slice(), b"1".as_slice());
 }
 
 #[test]
@@ -168,24 +235,27 @@ fn a_batch_is_read_once_it_is_applied_and_published(rt: HostRuntime) {
     let rig = &mut Rig::open(&rt, rt.alloc());
     let ready = one_entry(&rt, rig.alloc, b"a", Some(b"1"));
     let pieces = rig.send(&rt, ready);
-    let unmarked = rig.table.try_publish(&mut rig.other);
-    let gate = ShardGate::over(rig.alloc, &rig.table);
-    gate.apply_all(&rt, &mut rig.one, pieces);
-    rig.table.mark(&mut rig.one);
-    let marked = rig.table.try_publish(&mut rig.one);
-    let visible = rig.table.visible(&mut rig.one);
-    let read = gate.try_newest(&mut rig.one, b"a", visible);
-    let not_ready = Published::NotReady {
+    let unmarked = Published::NotReady {
         head: 1,
         tail: 0,
         word: 22,
     };
+    assert_eq!(rt; rig.table.try_publish(&mut rig.other), unmarked);
+    let gate = ShardGate::over(rig.alloc, &rig.table);
+    gate.apply_all(&rt, &mut rig.one, pieces);
+    rig.table.mark(&mut rig.one);
     let raised = Published::Raised {
         index: 0,
         visible: 11,
     };
-    finds(&rt, read, b"1");
-    assert_eq!(rt; (unmarked, marked, visible), (not_ready, raised, 11));
+    assert_eq!(rt; rig.table.try_publish(&mut rig.one), raised);
+    let visible = rig.table.visible(&mut rig.one);
+    assert_eq!(rt; visible, 11);
+    let value = gate
+        .try_newest(&mut rig.one, b"a", visible)
+        .expect(&rt, "a free shard");
+    let value = value.expect(&rt, "a value");
+    assert_eq!(rt; value.as_slice(), b"1".as_slice());
 }
 
 #[test]
@@ -195,9 +265,13 @@ fn a_read_answers_the_newest_value_and_none_of_a_key_that_was_deleted(rt: HostRu
     rig.commit(&rt, b"b", Some(b"2"));
     rig.commit(&rt, b"a", Some(b"3"));
     rig.commit(&rt, b"b", None);
-    finds(&rt, rig.read(b"a"), b"3");
-    finds_none(&rt, rig.read(b"b"));
-    finds_none(&rt, rig.read(b"c"));
+    let value = rig
+        .read(b"a")
+        .expect(&rt, "a free shard")
+        .expect(&rt, "a value");
+    assert_eq!(rt; value.as_slice(), b"3".as_slice());
+    assert!(rt; rig.read(b"b").expect(&rt, "a free shard").is_none());
+    assert!(rt; rig.read(b"c").expect(&rt, "a free shard").is_none());
 }
 
 #[test]
@@ -208,6 +282,7 @@ fn a_piece_waits_while_another_session_has_the_shard(rt: HostRuntime) {
     let Some((shard, piece)) = pieces.take() else {
         panic!(rt; "a piece");
     };
+    assert_eq!(rt; shard, shard_index(b"a"));
     let Some(taken) = rig.table.take_shard(&mut rig.other, shard) else {
         panic!(rt; "a free shard");
     };
@@ -216,8 +291,8 @@ fn a_piece_waits_while_another_session_has_the_shard(rt: HostRuntime) {
         panic!(rt; "another session has the shard");
     };
     rig.table.give_shard(&mut rig.other, taken, false);
-    let applied = gate.try_apply(&mut rig.one, shard, piece).is_ok();
-    assert!(rt; applied && shard == shard_index(b"a"));
+    assert!(rt; gate.try_apply(&mut rig.one, shard, piece).is_ok());
+    assert!(rt; pieces.take().is_none());
 }
 
 #[test]
@@ -228,9 +303,11 @@ fn a_read_is_busy_while_another_session_has_the_shard(rt: HostRuntime) {
     };
     let visible = rig.table.visible(&mut rig.one);
     let gate = ShardGate::over(rig.alloc, &rig.table);
-    let busy = gate.try_newest(&mut rig.one, b"a", visible).err();
-    rig.table.give_shard(&mut rig.other, taken, false);
     let read = gate.try_newest(&mut rig.one, b"a", visible);
-    finds_none(&rt, read);
-    assert_eq!(rt; busy, Some(ReadBusy::Busy));
+    assert_eq!(rt; read.err(), Some(ReadBusy::Busy));
+    rig.table.give_shard(&mut rig.other, taken, false);
+    let value = gate
+        .try_newest(&mut rig.one, b"a", visible)
+        .expect(&rt, "a free shard");
+    assert!(rt; value.is_none());
 }

@@ -2,83 +2,76 @@
 
 use super::{BASE, journal_of, push, segment_at, side_of, step};
 use crate::{Journal, Step};
-use batch_repr::Batch;
 use disk_face::Side;
 use mem_disk::{CrashPick, FilePick, FilePicks, MemDisk};
 use std::alloc::Global;
 use std::process::Abort;
 use wal_base::{Blob, Entry};
-use wal_recovery::{Mode, Recovered, recover};
+use wal_recovery::{Mode, recover};
 
-/// A run of records, of which one in three is to be synced.
-struct Plan {
-    threshold: u32,
-    records: u64,
-    /// Before which record each side stalls.
-    primary_at: u64,
-    secondary_at: u64,
-    /// How many steps follow each record at most.
-    between: u32,
-    /// Which one of three is to be synced.
-    synced: u64,
-}
+/// How many records the long run pushes.
+const RECORDS: u64 = 12;
 
-/// Each side stalls once, and steps come between the records.
-const LONG: Plan = Plan {
-    threshold: 2,
-    records: 12,
-    primary_at: 3,
-    secondary_at: 7,
-    between: 3,
-    synced: 2,
-};
-
-/// Each pending poll leaves a segment, the primary side stalls, and no step comes between the records.
-const SHORT: Plan = Plan {
-    threshold: 1,
-    records: 3,
-    primary_at: 0,
-    secondary_at: 3,
-    between: 0,
-    synced: 1,
-};
-
-/// Steps until a step is idle, and so often at most. Answers how many steps were not.
-fn go(rt: &impl Abort, journal: &mut Journal<MemDisk>, most: u32) -> u32 {
-    for made in 0..most {
-        if step(rt, journal) == Step::Idle {
-            return made;
-        }
-    }
-    most
-}
-
-fn digit_of(number: u64) -> u8 {
-    b'0'.wrapping_add((number % 10) as u8)
-}
-
-/// Makes so many steps of the run, or as many as it has. Answers how many it made.
-fn run(rt: &impl Abort, alloc: Global, plan: &Plan, steps: u32) -> (Journal<MemDisk>, u32) {
-    let mut journal = journal_of(rt, alloc, plan.threshold);
-    let mut left = steps;
-    for number in 0..plan.records {
-        if number == plan.primary_at {
+/// Makes so many steps of the long run, in which each side stalls once and every third record is to be synced. Answers
+/// how many steps it made.
+fn long_run(rt: &impl Abort, alloc: Global, steps: u32) -> (Journal<MemDisk>, u32) {
+    let mut journal = journal_of(rt, alloc, 2);
+    let mut made = 0u32;
+    for number in 0..RECORDS {
+        if number == 3 {
             journal.stall(Side::Primary, 5);
         }
-        if number == plan.secondary_at {
-            journal.stall(Side::Secondary, 5);
+        if number == 7 {
+            journal.stall(Side::Secondary, 4);
         }
-        let sync = number % 3 == plan.synced;
-        push(rt, alloc, &mut journal, digit_of(number), sync);
-        let made = go(rt, &mut journal, plan.between.min(left));
-        left = left.saturating_sub(made);
-        if left == 0 {
-            break;
+        let digit = b'0'.wrapping_add((number % 10) as u8);
+        push(rt, alloc, &mut journal, digit, number % 3 == 2);
+        for _ in 0..3 {
+            if made == steps {
+                return (journal, made);
+            }
+            step(rt, &mut journal);
+            made = made.wrapping_add(1);
         }
     }
-    let made = go(rt, &mut journal, left);
-    let left = left.saturating_sub(made);
-    (journal, steps.saturating_sub(left))
+    for _ in 0..1_000 {
+        if made == steps || step(rt, &mut journal) == Step::Idle {
+            break;
+        }
+        made = made.wrapping_add(1);
+    }
+    (journal, made)
+}
+
+/// Makes so many steps of the short run, in which each pending poll leaves a segment, the primary side stalls and the
+/// second of three records is to be synced. Answers how many steps it made.
+fn short_run(rt: &impl Abort, alloc: Global, steps: u32) -> (Journal<MemDisk>, u32) {
+    let mut journal = journal_of(rt, alloc, 1);
+    journal.stall(Side::Primary, 4);
+    push(rt, alloc, &mut journal, b'0', false);
+    push(rt, alloc, &mut journal, b'1', true);
+    push(rt, alloc, &mut journal, b'2', false);
+    let mut made = 0u32;
+    for _ in 0..1_000 {
+        if made == steps || step(rt, &mut journal) == Step::Idle {
+            break;
+        }
+        made = made.wrapping_add(1);
+    }
+    (journal, made)
+}
+
+#[derive(Clone, Copy, Debug, PartialEq, Eq)]
+enum Kind {
+    Short,
+    Long,
+}
+
+fn run_of(rt: &impl Abort, alloc: Global, which: Kind, steps: u32) -> (Journal<MemDisk>, u32) {
+    match which {
+        Kind::Short => short_run(rt, alloc, steps),
+        Kind::Long => long_run(rt, alloc, steps),
+    }
 }
 
 /// What a crash leaves after the stable bytes of each segment.
@@ -98,15 +91,6 @@ fn stable_len(image: &MemDisk, index: u32) -> usize {
     }
 }
 
-/// A copy of the bytes, with the last one changed.
-fn last_changed(rt: &impl Abort, alloc: Global, bytes: &[u8]) -> Blob {
-    let mut changed = Vec::from_slice(alloc, bytes).expect(rt, "memory");
-    if let Some(last) = changed.last_mut() {
-        *last ^= 1;
-    }
-    Blob::copy_of(alloc, changed.as_slice()).expect(rt, "memory")
-}
-
 /// The bytes sent to a segment after its stable ones, changed as the tail says.
 fn tail_of(
     rt: &impl Abort,
@@ -117,14 +101,19 @@ fn tail_of(
     tail: Tail,
 ) -> Option<Blob> {
     let sent = disk.sent(side_of(index), segment_at(index))?;
-    let bytes = sent.get(stable..)?;
-    let bytes = match tail {
-        Tail::Nothing => return None,
-        Tail::LastByteChanged => return Some(last_changed(rt, alloc, bytes)),
-        Tail::AllSent => bytes,
-        Tail::AllButLast => bytes.get(..bytes.len().saturating_sub(1))?,
-    };
-    Some(Blob::copy_of(alloc, bytes).expect(rt, "memory"))
+    let mut bytes = Vec::from_slice(alloc, sent.get(stable..)?).expect(rt, "memory");
+    if tail == Tail::AllButLast {
+        bytes.pop();
+    }
+    if tail == Tail::LastByteChanged
+        && let Some(last) = bytes.last_mut()
+    {
+        *last ^= 1;
+    }
+    if tail == Tail::Nothing {
+        return None;
+    }
+    Some(Blob::copy_of(alloc, bytes.as_slice()).expect(rt, "memory"))
 }
 
 /// The pick of an image in which each segment has this tail after its stable bytes, as they stand in that image.
@@ -147,80 +136,66 @@ fn pick_of(
     CrashPick { files }
 }
 
-/// What the crash with this pick, which no torn chunk deceives, recovers to.
-fn recovered(rt: &impl Abort, alloc: Global, disk: MemDisk, pick: &CrashPick) -> Recovered {
-    let free = disk.chance_free(pick).expect(rt, "memory");
-    assert!(rt; free);
-    let mut image = disk.crash(pick).expect(rt, "memory");
-    match recover(alloc, &mut image, Mode::Strict) {
-        Ok(found) => found,
-        Err(_) => panic!(rt; "the image recovers"),
-    }
-}
-
-/// What a crash after so many steps of the run leaves at the least.
-fn least(rt: &impl Abort, alloc: Global, plan: &Plan, steps: u32) -> MemDisk {
-    let none = CrashPick {
-        files: FilePicks::new(alloc),
-    };
-    let (journal, _) = run(rt, alloc, plan, steps);
-    journal.into_disk().crash(&none).expect(rt, "memory")
-}
-
-/// It is the batch of the record with this number.
-fn check_batch(rt: &impl Abort, number: u64, batch: &Batch) {
-    let [Entry::Set { value, .. }] = batch.entries.as_slice() else {
-        panic!(rt; "one Set");
-    };
-    let first = BASE.wrapping_add(number);
-    assert!(rt; batch.first == first && value.as_slice() == [digit_of(number)].as_slice());
+/// The disk of the run after so many steps, with how much was acked and how much was pushed.
+fn stopped(rt: &impl Abort, alloc: Global, which: Kind, steps: u32) -> (MemDisk, u64, u64) {
+    let (journal, _) = run_of(rt, alloc, which, steps);
+    let (acked, len) = (journal.acked(), journal.len());
+    (journal.into_disk(), acked, len)
 }
 
 /// After so many steps of the run a crash with this tail leaves a prefix of the records, with all that were acked.
-fn crash(rt: &impl Abort, alloc: Global, plan: &Plan, steps: u32, tail: Tail) {
-    let least = least(rt, alloc, plan, steps);
-    let (journal, _) = run(rt, alloc, plan, steps);
-    let (acked, len) = (journal.acked(), journal.len());
-    let disk = journal.into_disk();
+fn crash(rt: &impl Abort, alloc: Global, which: Kind, steps: u32, tail: Tail) {
+    let none = CrashPick {
+        files: FilePicks::new(alloc),
+    };
+    let (disk, _, _) = stopped(rt, alloc, which, steps);
+    let least = disk.crash(&none).expect(rt, "memory");
+    let (disk, acked, len) = stopped(rt, alloc, which, steps);
     let pick = pick_of(rt, alloc, &disk, &least, tail);
-    let found = recovered(rt, alloc, disk, &pick);
+    assert!(rt; disk.chance_free(&pick).expect(rt, "memory"));
+    let mut image = disk.crash(&pick).expect(rt, "memory");
+    let found = match recover(alloc, &mut image, Mode::Strict) {
+        Ok(found) => found,
+        Err(_) => panic!(rt; "after {steps} steps the image recovers"),
+    };
     let count = found.batches.len() as u64;
     assert!(rt;
         acked <= count && count <= len,
         "after {steps} steps {count}"
     );
     for (number, batch) in found.batches.as_slice().iter().enumerate() {
-        check_batch(rt, number as u64, batch);
-    }
-}
-
-/// So it is after each step of the run, for each tail.
-fn crash_after_each(rt: &impl Abort, alloc: Global, plan: &Plan, steps: u32) {
-    for made in 0..=steps {
-        crash(rt, alloc, plan, made, Tail::Nothing);
-        crash(rt, alloc, plan, made, Tail::AllSent);
-        crash(rt, alloc, plan, made, Tail::AllButLast);
-        crash(rt, alloc, plan, made, Tail::LastByteChanged);
+        assert_eq!(rt; batch.first, BASE.wrapping_add(number as u64));
+        let digit = [b'0'.wrapping_add((number % 10) as u8)];
+        match batch.entries.as_slice() {
+            [Entry::Set { value, .. }] => assert!(rt; value.as_slice() == digit.as_slice()),
+            _ => panic!(rt; "one Set"),
+        }
     }
 }
 
 #[test]
 fn a_stop_after_each_step_of_a_long_run(rt: HostRuntime) {
-    let (journal, steps) = run(&rt, rt.alloc(), &LONG, 1_000);
-    assert!(rt;
-        24 <= steps && steps < 1_000 && 2 < journal.segments(),
-        "{steps} steps"
-    );
-    crash_after_each(&rt, rt.alloc(), &LONG, steps);
+    let alloc = rt.alloc();
+    let (journal, steps) = long_run(&rt, alloc, 1_000);
+    assert!(rt; 36 <= steps && steps < 1_000);
+    assert!(rt; 2 < journal.segments());
+    for made in 0..=steps {
+        for tail in [Tail::Nothing, Tail::AllSent, Tail::LastByteChanged] {
+            crash(&rt, alloc, Kind::Long, made, tail);
+        }
+    }
 }
 
 #[test]
 fn a_stop_after_each_step_of_a_run_that_leaves_stalled_segments(rt: HostRuntime) {
-    let (journal, steps) = run(&rt, rt.alloc(), &SHORT, 1_000);
-    assert!(rt;
-        6 <= steps && steps < 1_000 && 1 < journal.segments(),
-        "{steps} steps"
-    );
+    let alloc = rt.alloc();
+    let (journal, steps) = short_run(&rt, alloc, 1_000);
+    assert!(rt; 6 <= steps && steps < 1_000);
+    assert!(rt; 1 < journal.segments());
     assert!(rt; 1 <= journal.left_by_stall());
-    crash_after_each(&rt, rt.alloc(), &SHORT, steps);
+    for made in 0..=steps {
+        for tail in [Tail::Nothing, Tail::AllSent, Tail::AllButLast] {
+            crash(&rt, alloc, Kind::Short, made, tail);
+        }
+    }
 }

@@ -3,7 +3,7 @@ use Rattle.std.proofs.Common.{sym, subst}
 use Rattle.disk_face.specs.View.{segment}
 use Rattle.log_writer.specs.Fits.{IsUnsent}
 use Rattle.failover_writer.specs.Ranges.{side_at}
-use Rattle.failover_writer.proofs.tests.Fresh.journal.Goals as goal
+use Rattle.failover_writer.proofs.tests.Fresh.journal_from.Goals as goal
 
 pub start-requires-clause-absent : goal.start-requires-clause-absent
 start-requires-clause-absent g c told index low high = subst IsUnsent
