@@ -8,7 +8,7 @@ use std::sync::Wait;
 use std::thread;
 use std::thread::{Promise, Threads};
 
-/// The stack of a thread, in bytes. Turns were seen to use 16 KB of it at most. The C library would reserve 8 MB for each thread,
+/// The stack of a thread, in bytes. Turns were seen to use 19 KB of it at most. The C library would reserve 8 MB for each thread,
 /// more than a process with a cap on its addresses has to spare.
 const STACK_BYTES: usize = 256 * 1024;
 
