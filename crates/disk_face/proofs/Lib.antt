@@ -5,6 +5,7 @@ mod Listings
 mod Images
 mod Spelling
 mod Polled
+mod PassedOn
 mod Asked
 mod Fieldless
 mod Limits

@@ -3,7 +3,7 @@ use Rattle.std.proofs.Common.{◌≡◌, ℕ, suc, ◌<◌, ◌≤◌, arith, su
 use native.Mathlib.Decide.{dec_le}
 use Rattle.wal_base.specs.Faults.{Rose}
 use Rattle.disk_face.specs.View.{DiskView, Files, files, AtEachMoment}
-use Rattle.disk_face.specs.Calls.{GoesOn, SameDisk}
+use Rattle.disk_face.specs.Calls.{GoesOn, WentOn, SameDisk}
 
 -- a run of no call
 pub goes_on_from : (v : DiskView) → GoesOn v v
@@ -14,6 +14,17 @@ pub goes_on_further : (old mid new : DiskView) → GoesOn old mid → GoesOn mid
 goes_on_further old mid new a b = record {
   faults = λ s. omega (arith, a.faults s, b.faults s);
   polls = λ s. omega (arith, a.polls s, b.polls s);
+  clock = omega (arith, a.clock, b.clock);
+  history = λ k le. b.history k (omega (arith, le, a.clock)) ∙ a.history k le;
+}
+
+-- the same where polls may have been left to stall
+pub goes_went : (old new : DiskView) → GoesOn old new → WentOn old new
+goes_went old new goes = record { faults = goes.faults; clock = goes.clock; history = goes.history }
+
+pub went_further : (old mid new : DiskView) → WentOn old mid → WentOn mid new → WentOn old new
+went_further old mid new a b = record {
+  faults = λ s. omega (arith, a.faults s, b.faults s);
   clock = omega (arith, a.clock, b.clock);
   history = λ k le. b.history k (omega (arith, le, a.clock)) ∙ a.history k le;
 }

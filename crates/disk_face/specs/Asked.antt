@@ -20,7 +20,7 @@ abbrev pub lists_in : Side → Call → ℕ
 lists_in side (was_listed s names) = if side_eq side s then 1 else 0
 lists_in side (was_read s name len) = 0
 lists_in side (was_started id) = 0
-lists_in side (was_polled id) = 0
+lists_in side (was_polled id answer) = 0
 
 -- how often a side was listed
 abbrev pub listings : Side → List Call → ℕ
@@ -31,7 +31,7 @@ abbrev pub bytes_in : Side → SegName → Call → ℕ
 bytes_in side name (was_listed s names) = 0
 bytes_in side name (was_read s n len) = if side_eq side s && name_eq name n then len else 0
 bytes_in side name (was_started id) = 0
-bytes_in side name (was_polled id) = 0
+bytes_in side name (was_polled id answer) = 0
 
 -- how many bytes of a segment were asked for
 abbrev pub bytes_asked : Side → SegName → List Call → ℕ
@@ -46,7 +46,7 @@ abbrev pub length_in : Side → SegName → Call → ℕ
 length_in side name (was_listed s names) = if side_eq side s then length_among name names else 0
 length_in side name (was_read s n len) = 0
 length_in side name (was_started id) = 0
-length_in side name (was_polled id) = 0
+length_in side name (was_polled id answer) = 0
 
 -- the length that the listings gave a segment, each counted: 0 where none had it
 abbrev pub length_listed : Side → SegName → List Call → ℕ

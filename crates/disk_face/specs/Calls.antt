@@ -76,6 +76,12 @@ pub record GoesOn (old new : DiskView) : Type 0 where
   pub clock : old.clock ≤ new.clock
   pub history : (k : ℕ) → k ≤ old.clock → new.history k ≡ old.history k
 
+-- what every call keeps, a stall too: the disk went on
+pub record WentOn (old new : DiskView) : Type 0 where
+  pub faults : (s : Side) → old.faults s ≤ new.faults s
+  pub clock : old.clock ≤ new.clock
+  pub history : (k : ℕ) → k ≤ old.clock → new.history k ≡ old.history k
+
 -- no operation and no file changes, and no moment passes
 pub record SameDisk (old new : DiskView) : Type 0 where
   pub in_flight : new.in_flight ≡ old.in_flight

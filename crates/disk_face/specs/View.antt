@@ -5,6 +5,7 @@ use Rattle.disk_face.specs.declared.Side.TheVariants.{Primary, Secondary}
 use Rattle.disk_face.specs.declared.SegName.{SegName}
 use Rattle.disk_face.specs.declared.Listed.{Listed}
 use Rattle.disk_face.specs.declared.OpId.{OpId}
+use Rattle.disk_face.specs.declared.Progress.{Progress}
 
 -- where a file stands: a segment in one of the two directories, or a table in the primary one
 pub data Place : Type 0 where
@@ -53,8 +54,8 @@ pub data Call : Type 0 where
   was_read : Side → SegName → ℕ → Call
   -- an operation was put in flight
   was_started : OpId → Call
-  -- it was asked how an operation stands
-  was_polled : OpId → Call
+  -- it was asked how an operation stands, and gave this answer
+  was_polled : OpId → Progress → Call
 
 -- all that a disk means to contracts
 pub record DiskView : Type 0 where

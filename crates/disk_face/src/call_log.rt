@@ -5,7 +5,7 @@ ghost use Rattle.std.specs.Borrow.{ftrue};
 ghost use Rattle.disk_face.specs.View.{Call, was_listed, was_read, was_started, was_polled};
 ghost use Rattle.disk_face.specs.Asked.{answered};
 
-use crate::{DiskErr, Names, OpId, SegName, Side};
+use crate::{Disk, DiskErr, Names, OpId, Progress, SegName, Side};
 use std::fmt;
 use std::marker::Model;
 
@@ -30,38 +30,45 @@ impl CallLog {
         CallLog {}
     }
 
+    /// The calls that were made of this disk.
+    pub fn of<D: Disk>(disk: &D) -> CallLog
+        ensures { result.calls ≡ (D.view disk.now).calls }
+    {
+        CallLog::new().made(disk, &())
+    }
+
     /// A side was listed, with this answer.
     pub fn note_listing(&mut self, side: Side, answer: &Result<Names, DiskErr>)
         ensures { self.new.calls ≡ was_listed side (answered answer.now) ∷ self.old.calls }
     {
-        *self = self.and(&side, answer);
+        *self = self.made(&side, answer);
     }
 
     /// So many bytes of a segment were asked for.
     pub fn note_read(&mut self, side: Side, name: SegName, len: usize)
         ensures { self.new.calls ≡ was_read side name len ∷ self.old.calls }
     {
-        *self = self.and(&side, &(name, len));
+        *self = self.made(&side, &(name, len));
     }
 
     /// An operation was put in flight.
     pub fn note_start(&mut self, id: OpId)
         ensures { self.new.calls ≡ was_started id ∷ self.old.calls }
     {
-        *self = self.and(&id, &());
+        *self = self.made(&id, &());
     }
 
-    /// It was asked how an operation stands.
-    pub fn note_poll(&mut self, id: OpId)
-        ensures { self.new.calls ≡ was_polled id ∷ self.old.calls }
+    /// It was asked how an operation stands, and gave this answer.
+    pub fn note_poll(&mut self, id: OpId, answer: Progress)
+        ensures { self.new.calls ≡ was_polled id answer ∷ self.old.calls }
     {
-        *self = self.and(&id, &());
+        *self = self.made(&id, &answer);
     }
 
-    // One call more, which the caller's proof makes of the two values.
-    fn and<A, B>(&self, _first: &A, _second: &B) -> CallLog
-        ghost call: { Call }
-        ensures { result.calls ≡ call ∷ self.now.calls }
+    // A log of the calls that the caller's proof makes of this one and of the two values.
+    fn made<A, B>(&self, _first: &A, _second: &B) -> CallLog
+        ghost calls: { List Call }
+        ensures { result.calls ≡ calls }
     {
         CallLog {}
     }

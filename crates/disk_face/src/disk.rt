@@ -65,7 +65,7 @@ pub trait Disk {
         ensures goes_on { GoesOn (view self.old) (view self.new) }
         ensures steady { FaultsStayBut id result (view self.old) (view self.new) }
         ensures stalls { StallsStayBut id result (view self.old) (view self.new) }
-        ensures noted { Notes (was_polled id) (view self.old) (view self.new) }
+        ensures noted { Notes (was_polled id result) (view self.old) (view self.new) }
         ensures polled { Polled tells id (view self.old) (view self.new) result };
 
     /// At each moment no more than the places of some list have a file.

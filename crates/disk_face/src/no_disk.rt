@@ -88,9 +88,9 @@ impl Disk for NoDisk {
     fn poll(&mut self, id: OpId) -> Progress
         ensures not_done { result ≡ Progress.Failed }
         ensures stalls { StallsStay (bare self.old) (bare self.new) }
-        ensures noted { Notes (was_polled id) (bare self.old) (bare self.new) }
+        ensures noted { Notes (was_polled id result) (bare self.old) (bare self.new) }
     {
-        self.log.note_poll(id);
+        self.log.note_poll(id, Progress::Failed);
         Progress::Failed
     }
 

@@ -1,17 +1,18 @@
 //! A disk over another one, that answers polls pending as it was told.
 
-ghost use Rattle.std.specs.Prelude.{◌≡◌, ◌≤◌, ◌<◌, ℕ, [], length, drop, IfOk, OnErr, IsSome, IsTrue};
+ghost use Rattle.std.specs.Prelude.{◌≡◌, ◌≤◌, ◌<◌, ℕ, length, drop, IfOk, OnErr, IsSome, IsTrue};
 ghost use Rattle.disk_face.specs.declared.Side.{Side};
 ghost use Rattle.disk_face.specs.View.{DiskView, segment, was_polled, IsFree};
 ghost use Rattle.disk_face.specs.Listing.{IsAscending, AreSegmentNames};
 ghost use Rattle.disk_face.specs.Answers.{CountsFailure, CountsNoOther, NotesListing, AsksFor, NotesStart, ListsFiles, ReadsSegment, ReadsNoFile, MayStartOn, IsStarted};
 ghost use Rattle.disk_face.specs.Calls.{place_of, GoesOn, SameDisk, StallsStay, FaultsStayBut, StallsStayBut, Notes, Polled, Stalls};
-ghost use Rattle.disk_face.specs.Script.{stalled, TellsOf, StallsAlike, RaisesOwnPolls};
+ghost use Rattle.disk_face.specs.Script.{stalled, TellsOf, BeginsOver, RaisesOwnPolls};
 ghost use Rattle.disk_face.specs.Seen.{outer, within, own_polls_of, OwnPollsStay, OuterSends, AnswersWhileOwn, PassesOnElse};
 
 use crate::{
     BySide, CallLog, Disk, DiskErr, DiskOp, Names, OpId, Progress, SegName, Side, StallDisk,
 };
+use std::marker::Model;
 use wal_base::NoMemory;
 
 /// A disk that answers polls by itself, over a disk within. Contracts see both.
@@ -31,7 +32,7 @@ impl<D: Disk> Scripted for ScriptDisk<D> {
 
     ghost own_polls = { λ d. own_polls_of d };
 
-    ghost within = { λ d. D.view d.inner };
+    ghost within = { λ d. within D.view d };
 
     ghost told = { λ d. refl };
 }
@@ -46,22 +47,32 @@ pub struct ScriptDisk<D: Disk> {
     log: CallLog,
 }
 
+impl<D: Disk> Model for ScriptDisk<D> {
+    ghost use Rattle.disk_face.specs.Script.{ScriptedDisk, ArePassedOn};
+
+    ghost Value = { ScriptedDisk D };
+
+    ghost view = { λ d. record { inner = d.inner; polls = d.polls; calls = d.log.calls } };
+
+    // It has passed each call on, but for the polls that it answered itself.
+    ghost invariant = { λ d. ArePassedOn (D.view d.inner).calls d.log.calls };
+}
+
 impl<D: Disk> ScriptDisk<D> {
     /// A disk that stalls nothing by itself yet.
     pub fn new(inner: D) -> ScriptDisk<D>
-        ensures tells { TellsOf (D.view inner) (outer D.view result) }
-        ensures no_polls { StallsAlike (D.view inner) (outer D.view result) }
+        ensures begins { BeginsOver (D.view inner) (outer D.view result) }
         ensures no_own { (side : Side) → own_polls_of result side ≡ 0 }
         ensures within { within D.view result ≡ D.view inner }
-        ensures no_calls { (outer D.view result).calls ≡ [] }
     {
+        let log = CallLog::of(&inner);
         ScriptDisk {
             inner,
             polls: BySide {
                 primary: 0,
                 secondary: 0,
             },
-            log: CallLog::new(),
+            log,
         }
     }
 
@@ -70,11 +81,7 @@ impl<D: Disk> ScriptDisk<D> {
         ensures tells { TellsOf (D.view result) (outer D.view self) }
         ensures within { D.view result ≡ within D.view self }
     {
-        let ScriptDisk {
-            inner,
-            polls: _,
-            log: _,
-        } = self;
+        let ScriptDisk { inner, .. } = self;
         inner
     }
 }
@@ -150,19 +157,20 @@ impl<D: Disk> Disk for ScriptDisk<D> {
         ensures goes_on { GoesOn (outer D.view self.old) (outer D.view self.new) }
         ensures steady { FaultsStayBut id result (outer D.view self.old) (outer D.view self.new) }
         ensures stalls { StallsStayBut id result (outer D.view self.old) (outer D.view self.new) }
-        ensures noted { Notes (was_polled id) (outer D.view self.old) (outer D.view self.new) }
+        ensures noted { Notes (was_polled id result) (outer D.view self.old) (outer D.view self.new) }
         ensures polled { Polled D.tells id (outer D.view self.old) (outer D.view self.new) result }
 
         // It answers itself while the side has own polls left, and else passes the poll on.
         ensures own { AnswersWhileOwn D.view id.side self.old self.new result }
         ensures passed { PassesOnElse D.view D.tells id self.old self.new result }
     {
-        self.log.note_poll(id);
         if self.polls.take_one(id.side) {
-            Progress::Pending
-        } else {
-            self.inner.poll(id)
+            self.log.note_poll(id, Progress::Pending);
+            return Progress::Pending;
         }
+        let answer = self.inner.poll(id);
+        self.log.note_poll(id, answer);
+        answer
     }
 
     ghost finite = { λ d k told le. D.finite d.inner k told le };

@@ -259,7 +259,7 @@ sum_taken id answer before after takes = go id.side refl
 pub polls_at : (tells : Bool) (index : ℕ) (state seen : State) (before seen_before after : DiskView) (old new : Writer)
     (operation : Operation) (id : OpId) (answer : Progress) (pending : Bool) → state ≡ seen → before ≡ seen_before
     → IsAnswered state.segments index old new operation id answer → Polled tells id before after answer → TakesPoll id answer before after
-    → Makes (was_polled id ∷ []) before after → GoesOn before after → pending ≡ is_pending answer
+    → Makes (was_polled id answer ∷ []) before after → GoesOn before after → pending ≡ is_pending answer
     → PollsAt tells index seen (record state { segments = set state.segments index new }) seen_before after pending
 polls_at tells index state seen before seen_before after old new operation id answer pending same same_disk is polled takes asks goes pending_is =
     subst (λ (s : State). PollsAt tells index s (record state { segments = set state.segments index new }) seen_before after pending) same

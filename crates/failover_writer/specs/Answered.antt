@@ -60,7 +60,7 @@ RoseBy count before after = (faults_of before + count ≤ faults_of after) ⊎ (
 -- The disk was polled once, or asked for nothing.
 abbrev pub AsksToPoll : Option Progress → DiskView → DiskView → Type 0
 AsksToPoll None before after = Makes [] before after
-AsksToPoll (Some answer) before after = (id : OpId) × Makes (was_polled id ∷ []) before after
+AsksToPoll (Some answer) before after = (id : OpId) × Makes (was_polled id answer ∷ []) before after
 
 -- It was asked once to start an operation, or for nothing.
 abbrev pub StartsAtMostOne : DiskView → DiskView → Type 0

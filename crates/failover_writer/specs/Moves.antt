@@ -44,7 +44,7 @@ pub record PollsAt (tells : Bool) (index : ℕ) (old new : State) (before after 
   pub polled : Polled tells id before after answer
   pub taken : polls_left after + pending_polls answer ≡ polls_left before
   pub counted : RoseBy (failed_polls answer) before after
-  pub asks : Makes (was_polled id ∷ []) before after
+  pub asks : Makes (was_polled id answer ∷ []) before after
   pub pending_is : pending ≡ is_pending answer
   pub new_is : new ≡ record old { segments = take index old.segments ++ after_answer operation answer writer ∷ drop (index + 1) old.segments }
 

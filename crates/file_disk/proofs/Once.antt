@@ -1,5 +1,5 @@
 -- A list to which the segments of a list in order are added one after another, each only where it is later, has each name once.
-use Rattle.std.proofs.Common.{◌≡◌, ◌⊎◌, inl, inr, ℕ, ◌+◌, ◌-◌, ◌<◌, ◌≤◌, List, [], ◌∷◌, ◌++◌, length, get_or, Any, Contains, refl, sym, ap, subst, ◌∙◌, arith}
+use Rattle.std.proofs.Common.{◌≡◌, inl, inr, ℕ, ◌+◌, ◌-◌, ◌<◌, List, [], ◌∷◌, ◌++◌, length, get_or, Any, Contains, refl, sym, ap, subst, ◌∙◌, arith}
 use native.Mathlib.Decide.{dec_le}
 use Rattle.std.proofs.lemmas.List.{get_or_default, length-append, get_or-append_right, get_or_append_left}
 use Rattle.std.proofs.lemmas.List.Elements.{All-push, Contains-get_or}

@@ -87,12 +87,11 @@ impl<R: LockFiles + AllocGlobal + Clone + Drop> FileDisk<R> {
 
     /// Takes an operation out of flight, for a poll.
     fn end(&mut self, id: OpId) -> Option<Started<R::File>>
-        ensures noted { self.new.log.calls ≡ was_polled id ∷ self.old.log.calls }
+        ensures unnoted { self.new.log.calls ≡ self.old.log.calls }
         ensures goes_on { GoesOn (on_files self.old) (on_files self.new) }
         ensures ends { Ends id (on_files self.old) (on_files self.new) }
         ensures steady { (s : Side) → (on_files self.new).faults s ≡ (on_files self.old).faults s }
     {
-        self.log.note_poll(id);
         match id.side {
             Side::Primary => self.primary.end(id.number),
             Side::Secondary => self.secondary.end(id.number),
@@ -111,7 +110,7 @@ impl<R: LockFiles + AllocGlobal + Clone + Drop> FileDisk<R> {
 
     /// Takes an operation out of flight, runs it, and answers what the system did.
     fn finish(&mut self, id: OpId) -> io::Result<()>
-        ensures noted { self.new.log.calls ≡ was_polled id ∷ self.old.log.calls }
+        ensures unnoted { self.new.log.calls ≡ self.old.log.calls }
         ensures goes_on { GoesOn (on_files self.old) (on_files self.new) }
         ensures ends { Ends id (on_files self.old) (on_files self.new) }
         ensures steady { (s : Side) → (on_files self.new).faults s ≡ (on_files self.old).faults s }
@@ -190,8 +189,10 @@ impl<R: LockFiles + AllocGlobal + Clone + Drop> Disk for FileDisk<R> {
     }
 
     fn poll(&mut self, id: OpId) -> Progress {
-        let answer = self.finish(id);
-        self.settle(id.side, answer)
+        let finished = self.finish(id);
+        let answer = self.settle(id.side, finished);
+        self.log.note_poll(id, answer);
+        answer
     }
 
     ghost finite = { λ d k told le. no_files };

@@ -124,6 +124,6 @@ HasTaken answer old new = OfFlight old.phase (λ (operation : Operation) (id : O
 abbrev pub TakesItsPoll : Phase → Progress → DiskView → DiskView → Type 0
 TakesItsPoll phase answer before after = OfFlight phase (λ (operation : Operation) (id : OpId). TakesPoll id answer before after)
 
--- The disk was asked once, for the operation in flight.
-abbrev pub PollsOnce : Phase → DiskView → DiskView → Type 0
-PollsOnce phase before after = OfFlight phase (λ (operation : Operation) (id : OpId). Makes (was_polled id ∷ []) before after)
+-- The disk was asked once, for the operation in flight, and gave this answer.
+abbrev pub PollsOnce : Phase → DiskView → DiskView → Progress → Type 0
+PollsOnce phase before after answer = OfFlight phase (λ (operation : Operation) (id : OpId). Makes (was_polled id answer ∷ []) before after)

@@ -43,7 +43,7 @@ impl LogWriter {
         ensures polled { IsAsked D.tells self.old.phase (D.view disk.old) (D.view disk.new) result }
         ensures answered { HasTaken result self.old self.new }
         ensures takes { TakesItsPoll self.old.phase result (D.view disk.old) (D.view disk.new) }
-        ensures asks { PollsOnce self.old.phase (D.view disk.old) (D.view disk.new) }
+        ensures asks { PollsOnce self.old.phase (D.view disk.old) (D.view disk.new) result }
         ensures synced { self.old.synced ≤ self.new.synced }
         ensures fits { StaysFitting D.tells self.old self.new (D.view disk.old) (D.view disk.new) }
 

@@ -298,7 +298,7 @@ impl Disk for MemDisk {
         requires in_flight { IsSome ((seen self.old).in_flight id) }
         ensures goes_on { GoesOn (seen self.old) (seen self.new) }
         ensures polled { Polled true id (seen self.old) (seen self.new) result }
-        ensures noted { Notes (was_polled id) (seen self.old) (seen self.new) }
+        ensures noted { Notes (was_polled id result) (seen self.old) (seen self.new) }
 
         // It fails exactly where the operation was to fail, once it is not stalled.
         ensures answers { AnswersByPlan (plan_of self.old) id (seen self.old) result }
@@ -312,8 +312,8 @@ impl Disk for MemDisk {
         // A failed operation leaves each file as it stands.
         ensures kept { result ≡ Progress.Failed → files (seen self.new) ≡ files (seen self.old) }
     {
-        self.log.note_poll(id);
         if self.polls.take_one(id.side) {
+            self.log.note_poll(id, Progress::Pending);
             return Progress::Pending;
         }
         let op = end_op(&mut self.ops, id);
@@ -321,9 +321,11 @@ impl Disk for MemDisk {
         self.undos.push_reserved(undo);
         if self.fail_ops.contains(&id.number) {
             self.faults.raise(id.side);
+            self.log.note_poll(id, Progress::Failed);
             return Progress::Failed;
         }
         settle(&mut self.files, op.side, op.name, op.act);
+        self.log.note_poll(id, Progress::Done);
         Progress::Done
     }
 

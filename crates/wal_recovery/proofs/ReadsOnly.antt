@@ -8,6 +8,7 @@ use Rattle.disk_face.specs.declared.Side.{Side}
 use Rattle.disk_face.specs.declared.Side.TheVariants.{Primary, Secondary}
 use Rattle.disk_face.specs.declared.SegName.{SegName}
 use Rattle.disk_face.specs.declared.OpId.{OpId}
+use Rattle.disk_face.specs.declared.Progress.{Progress}
 use Rattle.disk_face.specs.declared.Listed.{Listed}
 use Rattle.disk_face.specs.View.{was_listed, was_read, was_started, was_polled, DiskView, Makes, side_eq}
 use Rattle.disk_face.specs.Asked.{name_eq, listings, bytes_asked, length_listed, length_among}
@@ -75,8 +76,8 @@ reads_one f len old new is le = record {
 pub starts_one : (id : OpId) (old new : DiskView) → new.calls ≡ was_started id ∷ old.calls → ReadsOnly [] old new
 starts_one id old new is = record { made = was_started id ∷ []; makes = is; lists = λ side. refl; listed = λ side name. refl; asked = λ side name. omega arith }
 
-pub polls_one : (id : OpId) (old new : DiskView) → new.calls ≡ was_polled id ∷ old.calls → ReadsOnly [] old new
-polls_one id old new is = record { made = was_polled id ∷ []; makes = is; lists = λ side. refl; listed = λ side name. refl; asked = λ side name. omega arith }
+pub polls_one : (id : OpId) (answer : Progress) (old new : DiskView) → new.calls ≡ was_polled id answer ∷ old.calls → ReadsOnly [] old new
+polls_one id answer old new is = record { made = was_polled id answer ∷ []; makes = is; lists = λ side. refl; listed = λ side name. refl; asked = λ side name. omega arith }
 
 -- ---- the listings
 

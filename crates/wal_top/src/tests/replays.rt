@@ -222,14 +222,18 @@ impl<D: Disk> Disk for Late<D> {
     }
 
     fn poll(&mut self, id: OpId) -> Progress {
-        self.log.note_poll(id);
         let held = self.polls > 0 && id.number == self.op;
         match id.side {
             Side::Primary if held => {
                 self.polls -= 1;
+                self.log.note_poll(id, Progress::Pending);
                 Progress::Pending
             }
-            Side::Primary | Side::Secondary => self.inner.poll(id),
+            Side::Primary | Side::Secondary => {
+                let answer = self.inner.poll(id);
+                self.log.note_poll(id, answer);
+                answer
+            }
         }
     }
 

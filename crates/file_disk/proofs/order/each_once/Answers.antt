@@ -1,4 +1,3 @@
-use Rattle.std.proofs.Common.{arith, refl}
 use Rattle.std.proofs.lemmas.List.{get_or_default}
 use Rattle.file_disk.proofs.Once.{once_more}
 use Rattle.file_disk.proofs.order.each_once.Goals as goal

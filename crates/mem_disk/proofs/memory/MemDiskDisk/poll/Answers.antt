@@ -21,7 +21,7 @@ returns-then-contains-clause-polled c = record {
   rose = c.raise.ensures.here;
   file = λ told f is.
       let same : record { place = segment c.end_op-op.result.side c.end_op-op.result.name; act = act_in_memory c.end_op-op.result.act } ≡ f = same_flight _ _ _ c.end_op-op.ensures.flight is in
-      subst (λ (g : Flight). ChangesFile g.place (AfterFailed g.act) (mem_view c.args.self.now.files.items c.args.self.now.ops.items c.args.self.now.undos.items (by_side c.args.self.now.faults.primary c.args.self.now.faults.secondary) (by_side c.args.self.now.polls.primary c.args.self.now.polls.secondary) c.args.self.now.log.calls) (mem_view c.args.self.now.files.items c.end_op-op.new.ops.items c.push_reserved.new.self.items (by_side c.raise.new.self.primary c.raise.new.self.secondary) (by_side c.take_one.new.self.primary c.take_one.new.self.secondary) c.note_poll.new.self.calls)) same
+      subst (λ (g : Flight). ChangesFile g.place (AfterFailed g.act) (mem_view c.args.self.now.files.items c.args.self.now.ops.items c.args.self.now.undos.items (by_side c.args.self.now.faults.primary c.args.self.now.faults.secondary) (by_side c.args.self.now.polls.primary c.args.self.now.polls.secondary) c.args.self.now.log.calls) (mem_view c.args.self.now.files.items c.end_op-op.new.ops.items c.push_reserved.new.self.items (by_side c.raise.new.self.primary c.raise.new.self.secondary) (by_side c.take_one.new.self.primary c.take_one.new.self.secondary) c.note_poll-then-contains.new.self.calls)) same
       (changes_moment c.args.self.now.files.items c.args.self.now.files.items _ _ c.args.self.now.undos.items c.push_reserved.new.self.items c.undo_of-undo.result _ _ _ _ _ _ c.push_reserved.ensures.items
       (segment c.end_op-op.result.side c.end_op-op.result.name) (AfterFailed (act_in_memory c.end_op-op.result.act)) (record { here = failed_file _ _; others = λ q ne. refl }));
 }
@@ -39,7 +39,7 @@ returns-clause-polled c = record {
   ends = record { gone = c.end_op-op.ensures.gone; others = c.end_op-op.ensures.others };
   file = λ told f is.
       let same : record { place = segment c.end_op-op.result.side c.end_op-op.result.name; act = act_in_memory c.end_op-op.result.act } ≡ f = same_flight _ _ _ c.end_op-op.ensures.flight is in
-      subst (λ (g : Flight). ChangesFile g.place (AfterDone g.act) (mem_view c.args.self.now.files.items c.args.self.now.ops.items c.args.self.now.undos.items (by_side c.args.self.now.faults.primary c.args.self.now.faults.secondary) (by_side c.args.self.now.polls.primary c.args.self.now.polls.secondary) c.args.self.now.log.calls) (mem_view c.settle.new.files.items c.end_op-op.new.ops.items c.push_reserved.new.self.items (by_side c.args.self.now.faults.primary c.args.self.now.faults.secondary) (by_side c.take_one.new.self.primary c.take_one.new.self.secondary) c.note_poll.new.self.calls)) same
+      subst (λ (g : Flight). ChangesFile g.place (AfterDone g.act) (mem_view c.args.self.now.files.items c.args.self.now.ops.items c.args.self.now.undos.items (by_side c.args.self.now.faults.primary c.args.self.now.faults.secondary) (by_side c.args.self.now.polls.primary c.args.self.now.polls.secondary) c.args.self.now.log.calls) (mem_view c.settle.new.files.items c.end_op-op.new.ops.items c.push_reserved.new.self.items (by_side c.args.self.now.faults.primary c.args.self.now.faults.secondary) (by_side c.take_one.new.self.primary c.take_one.new.self.secondary) c.note_poll-2.new.self.calls)) same
       (changes_moment c.args.self.now.files.items c.settle.new.files.items _ _ c.args.self.now.undos.items c.push_reserved.new.self.items c.undo_of-undo.result _ _ _ _ _ _ c.push_reserved.ensures.items
       (segment c.end_op-op.result.side c.end_op-op.result.name) (AfterDone (act_in_memory c.end_op-op.result.act)) c.settle.ensures.changes);
 }

@@ -1,4 +1,4 @@
--- `and` makes the log, with the one call more that its clause names. Assumes `Logic`.
+-- `made` makes the log, with the calls that its clause names. Assumes `Logic`.
 use Rattle.std.proofs.Common.{List, [], ◌∷◌, ◌++◌, refl}
 use seplogic.Ra.Ura.{Ura}
 use mir.Syntax.{Fn, Args, a_type}
@@ -29,10 +29,10 @@ use denote.Triple.Table.{entered}
 use denote.Triple.Walked.{says, Stays, stay_dropped, walk_of, ends_at, walk_Meets, Goes-dropped}
 use Rattle.disk_face.proofs.Fieldless.{none, none_made}
 use Rattle.disk_face.specs.contracts.call_log.CallLog as Log
-use Rattle.disk_face.specs.contracts.call_log.CallLog.and as F
-use Rattle.disk_face.specs.contracts.call_log.CallLog.and.Key.{name as #self}
-use Rattle.disk_face.proofs.call_log.CallLog.and.Statement as stated
-use Rattle.disk_face.proofs.call_log.CallLog.and.Code as code
+use Rattle.disk_face.specs.contracts.call_log.CallLog.made as F
+use Rattle.disk_face.specs.contracts.call_log.CallLog.made.Key.{name as #self}
+use Rattle.disk_face.proofs.call_log.CallLog.made.Statement as stated
+use Rattle.disk_face.proofs.call_log.CallLog.made.Code as code
 
 module _ (A B : RattleType) where
   abbrev args : Args
@@ -67,7 +67,7 @@ module _ (A B : RattleType) where
           let p : Val = vptr a.0.ref_ptr.0 a.0.ref_ptr.1 in
           let q : Val = vptr a.1.0.ref_ptr.0 a.1.0.ref_ptr.1 in
           let r : Val = vptr a.1.1.0.ref_ptr.0 a.1.1.0.ref_ptr.1 in
-          let log : (Log.the_row).Denot = record { calls = z.1 ∷ a.0.now.calls } in
+          let log : (Log.the_row).Denot = record { calls = z.1 } in
           qed 𝓛 ((raw toks ⊛ ‵ (owns (types_at ended.signature.params z.0.0) a vss)) ∷ raw ((held z.0.0 a).requires z.1) ∷ []) ∵
           keep ! (0 ∷ []) $ split ! $ move ! (1 ∷ []) $
           fsplit ! $ fsplit ! $ feq_l ! (λ is₀. drop ! $ fsplit ! $ fsplit ! $ feq_l ! (λ is₁. drop ! $ fsplit ! $ fsplit ! $ feq_l ! (λ is₂. drop ! $ drop ! $
@@ -92,9 +92,9 @@ module _ (A B : RattleType) where
         ) held
         (WpFn 𝓤 H 𝓣.C 𝓣.Λ function) (WpFn-mono 𝓤 H 𝓛.laws 𝓣 function) (walks 𝓣.C 𝓣.Λ)
 
-pub and_spec : {M : Type 1} → stated.statement M
+pub made_spec : {M : Type 1} → stated.statement M
 unfolding tables_of
-and_spec 𝓤 𝓛 𝓜 𝓡 wired A B LA LB =
+made_spec 𝓤 𝓛 𝓜 𝓡 wired A B LA LB =
     let 𝓣 : Tables 𝓤 𝓛.H = tables_of 𝓤 𝓛.H 𝓜 (tables 𝓤 𝓛.H 𝓜 𝓡 𝓡.env) in
     entered 𝓤 𝓛.H (triple_of 𝓛 (ended A B).signature (closing 𝓛 (ended A B) (held A B 𝓛 𝓜.mem 𝓡.returns))) 𝓣.C 𝓣.Λ (#self (args A B)) (function A B)
     (code.unfolded 𝓤 𝓛.H 𝓜 𝓡 wired (A, (B, tt))) (meets A B 𝓛 𝓜.mem 𝓡.returns 𝓣)
