@@ -13,7 +13,8 @@ use Rattle.publish_core.specs.Machine.{Among, ends}
 use Rattle.commit_queue.specs.declared.view.View.{View}
 use Rattle.commit_queue.specs.Calls.{TakesBack}
 use Rattle.commit_queue.specs.Rule.{numbers}
-use Rattle.commit_pipeline.specs.Openings.{Opening, KeepsJournal}
+use Rattle.failover_writer.specs.Outcome.{JournalOutcome}
+use Rattle.commit_pipeline.specs.Openings.{Opening}
 use Rattle.commit_pipeline.specs.declared.standing.Standing.{Standing}
 use Rattle.commit_pipeline.specs.Ending.{EachOnce, Finishes, TakesAllBack, owned, all_deaths, numbers_in_order}
 use Rattle.commit_pipeline.specs.Ties.{Enrols, Flushes}
@@ -61,7 +62,7 @@ module _ (tells : Bool) (table : TableId) (queue : FlowId) (opening : Opening) (
       → Finishes tells opening p.history ss state v next placed
   finishes back last all told = record {
     opened = flushes.opened;
-    keeps = subst (λ (bs : List Batch). KeepsJournal tells opening bs state v) same_batches flushes.keeps;
+    keeps = subst (λ (bs : List Batch). JournalOutcome tells opening.start bs state v) same_batches flushes.keeps;
     seen = back.seen;
     own = each_once back last all;
     acked_is = λ s has.

@@ -31,8 +31,9 @@ use Rattle.commit_queue.specs.declared.view.View.{View}
 use Rattle.commit_queue.specs.Calls.{RaisesAcked}
 use Rattle.publish_core.specs.Machine.{one_more}
 use Rattle.commit_pipeline.specs.Sides.{FlushView, AcksSynced, HasAckedSynced}
-use Rattle.commit_pipeline.specs.Openings.{Opening, KeepsJournal}
-use Rattle.commit_pipeline.proofs.KeepsJournal.{kept_further, kept_pushed, kept_stalled}
+use Rattle.failover_writer.specs.Outcome.{JournalOutcome}
+use Rattle.failover_writer.proofs.Laws.{outcome_further, outcome_added, outcome_stalled}
+use Rattle.commit_pipeline.specs.Openings.{Opening}
 use Rattle.commit_pipeline.specs.Desks.{TellsFault}
 use Rattle.commit_pipeline.specs.Sides.{PushesAll, MovesNodes}
 use Rattle.commit_pipeline.specs.Ties.{Flushes, IsNextTo}
@@ -95,8 +96,8 @@ module _ {Disk : Type 0} (tells : Bool) (view : Disk → DiskView) where
       disk = refl;
       dead = refl;
       acked_is = refl;
-      holds = λ opening batches keeps.
-          subst (λ (l : List Batch). KeepsJournal tells opening l journal.state (view journal.disk)) (sym (append-nil batches)) keeps;
+      holds = λ start batches keeps.
+          subst (λ (l : List Batch). JournalOutcome tells start l journal.state (view journal.disk)) (sym (append-nil batches)) keeps;
     },
   )
 
@@ -114,12 +115,12 @@ module _ {Disk : Type 0} (tells : Bool) (view : Disk → DiskView) where
       disk = disk ∙ m.disk;
       dead = ap (λ (s : State). s.dead) pushes.new_is ∙ m.dead;
       acked_is = same_acked ∙ m.acked_is;
-      holds = λ opening batches keeps.
+      holds = λ start batches keeps.
           let same = append_assoc batches (records_of moved) (f.rec ∷ [])
           ∙ ap (λ (l : List Batch). batches ++ l) (sym (records_append moved (f ∷ []))) in
-          subst (λ (l : List Batch). KeepsJournal tells opening l new.state (view new.disk)) same
-          (kept_pushed tells opening view (batches ++ records_of moved) mid new f.rec f.sync pushes disk adds keeps_base
-          (m.holds opening batches keeps));
+          subst (λ (l : List Batch). JournalOutcome tells start l new.state (view new.disk)) same
+          (outcome_added tells start view (batches ++ records_of moved) mid new f.rec f.sync pushes disk adds keeps_base
+          (m.holds start batches keeps));
     },
   )
 
@@ -166,7 +167,7 @@ module _ {tells : Bool} {table : TableId} {queue : FlowId} {opening : Opening} w
 
     -- a call of the journal added no record
     pub flushes_kept : (new : State) (w : DiskView) → KeepsEnd state new → acked state ≤ acked new → (new.dead ≡ None → state.dead ≡ None)
-        → KeepsJournal tells opening (records_of flow.taken) new w → Flushes tells table queue opening new w seat f pops flow answers
+        → JournalOutcome tells opening.start (records_of flow.taken) new w → Flushes tells table queue opening new w seat f pops flow answers
     flushes_kept new w setting acked_on lived keeps = record {
       opened = flushes.opened;
       keeps = keeps;
@@ -212,8 +213,8 @@ flushes_moved {tells} {table} {queue} {opening} {Disk} view {old} {new} {flow = 
   keeps =
       let records = records_append flow.taken moved in
       let taken = ap (λ (x : FlowView). x.taken) m.taken in
-      subst (λ (l : List Batch). KeepsJournal tells opening l new.state (view new.disk)) (sym records ∙ ap records_of (sym taken))
-      (m.holds opening (records_of flow.taken) flushes.keeps);
+      subst (λ (l : List Batch). JournalOutcome tells opening.start l new.state (view new.disk)) (sym records ∙ ap records_of (sym taken))
+      (m.holds opening.start (records_of flow.taken) flushes.keeps);
   of_table = flushes.of_table;
   is_flush = flushes.is_flush;
   none_own = flushes.none_own;
@@ -227,7 +228,7 @@ flushes_moved {tells} {table} {queue} {opening} {Disk} view {old} {new} {flow = 
 -- Polls were left to stall, which the opening allows.
 pub flushes_stalled : {tells : Bool} {table : TableId} {queue : FlowId} {opening : Opening} {Disk : Type 0} (view : Disk → DiskView)
     {old new : JournalView Disk} {seat : TableId} {f : View} {pops : FlowId} {flow : FlowView} {answers : ℕ} (side : Side) (polls : ℕ)
-    → opening.may_stall ≡ true → new.state ≡ old.state → Stalls side polls (view old.disk) (view new.disk)
+    → opening.start.may_stall ≡ true → new.state ≡ old.state → Stalls side polls (view old.disk) (view new.disk)
     → KeepsRecords tells view old new → KeepsBases tells view old new
     → Flushes tells table queue opening old.state (view old.disk) seat f pops flow answers
     → Flushes tells table queue opening new.state (view new.disk) seat f pops flow answers
@@ -237,7 +238,7 @@ flushes_stalled {tells} {table} {queue} {opening} {Disk} view {old} {new} {seat}
     subst (λ (s : State). Flushes tells table queue opening s (view new.disk) seat f pops flow answers) (sym same)
     (flushes_kept flushes old.state (view new.disk)
     (record { wal = refl; base = refl; threshold = refl; next = refl; end = refl }) (le_refl (acked old.state)) (λ lives. lives)
-    (kept_stalled tells opening records old.state (view old.disk) (view new.disk) side polls may stalls
+    (outcome_stalled tells opening.start records old.state (view old.disk) (view new.disk) side polls may stalls
     (subst (λ (s : State). StandsFor tells records s (view new.disk)) same (keeps records flushes.keeps.stands))
     (λ base was. subst (λ (s : State). KeepsBase tells base s (view new.disk)) same (keeps_base base was)) flushes.keeps))
 
@@ -249,7 +250,7 @@ pub flushes_stepped : {tells : Bool} {table : TableId} {queue : FlowId} {opening
     → Flushes tells table queue opening new.state (view new.disk) seat f pops flow answers
 flushes_stepped {tells} {table} {queue} {opening} {Disk} {view} {old} {new} {flow = flow} lasts keeps_base still flushes =
     flushes_kept flushes new.state (view new.disk) lasts.setting lasts.acked (lived_before old new still)
-    (kept_further tells opening view (records_of flow.taken) old new lasts keeps_base flushes.keeps)
+    (outcome_further tells opening.start view (records_of flow.taken) old new lasts keeps_base flushes.keeps)
 
 -- It did, and the acked word followed it.
 pub flushes_driven : {tells : Bool} {table : TableId} {queue : FlowId} {opening : Opening} {Disk : Type 0} {view : Disk → DiskView}

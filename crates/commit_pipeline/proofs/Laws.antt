@@ -1,4 +1,3 @@
 -- What the crates above cite of these proofs, and all that they may.
 pub use Rattle.commit_pipeline.proofs.EndsBefore.{ends_before, no_base}
-pub use Rattle.commit_pipeline.proofs.KeepsJournal.{went_further, kept_further}
 pub use Rattle.commit_pipeline.proofs.IsShared.{pipeline_shared}

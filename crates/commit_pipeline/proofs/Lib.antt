@@ -1,6 +1,5 @@
 pub mod Laws
 mod EndsBefore
-mod KeepsJournal
 mod Enters
 mod Enrols
 mod Flushing

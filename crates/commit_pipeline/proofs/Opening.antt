@@ -27,24 +27,25 @@ use Rattle.commit_queue.specs.Tables.{table_id_of}
 use Rattle.commit_queue.specs.Seats.{producer_table, producer_view, flush_table, flush_seat_view}
 use Rattle.commit_queue.specs.Views.{first_view, opened_view, flush_view}
 use Rattle.commit_queue.proofs.Laws.{awaits_first}
-use Rattle.commit_pipeline.specs.Openings.{Opening, IsOpened, KeepsJournal, opening_on}
-use Rattle.commit_pipeline.proofs.KeepsJournal.{opened_on, kept_opened}
+use Rattle.failover_writer.specs.Outcome.{JournalOutcome}
+use Rattle.failover_writer.proofs.Laws.{unbegun_on, outcome_begun}
+use Rattle.commit_pipeline.specs.Openings.{Opening, IsOpened, opening_on}
 use Rattle.commit_pipeline.specs.Parts.{PartsView, FitTogether}
 use Rattle.commit_pipeline.specs.Ties.{Enrols, IsNextTo, Flushes}
 
 -- The producer's seat of a new table has placed nothing, and nothing was sent.
 enrols_none : (table : TableId) (queue : FlowId) (opening : Opening) (shards : List (List Version)) (v : View) (flow : FlowView) (next counted : ℕ)
-    → AreShardsOf shards opening.base → opening.journal.next ≤ NUMBER_MAX → next ≡ opening.journal.next → v ≡ opened_view opening.journal.next shards
+    → AreShardsOf shards opening.base → opening.start.state.next ≤ NUMBER_MAX → next ≡ opening.start.state.next → v ≡ opened_view opening.start.state.next shards
     → flow ≡ send_opened next → counted ≡ 0 → Enrols table queue opening table v queue flow next 0 counted
 enrols_none table queue opening shards v flow next counted are within next_is is sends count =
     subst (λ (n : ℕ). Enrols table queue opening table v queue flow n 0 counted) (sym next_is)
-    (subst (λ (x : View). Enrols table queue opening table x queue flow opening.journal.next 0 counted) (sym is)
-    (subst (λ (x : FlowView). Enrols table queue opening table (opened_view opening.journal.next shards) queue x opening.journal.next 0 counted)
+    (subst (λ (x : View). Enrols table queue opening table x queue flow opening.start.state.next 0 counted) (sym is)
+    (subst (λ (x : FlowView). Enrols table queue opening table (opened_view opening.start.state.next shards) queue x opening.start.state.next 0 counted)
     (sym opens) record {
       of_table = refl;
       base = refl;
       shards = are;
-      awaits = awaits_first (opened_view opening.journal.next shards) opening.journal.next shards refl;
+      awaits = awaits_first (opened_view opening.start.state.next shards) opening.start.state.next shards refl;
       none = refl;
       none_own = refl;
       within = within;
@@ -53,15 +54,15 @@ enrols_none table queue opening shards v flow next counted are within next_is is
       of_queue = refl;
       first = refl;
       sent = refl;
-      follows = first_is_next opening.journal.next (send_opened opening.journal.next) refl;
+      follows = first_is_next opening.start.state.next (send_opened opening.start.state.next) refl;
     }))
   where
-    opens : flow ≡ send_opened opening.journal.next
+    opens : flow ≡ send_opened opening.start.state.next
     opens = sends ∙ ap send_opened next_is
 
 -- The journal has no record, and none was taken.
-next_to_none : (tells : Bool) (opening : Opening) (state : State) (flow : FlowView) → IsOpened tells opening → state ≡ opening.journal → len state ≡ 0
-    → flow ≡ flush_opened opening.journal.next → IsNextTo flow state
+next_to_none : (tells : Bool) (opening : Opening) (state : State) (flow : FlowView) → IsOpened tells opening → state ≡ opening.start.state → len state ≡ 0
+    → flow ≡ flush_opened opening.start.state.next → IsNextTo flow state
 unfolding end_after
 next_to_none tells opening state flow opened same none is = subst (λ (x : FlowView). IsNextTo x state) (sym is) record {
   first = based ∙ sym (ap (λ (s : State). s.base) same);
@@ -69,21 +70,21 @@ next_to_none tells opening state flow opened same none is = subst (λ (x : FlowV
   all = none;
 }
   where
-    based : opening.journal.next ≡ opening.journal.base
-    based = opened.empty.next
+    based : opening.start.state.next ≡ opening.start.state.base
+    based = opened.unbegun.empty.next
 
-    ends : opening.journal.next ≡ end_after opening.journal.next []
+    ends : opening.start.state.next ≡ end_after opening.start.state.next []
     ends = refl
 
 -- The flush seat of a new table has raised nothing, and nothing was taken.
 flushes_none : (tells : Bool) (table : TableId) (queue : FlowId) (opening : Opening) (shards : List (List Version)) (state : State) (v : DiskView)
-    (f : View) (flow : FlowView) (next answers : ℕ) → IsOpened tells opening → KeepsJournal tells opening [] state v → state ≡ opening.journal
-    → len state ≡ 0 → f ≡ flush_view (first_view next shards) → flow ≡ flush_opened opening.journal.next → answers ≡ 0
+    (f : View) (flow : FlowView) (next answers : ℕ) → IsOpened tells opening → JournalOutcome tells opening.start [] state v → state ≡ opening.start.state
+    → len state ≡ 0 → f ≡ flush_view (first_view next shards) → flow ≡ flush_opened opening.start.state.next → answers ≡ 0
     → Flushes tells table queue opening state v table f queue flow answers
 flushes_none tells table queue opening shards state v f flow next answers opened keeps same none is pops told =
     subst (λ (x : View). Flushes tells table queue opening state v table x queue flow answers) (sym is) record {
       opened = opened;
-      keeps = subst (λ (x : FlowView). KeepsJournal tells opening (records_of x.taken) state v) (sym pops) keeps;
+      keeps = subst (λ (x : FlowView). JournalOutcome tells opening.start (records_of x.taken) state v) (sym pops) keeps;
       of_table = refl;
       is_flush = refl;
       none_own = refl;
@@ -103,7 +104,7 @@ pub record FitJournal {Disk : Type 0} (view : Disk → DiskView) (journal : Jour
   pub named : table_id_of table ≡ id
   pub queued : passes.flow_id flow ≡ queue
   pub next_is : next ≡ journal.state.next
-  pub is : opening ≡ opening_on view base journal opening.may_stall
+  pub is : opening ≡ opening_on view base journal opening.start.may_stall
 
 -- What a call of `Pipeline::new` asks of its parts makes them so.
 pub fits_journal : {Disk : Type 0} (view : Disk → DiskView) (journal : JournalView Disk) (opening : Opening) (id : TableId) (queue : FlowId) (base : List Batch)
@@ -111,7 +112,7 @@ pub fits_journal : {Disk : Type 0} (view : Disk → DiskView) (journal : Journal
     (sends : SendPass) (pops : FlushPass) (parts : PartsView) → FitTogether base next sessions table producer flush seats
     → passes.OpensFlow next flow sends pops
     → record { base = base; next = next; sessions = sessions; table = table_id_of table; queue = passes.flow_id flow; batches = batches; answers = answers } ≡ parts
-    → opening ≡ opening_on view parts.base journal opening.may_stall → parts.table ≡ id → parts.queue ≡ queue → journal.state.next ≡ parts.next
+    → opening ≡ opening_on view parts.base journal opening.start.may_stall → parts.table ≡ id → parts.queue ≡ queue → journal.state.next ≡ parts.next
     → FitJournal view journal opening id queue base next sessions table producer flush seats flow sends pops
 fits_journal view journal opening id queue base next sessions batches answers table producer flush seats flow sends pops parts fit opens are
     opened named queued next_is = record {
@@ -120,7 +121,7 @@ fits_journal view journal opening id queue base next sessions batches answers ta
       named = ap (λ (p : PartsView). p.table) are ∙ named;
       queued = ap (λ (p : PartsView). p.queue) are ∙ queued;
       next_is = same;
-      is = opened ∙ ap (λ (p : PartsView). opening_on view p.base journal opening.may_stall) (sym are);
+      is = opened ∙ ap (λ (p : PartsView). opening_on view p.base journal opening.start.may_stall) (sym are);
     }
   where
     same : next ≡ journal.state.next
@@ -131,7 +132,7 @@ module _ {Disk : Type 0} (tells : Bool) (view : Disk → DiskView) (journal : Jo
     (sends : SendPass) (pops : FlushPass)
     (fits : FitJournal view journal opening id queue base next sessions table producer flush seats flow sends pops) where
   abbrev at : Opening
-  at = opening_on view base journal opening.may_stall
+  at = opening_on view base journal opening.start.may_stall
 
   -- over a journal of no record the commit side enrols nothing
   pub enrols_at_first : (batches : ℕ) → batches ≡ 0
@@ -152,7 +153,7 @@ module _ {Disk : Type 0} (tells : Bool) (view : Disk → DiskView) (journal : Jo
       → Flushes tells id queue opening journal.state (view journal.disk) (flush_table flush) (flush_seat_view flush) (passes.flush_queue pops)
       (passes.take_view pops) answers
   flushes_at_first answers empty stands sound untold =
-      let opened = opened_on tells view base journal opening.may_stall empty fits.fit.base_is stands sound in
+      let opened : IsOpened tells at = record { base = fits.fit.base_is; unbegun = unbegun_on tells view journal opening.start.may_stall empty stands sound } in
       subst (λ (o : Opening). Flushes tells id queue o journal.state (view journal.disk) (flush_table flush) (flush_seat_view flush)
       (passes.flush_queue pops) (passes.take_view pops) answers) (sym fits.is)
       (subst (λ (t : TableId). Flushes tells id queue at journal.state (view journal.disk) t (flush_seat_view flush)
@@ -160,4 +161,4 @@ module _ {Disk : Type 0} (tells : Bool) (view : Disk → DiskView) (journal : Jo
       (subst (λ (q : FlowId). Flushes tells id queue at journal.state (view journal.disk) id (flush_seat_view flush)
       q (passes.take_view pops) answers) (sym (fits.opens.takes_from ∙ fits.queued))
       (flushes_none tells id queue at fits.fit.shards journal.state (view journal.disk) (flush_seat_view flush) (passes.take_view pops) journal.state.next
-      answers opened (kept_opened tells at opened sound.least) refl empty fits.fit.flush_is.1 (fits.opens.taker ∙ ap flush_opened fits.next_is) untold)))
+      answers opened (outcome_begun tells at.start opened.unbegun sound.least) refl empty fits.fit.flush_is.1 (fits.opens.taker ∙ ap flush_opened fits.next_is) untold)))

@@ -50,7 +50,7 @@ session_on table opening seat seat' v v' own_parts own_parts' own own' dead_part
 
 -- What a commit answers where its start refused.
 pub answers_refused : (opening : Opening) (entries : List Entry) (sync : Bool) (v v' : View) (dead dead' told told' : ℕ) (refused : CommitFault)
-    → v.base ≡ opening.journal.next → v.seat.published ≤ length v.history → StartsCommit opening entries v (Err refused) v'
+    → v.base ≡ opening.start.state.next → v.seat.published ≤ length v.history → StartsCommit opening entries v (Err refused) v'
     → dead' ≡ dead + deaths_started (Err refused) → told' ≡ told + 0 → StartsLiving (dead + told) (Err refused)
     → TellsCommit opening entries sync (standing v dead told) (Err refused) (standing v' dead' told')
 answers_refused opening entries sync v v' dead dead' told told' (fault.Dead side faults) base within (stays, death) more same lives =

@@ -34,9 +34,9 @@ unfolding IsContiguous end_after
 row_end from [] row = refl
 row_end from (b ∷ batches) row = row_end (end_of b) batches row.2 ∙ ap (λ (n : ℕ). ends numbers (n + numbers b) batches (length batches)) row.0
 
-module _ (opening : Opening) (history : List Batch) (count visible : ℕ) (before : EndsBefore opening.base opening.journal.next)
-    (row : IsContiguous opening.journal.next history) (within : count ≤ length history)
-    (end_is : visible ≡ ends numbers opening.journal.next history count) where
+module _ (opening : Opening) (history : List Batch) (count visible : ℕ) (before : EndsBefore opening.base opening.start.state.next)
+    (row : IsContiguous opening.start.state.next history) (within : count ≤ length history)
+    (end_is : visible ≡ ends numbers opening.start.state.next history count) where
   abbrev seen : List Batch
   seen = take count history
 
@@ -44,9 +44,9 @@ module _ (opening : Opening) (history : List Batch) (count visible : ℕ) (befor
   whole = opening.base ++ seen
 
   -- the batches that are seen are in a row
-  seen_row : IsContiguous opening.journal.next seen
-  seen_row = contiguous_front opening.journal.next seen (drop count history)
-      (subst (IsContiguous opening.journal.next) (sym (take-append-drop count history)) row)
+  seen_row : IsContiguous opening.start.state.next seen
+  seen_row = contiguous_front opening.start.state.next seen (drop count history)
+      (subst (IsContiguous opening.start.state.next) (sym (take-append-drop count history)) row)
 
   -- and so are all, from the first of the base on
   whole_row : IsContiguous (first_of opening) whole
@@ -55,15 +55,15 @@ module _ (opening : Opening) (history : List Batch) (count visible : ℕ) (befor
 
   -- They end at the visible number.
   seen_end : visible ≡ end_at opening seen (length seen)
-  seen_end = end_is ∙ sym (ends_take opening.journal.next count count history within (le_refl count))
-      ∙ ap (ends numbers opening.journal.next seen) (sym (length-take-le count history within))
+  seen_end = end_is ∙ sym (ends_take opening.start.state.next count count history within (le_refl count))
+      ∙ ap (ends numbers opening.start.state.next seen) (sym (length-take-le count history within))
 
   -- and so do all
   whole_end : end_after (first_of opening) (take (length whole) whole) ≡ visible
   whole_end = ap (end_after (first_of opening)) (take_all (length whole) whole (le_refl (length whole)))
       ∙ end_append (first_of opening) opening.base seen
       ∙ ap (λ (n : ℕ). end_after n seen) before.ends
-      ∙ row_end opening.journal.next seen seen_row
+      ∙ row_end opening.start.state.next seen seen_row
       ∙ sym seen_end
 
   -- a shard that shows them and the opening's versions below their end answers as the store
@@ -113,8 +113,8 @@ module _ (v v1 w : View) (visible : ℕ) (saw : SeesVisible v visible v1) (same 
       (ap (λ (x : View). x.seat.held) is ∙ ap (λ (x : View). x.seat.held) same_seen ∙ session.idle.0) refl refl refl refl
 
   -- The value is what the store answers after all that is seen then.
-  pub answers_read : (opening : Opening) (key : List ℕ) (value : Option (List ℕ)) (w' : View) (dead told : ℕ) → v.base ≡ opening.journal.next
-      → AreShardsOf v.opening opening.base → EndsBefore opening.base opening.journal.next → ReadsNewest w key visible value w'
+  pub answers_read : (opening : Opening) (key : List ℕ) (value : Option (List ℕ)) (w' : View) (dead told : ℕ) → v.base ≡ opening.start.state.next
+      → AreShardsOf v.opening opening.base → EndsBefore opening.base opening.start.state.next → ReadsNewest w key visible value w'
       → TellsRead opening key (record { visible = visible; value = value }) (standing v dead told) (standing w' dead told)
   answers_read opening key value w' dead told base are before read =
       subst (TellsRead opening key (record { visible = visible; value = value }) (standing v dead told)) (sym stands) record {
@@ -132,10 +132,10 @@ module _ (v v1 w : View) (visible : ℕ) (saw : SeesVisible v visible v1) (same 
       stands : standing w' dead told ≡ standing (visible_view v saw.count saw.history) dead told
       stands = ap (λ (x : View). standing x dead told) read.view ∙ ap (λ (x : View). standing x dead told) same_seen
 
-      row : IsContiguous opening.journal.next saw.history
+      row : IsContiguous opening.start.state.next saw.history
       row = subst (λ (n : ℕ). IsContiguous n saw.history) base saw.row
 
-      end_is : visible ≡ ends numbers opening.journal.next saw.history saw.count
+      end_is : visible ≡ ends numbers opening.start.state.next saw.history saw.count
       end_is = saw.end_is ∙ ap (λ (n : ℕ). ends numbers n saw.history saw.count) base
 
       shows : ShowsBelow v.opening saw.history saw.count visible (shard_of key) read.versions

@@ -19,7 +19,7 @@ use Rattle.commit_pipeline.specs.Standings.{KnowsDeath, Idles, GainsOwn}
 
 -- the end of the n-th batch after the base
 abbrev pub end_at : Opening → List Batch → ℕ → ℕ
-end_at opening batches n = ends numbers opening.journal.next batches n
+end_at opening batches n = ends numbers opening.start.state.next batches n
 
 -- a death is told of on the secondary side, after a failure at least
 abbrev pub TellsDeath : Side → ℕ → Type 0

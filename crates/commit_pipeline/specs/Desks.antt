@@ -13,7 +13,7 @@ use Rattle.commit_pipeline.specs.Commits.{TellsDeath}
 -- A seat of the pipeline's table that holds no batch, with shares of one part each.
 pub record IsIdleDesk (table : TableId) (opening : Opening) (seat : TableId) (v : View) (own_parts dead_parts told_parts : ℕ) : Type 0 where
   pub of_table : seat ≡ table
-  pub base : v.base ≡ opening.journal.next
+  pub base : v.base ≡ opening.start.state.next
   pub idle : HoldsNothing v
   pub none : v.pieces ≡ []
   pub within : v.seat.published ≤ length v.history

@@ -4,10 +4,11 @@ use Rattle.batch_repr.specs.declared.batch.Batch.{Batch}
 use Rattle.batch_repr.specs.declared.limits.TheConstants.{NUMBER_MAX, BATCHES_MAX}
 use Rattle.disk_face.specs.View.{DiskView}
 use Rattle.failover_writer.specs.State.{State, JournalView, acked}
+use Rattle.failover_writer.specs.Outcome.{JournalOutcome}
 use Rattle.publish_core.specs.Machine.{Among}
 use Rattle.commit_queue.specs.declared.view.View.{View}
 use Rattle.commit_queue.specs.Rule.{IsPrefix}
-use Rattle.commit_pipeline.specs.Openings.{Opening, IsOpened, KeepsJournal}
+use Rattle.commit_pipeline.specs.Openings.{Opening, IsOpened}
 use Rattle.commit_pipeline.specs.declared.standing.Standing.{Standing}
 use Rattle.commit_pipeline.specs.Standings.{KnowsDeath}
 use Rattle.commit_pipeline.specs.Commits.{end_at}
@@ -33,7 +34,7 @@ pub record EachOnce (n : ℕ) (places : List ℕ) : Type 0 where
 pub record Finishes (tells : Bool) (opening : Opening) (batches : List Batch) (ss : List Standing) (state : State) (v : DiskView)
     (visible count : ℕ) : Type 0 where
   pub opened : IsOpened tells opening
-  pub keeps : KeepsJournal tells opening batches state v
+  pub keeps : JournalOutcome tells opening.start batches state v
   pub seen : (s : Standing) → Contains ss s → IsPrefix s.seen batches
   pub own : EachOnce (length batches) (owned ss)
   pub acked_is : (s : Standing) → Contains ss s → s.acked ≤ acked state
@@ -54,7 +55,7 @@ EndsPipeline tells view opening ss journal visible count taken =
 
 -- A journal that is given up holds some batches since the opening.
 abbrev pub StillKeeps : {Disk : Type 0} → Bool → (Disk → DiskView) → Opening → JournalView Disk → Type 0
-StillKeeps tells view opening journal = (batches : List Batch) × KeepsJournal tells opening batches journal.state (view journal.disk)
+StillKeeps tells view opening journal = (batches : List Batch) × JournalOutcome tells opening.start batches journal.state (view journal.disk)
 
 -- ---- inside
 

@@ -31,7 +31,9 @@ abbrev pub unnamed_opening : Opening
 unnamed_opening =
     record {
       base = [];
-      journal = unbegun 1 0 1 record { start = 0; records = []; spare = 0 };
-      disk = unnamed_view;
-      may_stall = false;
+      start = record {
+        state = unbegun 1 0 1 record { start = 0; records = []; spare = 0 };
+        disk = unnamed_view;
+        may_stall = false;
+      };
     }

@@ -74,5 +74,5 @@ IsNewSeatOf table next shards seat = (session_table seat ≡ table) × (session_
 pub record AreSeatsOf (table : TableId) (opening : Opening) (seats : List SessionSeat) : Type 0 where
   pub shards : List (List Version)
   pub of_base : AreShardsOf shards opening.base
-  pub ends : EndsBefore opening.base opening.journal.next
-  pub each : All (IsNewSeatOf table opening.journal.next shards) seats
+  pub ends : EndsBefore opening.base opening.start.state.next
+  pub each : All (IsNewSeatOf table opening.start.state.next shards) seats

@@ -6,6 +6,7 @@ use Rattle.failover_writer.specs.declared.fault.Step.{Step}
 use Rattle.failover_writer.specs.declared.fault.JournalFault.{JournalFault}
 use Rattle.failover_writer.specs.State.{State, JournalView, acked}
 use Rattle.failover_writer.specs.Moves.{Pushes}
+use Rattle.failover_writer.specs.Outcome.{JournalStart, JournalOutcome}
 use Rattle.record_queue.specs.declared.node.Filled.{Filled}
 use Rattle.record_flow.specs.declared.rule.FlowView.{FlowView}
 use Rattle.record_flow.specs.Views.{records_of}
@@ -13,7 +14,6 @@ use Rattle.record_flow.specs.Flows.{WasEmpty}
 use Rattle.commit_queue.specs.declared.view.View.{View}
 use Rattle.publish_core.specs.Machine.{one_more}
 use Rattle.commit_queue.specs.Calls.{RaisesAcked}
-use Rattle.commit_pipeline.specs.Openings.{Opening, KeepsJournal}
 use Rattle.commit_pipeline.specs.Logging.{SettlesJournal, FallsUnlessAcked}
 
 -- behind the commit lock: the number that comes next, how many batches are numbered, and the records that were sent
@@ -33,7 +33,7 @@ abbrev pub PushesAll : List Filled → State → State → Type 0
 PushesAll [] old new = new ≡ old
 PushesAll (f ∷ fs) old new = (mid : State) × Pushes f.rec f.sync old mid × PushesAll fs mid new
 
--- These records were taken and pushed, and nothing was written: the journal holds what it held since any opening, and these after it.
+-- These records were taken and pushed, and nothing was written: the journal holds what it held since any start, and these after it.
 pub record MovesThese {Disk : Type 0} (tells : Bool) (view : Disk → DiskView) (moved : List Filled) (flow : FlowView) (old : JournalView Disk)
     (flow' : FlowView) (new : JournalView Disk) : Type 0 where
   pub taken : flow' ≡ record flow { taken = flow.taken ++ moved }
@@ -41,8 +41,8 @@ pub record MovesThese {Disk : Type 0} (tells : Bool) (view : Disk → DiskView) 
   pub disk : new.disk ≡ old.disk
   pub dead : new.state.dead ≡ old.state.dead
   pub acked_is : acked new.state ≡ acked old.state
-  pub holds : (opening : Opening) (batches : List Batch) → KeepsJournal tells opening batches old.state (view old.disk)
-      → KeepsJournal tells opening (batches ++ records_of moved) new.state (view new.disk)
+  pub holds : (start : JournalStart) (batches : List Batch) → JournalOutcome tells start batches old.state (view old.disk)
+      → JournalOutcome tells start (batches ++ records_of moved) new.state (view new.disk)
 
 -- The records that were found on their way were moved.
 abbrev pub MovesNodes : {Disk : Type 0} → Bool → (Disk → DiskView) → FlowView → JournalView Disk → FlowView → JournalView Disk → Type 0

@@ -54,9 +54,9 @@ pub record GainsOwn (batch : Batch) (place : ℕ) (s s' : Standing) : Type 0 whe
 pub record IsSession (table : TableId) (opening : Opening) (seat : TableId) (v : View) (own_parts own_amount dead_parts told_parts : ℕ)
     : Type 0 where
   pub of_table : seat ≡ table
-  pub base : v.base ≡ opening.journal.next
+  pub base : v.base ≡ opening.start.state.next
   pub shards : AreShardsOf v.opening opening.base
-  pub before : EndsBefore opening.base opening.journal.next
+  pub before : EndsBefore opening.base opening.start.state.next
   pub idle : HoldsNothing v
   pub none : v.pieces ≡ []
   pub within : v.seat.published ≤ length v.history

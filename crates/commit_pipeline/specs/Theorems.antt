@@ -4,7 +4,8 @@ use Rattle.batch_repr.specs.declared.batch.Batch.{Batch}
 use Rattle.disk_face.specs.View.{DiskView, files}
 use Rattle.failover_writer.specs.State.{State, acked}
 use Rattle.failover_writer.specs.Keeping.{RecoversTo, KeepsBase}
-use Rattle.commit_pipeline.specs.Openings.{Opening, KeepsJournal}
+use Rattle.failover_writer.specs.Outcome.{JournalOutcome}
+use Rattle.commit_pipeline.specs.Openings.{Opening}
 
 -- Whatever a journal kept as a base at the opening it recovers to, and after it to a prefix of the batches that it holds, with all
 -- that are acked.
@@ -12,6 +13,6 @@ abbrev pub EachOpenedBaseIsKept : Type 0
 EachOpenedBaseIsKept =
     (tells : Bool) (opening : Opening) (batches : List Batch) (state : State) (v : DiskView) (base : List Batch)
     → IsTrue tells
-    → KeepsJournal tells opening batches state v
-    → KeepsBase tells base opening.journal opening.disk
+    → JournalOutcome tells opening.start batches state v
+    → KeepsBase tells base opening.start.state opening.start.disk
     → RecoversTo base batches (acked state) (files v)

@@ -292,7 +292,7 @@ fn audit<M: Ledger>(answers: &mut Book<M>, dead: &mut DeathCount<M>, told: &mut 
 impl<D: StallDisk, N: PipeName, M: Ledger> FlushSide<D, N, M> {
     /// Leaves polls of a side to stall.
     pub(crate) fn stall(&mut self, side: Side, polls: u32)
-        requires { N.opening.may_stall ≡ true }
+        requires { N.opening.start.may_stall ≡ true }
         ensures state { self.new.journal.state ≡ self.old.journal.state }
         ensures flow { self.new.flow ≡ self.old.flow }
         ensures seat { self.new.seat ≡ self.old.seat }

@@ -147,7 +147,7 @@ impl<'a, D: Disk, G: Gate, N: PipeName, M: Ledger> Pipeline<'a, D, G, N, M> {
         parts: Parts,
         gate: &'a G,
     ) -> Result<(Pipeline<'a, D, G, N, M>, Sessions<N, M>), Journal<D>>
-        requires opening { N.opening ≡ opening_on D.view parts.base journal N.opening.may_stall }
+        requires opening { N.opening ≡ opening_on D.view parts.base journal N.opening.start.may_stall }
         requires table { parts.table ≡ N.table }
         requires queue { parts.queue ≡ N.queue }
         requires batches { (parts.batches ≡ N.name) × (parts.sessions ≡ N.parts) }

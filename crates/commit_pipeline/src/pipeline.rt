@@ -280,7 +280,7 @@ impl Numbers {
 impl<'a, D: StallDisk, G: Gate, N: PipeName, M: Ledger> Pipeline<'a, D, G, N, M> {
     /// Leaves polls of a side to stall.
     pub fn stall<R: Wait>(&self, rt: &R, side: Side, polls: u32)
-        requires { N.opening.may_stall ≡ true }
+        requires { N.opening.start.may_stall ≡ true }
     {
         let mut log = self.log.lock.lock(rt);
         log.stall(side, polls);

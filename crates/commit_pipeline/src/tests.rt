@@ -110,7 +110,7 @@ fn with_table<
     A: Act<G> + Sync,
     R: Threads + Wait + Abort + Sync,
 >(rt: &R, alloc: Global, gate: &G, parts: Parts, journal: Journal<D>, act: &A) -> u64
-    requires opening { N.opening ≡ opening_on D.view parts.base journal N.opening.may_stall }
+    requires opening { N.opening ≡ opening_on D.view parts.base journal N.opening.start.may_stall }
     requires table { parts.table ≡ N.table }
     requires queue { parts.queue ≡ N.queue }
     requires batches { (parts.batches ≡ N.name) × (parts.sessions ≡ N.parts) }
@@ -129,7 +129,7 @@ fn with_names<
     A: Act<G> + Sync,
     R: Threads + Wait + Abort + Sync,
 >(rt: &R, alloc: Global, gate: &G, parts: Parts, journal: Journal<D>, act: &A) -> u64
-    requires opening { N.opening ≡ opening_on D.view parts.base journal N.opening.may_stall }
+    requires opening { N.opening ≡ opening_on D.view parts.base journal N.opening.start.may_stall }
     requires table { parts.table ≡ N.table }
     requires queue { parts.queue ≡ N.queue }
     requires batches { (parts.batches ≡ N.name) × (parts.sessions ≡ N.parts) }
@@ -304,7 +304,7 @@ trait Play {
         pipe: &Pipeline<'_, D, NoGate, N, M>,
         sessions: Sessions<N, M>,
     )
-        requires may_stall { N.opening.may_stall ≡ true };
+        requires may_stall { N.opening.start.may_stall ≡ true };
 }
 
 /// Plays with so many sessions over a journal of no record, which is given up as it stands then.
@@ -332,8 +332,8 @@ fn played_table<D: StallDisk + Drop, N: PipeName, P: Play, R: Wait + Abort>(
     journal: Journal<D>,
     play: &mut P,
 ) -> Journal<D>
-    requires opening { N.opening ≡ opening_on D.view parts.base journal N.opening.may_stall }
-    requires may_stall { N.opening.may_stall ≡ true }
+    requires opening { N.opening ≡ opening_on D.view parts.base journal N.opening.start.may_stall }
+    requires may_stall { N.opening.start.may_stall ≡ true }
     requires table { parts.table ≡ N.table }
     requires queue { parts.queue ≡ N.queue }
     requires batches { (parts.batches ≡ N.name) × (parts.sessions ≡ N.parts) }
@@ -351,8 +351,8 @@ fn played_names<D: StallDisk + Drop, N: PipeName, M: Ledger, P: Play, R: Wait + 
     journal: Journal<D>,
     play: &mut P,
 ) -> Journal<D>
-    requires opening { N.opening ≡ opening_on D.view parts.base journal N.opening.may_stall }
-    requires may_stall { N.opening.may_stall ≡ true }
+    requires opening { N.opening ≡ opening_on D.view parts.base journal N.opening.start.may_stall }
+    requires may_stall { N.opening.start.may_stall ≡ true }
     requires table { parts.table ≡ N.table }
     requires queue { parts.queue ≡ N.queue }
     requires batches { (parts.batches ≡ N.name) × (parts.sessions ≡ N.parts) }
@@ -381,7 +381,7 @@ impl Play for SyncsStalled {
         pipe: &Pipeline<'_, D, NoGate, N, M>,
         sessions: Sessions<N, M>,
     )
-        requires may_stall { N.opening.may_stall ≡ true }
+        requires may_stall { N.opening.start.may_stall ≡ true }
     {
         let mut sessions = sessions;
         pipe.stall(rt, Side::Primary, self.polls);

@@ -26,6 +26,8 @@ use Rattle.failover_writer.specs.Stepping.{NoneBusy, WantsMore, Polls, first, no
 use Rattle.failover_writer.specs.Answered.{StepsBy, StepsOn, MovesOn, IsIdle, IsMarked, FaultsRose, PollsFell, last_answer}
 use Rattle.failover_writer.specs.Closing.{Drains, Moves}
 use Rattle.failover_writer.specs.Lasting.{Lasts}
+use Rattle.failover_writer.specs.Outcome.{ComesTo, at_start, asked}
+use Rattle.failover_writer.proofs.ComesTo.{comes_further}
 use Rattle.failover_writer.proofs.Segments.{all_from, not_theirs}
 use Rattle.failover_writer.proofs.Releases.{acked_within}
 use Rattle.failover_writer.proofs.Passes.{passes_still, passes_further}
@@ -129,10 +131,13 @@ fell_after before between after one fell = (fell.0, omega (arith, fell.1, one.po
 
 module _ {Disk : Type 0} (tells : Bool) (view : Disk → DiskView) where
   -- A call that changes nothing but what is asked for.
-  pub lasts_beside : (old : JournalView Disk) (want : ℕ) → ((records : List Batch) → StandsFor tells records old.state (view old.disk)
+  pub lasts_beside : (old : JournalView Disk) (want : ℕ)
+      → ComesTo old.state (view old.disk) (record old.state { want = want }) (view old.disk)
+      → ((records : List Batch) → StandsFor tells records old.state (view old.disk)
       → StandsFor tells records (record old.state { want = want }) (view old.disk))
       → Lasts tells view old (record old { state = record old.state { want = want } })
-  lasts_beside old want keeps = record {
+  lasts_beside old want comes keeps = record {
+    comes = comes;
     setting = record { wal = refl; base = refl; threshold = refl; next = refl; end = refl };
     acked = omega arith;
     harmed = λ harmed. inl harmed;
@@ -145,10 +150,11 @@ module _ {Disk : Type 0} (tells : Bool) (view : Disk → DiskView) where
   }
 
   pub lasts_none : (old : JournalView Disk) → Lasts tells view old old
-  lasts_none old = lasts_beside old old.state.want (λ records stands. stands)
+  lasts_none old = lasts_beside old old.state.want at_start (λ records stands. stands)
 
   pub lasts_further : (old mid new : JournalView Disk) → Lasts tells view old mid → Lasts tells view mid new → Lasts tells view old new
   lasts_further old mid new one two = record {
+    comes = comes_further one.comes two.comes;
     setting = end_further old.state mid.state new.state one.setting two.setting;
     acked = omega (arith, one.acked, two.acked);
     harmed = λ harmed. elim (two.harmed harmed) [
@@ -280,7 +286,7 @@ module _ {Disk : Type 0} (tells : Bool) (view : Disk → DiskView) (old new : Jo
     (drains : Drains tells view (asking old) new answer) where
   pub closed_lasts : Lasts tells view old new
   closed_lasts = lasts_further tells view old (asking old) new (lasts_beside tells view old (len old.state)
-      (λ records. asking_stands tells records old.state (view old.disk))) drains.lasts
+      (asked old.state (view old.disk) at_start) (λ records. asking_stands tells records old.state (view old.disk))) drains.lasts
 
   pub closed_synced : Stands tells old.state (view old.disk) → OnOk answer (acked new.state ≡ len new.state)
   closed_synced stands = on_ok_weaker answer (λ rests. all_acked tells stands.0 new.state (view new.disk)

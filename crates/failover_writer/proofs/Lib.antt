@@ -25,7 +25,9 @@ mod Accounted
 mod Covers
 mod HasGivenUp
 mod Falls
+mod ComesTo
 mod Lasts
+mod Outcome
 mod IsOpening
 mod ReadsAsImage
 mod Limits

@@ -7,12 +7,14 @@ use Rattle.failover_writer.specs.State.{JournalView, acked, broken_count}
 use Rattle.failover_writer.specs.Setting.{KeepsEnd}
 use Rattle.failover_writer.specs.Ranges.{StandsFor, KeepsRecords}
 use Rattle.failover_writer.specs.Answered.{IsHarmed, IsSmooth, IsUnstalled, FaultsRose, PollsFell, RoseBy}
+use Rattle.failover_writer.specs.Outcome.{ComesTo}
 use Rattle.failover_writer.specs.Keeping.{KeepsRun, RecoversTo, IsOpenedOn, KeepsBase, KeepsBases, Passes}
 
--- What steps leave as it was, and what they tell of the disk: so much holds of one, and of several one after another. The
--- journal is harmed only where faults rose, and stays smooth where none rose and no poll was pending. Faults that covered its
+-- What steps come to, what they leave as it was, and what they tell of the disk: so much holds of one, and of several one after
+-- another. The journal is harmed only where faults rose, and stays smooth where none rose and no poll was pending. Faults that covered its
 -- failures since a moment cover them still, and none of its segments is left by a stall where no poll was pending.
 pub record Lasts {Disk : Type 0} (tells : Bool) (view : Disk → DiskView) (old new : JournalView Disk) : Type 0 where
+  pub comes : ComesTo old.state (view old.disk) new.state (view new.disk)
   pub setting : KeepsEnd old.state new.state
   pub acked : acked old.state ≤ acked new.state
   pub harmed : IsHarmed new.state → IsHarmed old.state ⊎ FaultsRose (view old.disk) (view new.disk)

@@ -12,3 +12,4 @@ pub mod Inside
 pub mod Closing
 pub mod Theorems
 pub mod Running
+pub mod Outcome

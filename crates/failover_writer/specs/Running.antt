@@ -1,5 +1,5 @@
 -- What the journal of a run leaves, and how it ends (docs/formats/program.md, "The journal of a run").
-use Rattle.std.specs.Prelude.{◌<◌, ◌≡◌, ◌≢◌, ◌≤◌, Bool, IsTrue, List, Some, [], is_some, length, ℕ}
+use Rattle.std.specs.Prelude.{◌<◌, ◌≡◌, ◌≢◌, ◌≤◌, Bool, IsTrue, List, Some, [], ℕ}
 use Rattle.batch_repr.specs.declared.batch.Batch.{Batch}
 use Rattle.crc_chunk.specs.Chunk.{IsChunkOf}
 use Rattle.disk_face.specs.declared.Side.{Side}
@@ -11,10 +11,7 @@ use Rattle.disk_face.specs.declared.names.TheConstants.{WAL_MAX}
 use Rattle.wal_recovery.specs.Listing.{IsNextWal}
 use Rattle.wal_recovery.specs.Resting.{IsAsOrSynced, OnlySynced, IsStable}
 use Rattle.failover_writer.specs.Answered.{FaultsRose}
-use Rattle.failover_writer.specs.State.{State, acked}
-use Rattle.failover_writer.specs.Ranges.{StandsFor}
 use Rattle.failover_writer.specs.Keeping.{IsElsewhere, RecoversTo, RecoversWith}
-use Rattle.failover_writer.specs.declared.fault.JournalEnd.{JournalEnd}
 
 -- No file but the segments of the WAL changed, unless by a sync.
 abbrev pub OthersOnlySynced : ℕ → Files → Files → Type 0
@@ -27,17 +24,6 @@ AreOthersStable wal files = (side : Side) (name : SegName) (f : File) → IsSegm
 -- some poll may still be answered pending
 abbrev pub PollsLeft : DiskView → Type 0
 PollsLeft view = (side : Side) × (0 < view.polls_left side)
-
--- These are the numbers and the mark of a journal of the batches, with this threshold, as it stands on the disk.
-pub record EndsOf (threshold : ℕ) (tells : Bool) (wal first : ℕ) (batches : List Batch) (end : JournalEnd) (v : DiskView) : Type 0 where
-  pub journal : State
-  pub stands : StandsFor tells batches journal v
-  pub wal_is : journal.wal ≡ wal
-  pub base_is : journal.base ≡ first
-  pub threshold_is : journal.threshold ≡ threshold
-  pub acked_is : end.acked ≡ acked journal
-  pub segments_is : end.segments ≡ length journal.segments
-  pub died_is : end.died ≡ is_some journal.dead
 
 -- The journal of the batches stands in the next WAL of the directories, where the disk tells its files. No other file changed but
 -- by a sync, and no file at all where there is no batch. Where the files were at rest, whatever a crash leaves recovers to the base

@@ -25,12 +25,12 @@ last_true false b h = h
 -- ---- the rounds that stall
 
 -- An opening allows the stalls of the rounds where it allows some as soon as one of them stalls.
-pub allowed : (opening : Opening) (rounds : List Round) → (IsTrue (list_any has_stalls rounds) → IsTrue opening.may_stall) → AllowsStalls opening rounds
+pub allowed : (opening : Opening) (rounds : List Round) → (IsTrue (list_any has_stalls rounds) → IsTrue opening.start.may_stall) → AllowsStalls opening rounds
 allowed opening [] may = tt
 allowed opening (round ∷ rounds) may =
     (one round.stalls refl, allowed opening rounds (λ h. may (last_true (has_stalls round) (list_any has_stalls rounds) h)))
   where
-    one : (stalls : List StallLine) → round.stalls ≡ stalls → (round.stalls ≡ []) ⊎ IsTrue opening.may_stall
+    one : (stalls : List StallLine) → round.stalls ≡ stalls → (round.stalls ≡ []) ⊎ IsTrue opening.start.may_stall
     one [] is = inl is
     one (stall ∷ stalls) is = inr (may (first_true (has_stalls round) (list_any has_stalls rounds) (ap stalls_any is)))
 

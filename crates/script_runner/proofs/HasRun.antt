@@ -1,4 +1,4 @@
--- What the journal of a run came to, by what it keeps of its opening.
+-- What the journal of a run came to, by what became of it since its start.
 use Rattle.std.proofs.Common.{◌≡◌, ◌≢◌, ◌⊎◌, inl, inr, ℕ, suc, ◌<◌, ◌≤◌, ◌-◌, Bool, true, false, List, [], ◌∷◌, length, map, Option, Some, None, IsTrue, ap, sym, subst, ◌∙◌, refl, arith}
 use Rattle.std.specs.Prelude.{is_some, max, Contains}
 use Rattle.std.specs.List.{AllByRecursion}
@@ -12,40 +12,43 @@ use Rattle.log_writer.specs.Fits.{place_of_writer}
 use Rattle.stall_monitor.specs.declared.verdict.TheConstants.{SEGMENTS_MAX}
 use Rattle.failover_writer.specs.declared.fault.DeadMark.{DeadMark}
 use Rattle.failover_writer.specs.State.{State, JournalView, unbegun, acked, most_synced, broken_count}
-use Rattle.failover_writer.specs.Ranges.{AreJoined}
+use Rattle.failover_writer.specs.Ranges.{AreJoined, StandsFor}
 use Rattle.failover_writer.specs.Answered.{FaultsRose, IsSmooth, IsUnstalled, RoseBy}
 use Rattle.failover_writer.specs.Keeping.{IsElsewhere, OthersStay, IsOpening, KeepsBase, RecoversTo}
 use Rattle.failover_writer.specs.Running.{PollsLeft, OthersSame}
 use Rattle.failover_writer.specs.Sound.{CountsLeaveFew}
-use Rattle.failover_writer.proofs.Laws.{counts_leave_few, rose_by_less, len_is, synced_within, not_theirs, base_recovers, run_kept_now, none_of_opening, reads_as_image}
+use Rattle.failover_writer.proofs.Laws.{counts_leave_few, rose_by_less, len_is, synced_within, not_theirs, outcome_recovers, reads_as_image}
 use Rattle.session_script.specs.declared.replies.RunEnd.{RunEnd}
 use Rattle.session_script.specs.declared.script.Round.{Round}
-use Rattle.commit_pipeline.specs.Openings.{Opening, MayStall, KeepsJournal}
-use Rattle.script_runner.specs.Runs.{WasClosed, StallsSome, EndsRunAs, HasRun, TellsJournal, run_opening}
+use Rattle.failover_writer.specs.Outcome.{JournalStart, IsUnbegun, MayStall, JournalOutcome}
+use Rattle.script_runner.specs.Runs.{WasClosed, StallsSome, EndsRunAs, HasRun, TellsJournal, run_start}
 use Rattle.script_runner.proofs.AllowsStalls.{some_stall}
 
 -- ---- the opening
 
--- A run's opening is that of a journal which was started over the disk, of this threshold, WAL and first number.
-pub record IsStarted (threshold : ℕ) (tells : Bool) (opening : Opening) (wal first : ℕ) (rounds : List Round) : Type 0 where
-  pub wal_is : opening.journal.wal ≡ wal
-  pub base_is : opening.journal.base ≡ first
-  pub threshold_is : opening.journal.threshold ≡ threshold
-  pub stay : OthersStay (files opening.disk) opening.journal (files opening.disk)
-  pub keeps : (base : List Batch) → IsOpening wal first base (files opening.disk) → KeepsBase tells base opening.journal opening.disk
-  pub may : IsTrue opening.may_stall → StallsSome rounds
+-- A run's journal was started over the disk, with this threshold, WAL and first number.
+pub record IsStarted (threshold : ℕ) (tells : Bool) (start : JournalStart) (wal first : ℕ) (rounds : List Round) : Type 0 where
+  pub started_as : start.state ≡ unbegun wal first threshold start.state.queue
+  pub empty : IsUnbegun tells start
+  pub stay : OthersStay (files start.disk) start.state (files start.disk)
+  pub keeps : (base : List Batch) → IsOpening wal first base (files start.disk) → KeepsBase tells base start.state start.disk
+  pub may : IsTrue start.may_stall → StallsSome rounds
 
-pub is_started : {Disk : Type 0} (threshold : ℕ) (tells : Bool) (view : Disk → DiskView) (base : List Batch) (rounds : List Round)
+pub is_started : {Disk : Type 0} (threshold : ℕ) (tells : Bool) (view : Disk → DiskView) (rounds : List Round)
     (wal first : ℕ) (disk : Disk) (journal : JournalView Disk) → journal ≡ record { disk = disk; state = unbegun wal first threshold journal.state.queue }
-    → OthersStay (files (view disk)) journal.state (files (view journal.disk))
+    → StandsFor tells [] journal.state (view journal.disk) → OthersStay (files (view disk)) journal.state (files (view journal.disk))
     → ((b : List Batch) → IsOpening wal first b (files (view disk)) → KeepsBase tells b journal.state (view journal.disk))
-    → IsStarted threshold tells (run_opening view base rounds journal) wal first rounds
-is_started threshold tells view base rounds wal first disk journal made stay keeps =
+    → IsStarted threshold tells (run_start view rounds journal) wal first rounds
+is_started threshold tells view rounds wal first disk journal made stands stay keeps =
     let same : disk ≡ journal.disk = sym (ap (λ (j : JournalView _). j.disk) made) in
     record {
-      wal_is = ap (λ (j : JournalView _). j.state.wal) made;
-      base_is = ap (λ (j : JournalView _). j.state.base) made;
-      threshold_is = ap (λ (j : JournalView _). j.state.threshold) made;
+      started_as = ap (λ (j : JournalView _). j.state) made;
+      empty = record {
+        empty = stands;
+        none_begun = ap (λ (j : JournalView _). j.state.segments) made;
+        lives = ap (λ (j : JournalView _). j.state.dead) made;
+        none_left = ap (λ (j : JournalView _). j.state.left_by_stall) made;
+      };
       stay = subst (λ (d : _). OthersStay (files (view d)) journal.state (files (view journal.disk))) same stay;
       keeps = λ b opens. keeps b (subst (λ (d : _). IsOpening wal first b (files (view d))) (sym same) opens);
       may = some_stall rounds;
@@ -63,14 +66,14 @@ stand_apart wal index synced (w ∷ ws) p joined elsewhere = (
   stand_apart wal (suc index) (max synced w.synced) ws p joined.2 elsewhere,
 )
 
-module _ (threshold : ℕ) (tells : Bool) (opening : Opening) (wal first : ℕ) (rounds : List Round) (own : List Batch) (state : State) (v : DiskView)
-    (started : IsStarted threshold tells opening wal first rounds) (r : KeepsJournal tells opening own state v) where
+module _ (threshold : ℕ) (tells : Bool) (start : JournalStart) (wal first : ℕ) (rounds : List Round) (own : List Batch) (state : State) (v : DiskView)
+    (started : IsStarted threshold tells start wal first rounds) (r : JournalOutcome tells start own state v) where
   wal_same : state.wal ≡ wal
-  wal_same = r.wal_is ∙ started.wal_is
+  wal_same = r.wal_is ∙ ap (λ (s : State). s.wal) started.started_as
 
-  pub run_others : IsTrue tells → OthersSame wal (files opening.disk) (files v)
+  pub run_others : IsTrue tells → OthersSame wal (files start.disk) (files v)
   run_others told p elsewhere =
-      r.others told (files opening.disk) started.stay p (not_theirs state.segments p (stand_apart state.wal 0 0 state.segments p r.stands.joined
+      r.others told (files start.disk) started.stay p (not_theirs state.segments p (stand_apart state.wal 0 0 state.segments p r.stands.joined
       (subst (λ (n : ℕ). IsElsewhere n p) (sym wal_same) elsewhere)))
 
   -- ---- the end
@@ -107,8 +110,8 @@ module _ (threshold : ℕ) (tells : Bool) (opening : Opening) (wal first : ℕ) 
       acked_none (nil_from_length state.segments none),
     )
 
-    more : IsSmooth state ⊎ (FaultsRose opening.disk v ⊎ MayStall opening) → 1 < length state.segments
-        → FaultsRose opening.disk v ⊎ (PollsLeft opening.disk ⊎ StallsSome rounds)
+    more : IsSmooth state ⊎ (FaultsRose start.disk v ⊎ MayStall start) → 1 < length state.segments
+        → FaultsRose start.disk v ⊎ (PollsLeft start.disk ⊎ StallsSome rounds)
     more (inl s) many = absurd (omega (arith, s.few, many))
     more (inr (inl rose)) many = inl rose
     more (inr (inr (inl left))) many = inr (inl left)
@@ -118,13 +121,13 @@ module _ (threshold : ℕ) (tells : Bool) (opening : Opening) (wal first : ℕ) 
     few = counts_leave_few state told_end.sound
 
     -- so many faults, or a stall
-    faults_or : IsUnstalled state ⊎ MayStall opening → (n : ℕ) → (IsUnstalled state → n ≤ broken_count state)
-        → RoseBy n opening.disk v ⊎ (PollsLeft opening.disk ⊎ StallsSome rounds)
-    faults_or (inl still) n less = inl (rose_by_less (broken_count state) n opening.disk v (less still) r.covers)
+    faults_or : IsUnstalled state ⊎ MayStall start → (n : ℕ) → (IsUnstalled state → n ≤ broken_count state)
+        → RoseBy n start.disk v ⊎ (PollsLeft start.disk ⊎ StallsSome rounds)
+    faults_or (inl still) n less = inl (rose_by_less (broken_count state) n start.disk v (less still) r.covers)
     faults_or (inr (inl left)) n less = inr (inl left)
     faults_or (inr (inr may)) n less = inr (inr (started.may may))
 
-    ends : EndsRunAs rounds (length own) end opening.disk v
+    ends : EndsRunAs rounds (length own) end start.disk v
     ends = record {
       within = omega (arith, told_end.acked_is, synced_within tells own v 0 state.segments (omega arith) r.stands.fit);
       all = all_own;
@@ -138,37 +141,23 @@ module _ (threshold : ℕ) (tells : Bool) (opening : Opening) (wal first : ℕ) 
       ten_faults = λ d. faults_or r.unstalled SEGMENTS_MAX (λ still. omega (arith, few.dead (dead d), still.left));
     }
 
-    not_broken : (FaultsRose opening.disk v → ⊥) → broken_count state ≡ 0
+    not_broken : (FaultsRose start.disk v → ⊥) → broken_count state ≡ 0
     not_broken calm = elim (dec_le 1 (broken_count state)) [
       | yes some ↦ absurd (calm (r.harmed (inr some)))
       | no none ↦ omega (arith, none)
     ]
 
-    recovers : IsTrue tells → (base : List Batch) → IsOpening wal first base (files opening.disk) → RecoversTo base own end.acked (files v)
-    recovers told base opens =
-        let keeps = r.kept base (started.keeps base opens) in
-        subst (λ (n : ℕ). RecoversTo base own n (files v)) (sym told_end.acked_is)
-        (base_recovers state.wal state.base own base (acked state) keeps.opening (files v) keeps.begun
-        (run_kept_now tells own keeps.opening state v told r.stands
-        (record { absent = none_of_opening state.wal state.base base keeps.opening keeps.begun; others = keeps.others told })))
+    recovers : IsTrue tells → (base : List Batch) → IsOpening wal first base (files start.disk) → RecoversTo base own end.acked (files v)
+    recovers told base opens = subst (λ (n : ℕ). RecoversTo base own n (files v)) (sym told_end.acked_is)
+        (outcome_recovers tells start own state v base told r (started.keeps base opens))
 
-    pub has_run : HasRun threshold tells opening.disk wal first rounds own end v
+    pub has_run : HasRun tells start.disk wal first rounds own end v
     has_run = record {
       ends = ends;
-      of = record {
-        journal = state;
-        stands = r.stands;
-        wal_is = wal_same;
-        base_is = r.base_is ∙ started.base_is;
-        threshold_is = r.threshold_is ∙ started.threshold_is;
-        acked_is = told_end.acked_is;
-        segments_is = told_end.segments_is;
-        died_is = told_end.died_is;
-      };
       others = run_others;
-      nothing = λ told empty p. r.others told (files opening.disk) started.stay p
+      nothing = λ told empty p. r.others told (files start.disk) started.stay p
           (λ has. let none : Contains [] p = subst (λ (ws : List Writer). Contains (map place_of_writer ws) p) (none_begun empty) has in omega (arith, none.1));
       recovers = recovers;
-      read = λ told rested calm. reads_as_image tells own (files opening.disk) state v told r.stands (not_broken calm) rested
-          (r.others told (files opening.disk) started.stay);
+      read = λ told rested calm. reads_as_image tells own (files start.disk) state v told r.stands (not_broken calm) rested
+          (r.others told (files start.disk) started.stay);
     }

@@ -3,13 +3,13 @@ use Rattle.std.proofs.Common.{◌≡◌, ℕ, Bool, List, [], ◌∷◌, length,
 use Rattle.batch_repr.specs.declared.batch.Batch.{Batch}
 use Rattle.batch_repr.specs.declared.limits.TheConstants.{NUMBER_FIRST}
 use Rattle.batch_repr.specs.Batches.{IsContiguous, end_after}
-use Rattle.disk_face.specs.declared.Side.{Side}
 use Rattle.disk_face.specs.View.{DiskView}
-use Rattle.disk_face.specs.Script.{TellsOf}
-use Rattle.failover_writer.specs.State.{JournalView}
+use Rattle.disk_face.specs.Script.{TellsOf, BeginsOver}
+use Rattle.failover_writer.specs.State.{JournalView, unbegun}
 use Rattle.session_script.specs.Script.{NameSessions}
 use Rattle.session_script.specs.declared.replies.RunEnd.{RunEnd}
-use Rattle.commit_pipeline.specs.Openings.{Opening, first_number, first_of, KeepsJournal}
+use Rattle.failover_writer.specs.Outcome.{JournalStart, JournalOutcome}
+use Rattle.commit_pipeline.specs.Openings.{Opening, first_number, first_of}
 use Rattle.commit_pipeline.specs.declared.standing.Standing.{Standing}
 use Rattle.commit_pipeline.specs.Parts.{AreNew}
 use Rattle.commit_pipeline.specs.Ending.{EndsPipeline}
@@ -17,7 +17,7 @@ use Rattle.script_runner.specs.declared.run.Outcome.{Outcome}
 use Rattle.script_runner.specs.declared.performing.Told.{Told}
 use Rattle.script_runner.specs.declared.work.Work.{Work}
 use Rattle.script_runner.specs.Works.{work_rounds, halts, PerformsWork}
-use Rattle.script_runner.specs.Runs.{SaysRun, HasRun, RunsWork, run_opening, GoesOnKept, EndsJournal, RunsOver}
+use Rattle.script_runner.specs.Runs.{SaysRun, HasRun, RunsWork, run_start, run_opening, GoesOnKept, EndsJournal, RunsOver}
 use Rattle.script_runner.proofs.HasRun.{IsStarted, has_run}
 use Rattle.script_runner.proofs.SaysRun.{says_run}
 use Rattle.script_runner.proofs.TellsOf.{run_told}
@@ -31,8 +31,8 @@ pub runs_over : {Disk : Type 0} (tells : Bool) (view : Disk → DiskView) (base 
 runs_over tells view base work opening old left new ss ss' visible count taken told end is made named done finished goes ended =
     record {
       batches = finished.0;
-      keeps = subst (λ (o : Opening). KeepsJournal tells o finished.0 new.state (view new.disk)) is
-          (goes.keeps opening finished.0 finished.1.keeps);
+      journal = subst (λ (o : Opening). JournalOutcome tells o.start finished.0 new.state (view new.disk)) is
+          (goes.outcome opening.start finished.0 finished.1.keeps);
       says = subst (λ (o : Opening). SaysRun (first_of o) o.base work finished.0 (record { told = told; end = end })) is
           (says_run tells view opening work ss ss' left new visible count told end finished.0 made named done finished.1 goes.acked ended);
       tells_end = ended.tells;
@@ -45,19 +45,32 @@ unfolding IsContiguous end_after
 first_is first next [] row is = is
 first_is first next (batch ∷ base) row is = row.0
 
--- The disk of the journal tells what the disk within tells, at the start and at the end.
+-- The disk of the journal is made over the disk within, and tells at the end what that tells.
 pub runs_work : {Disk : Type 0} (threshold : ℕ) (tells : Bool) (view : Disk → DiskView) (wal next : ℕ) (base : List Batch) (work : Work)
     (journal left : JournalView Disk) (old new : DiskView) (outcome : Outcome) → IsContiguous NUMBER_FIRST base → next ≡ end_after NUMBER_FIRST base
-    → journal.state.next ≡ next → TellsOf old (view journal.disk) → ((side : Side) → (view journal.disk).polls_left side ≡ old.polls_left side)
-    → TellsOf new (view left.disk) → IsStarted threshold tells (run_opening view base (work_rounds work) journal) wal next (work_rounds work)
+    → journal.state.next ≡ next → BeginsOver old (view journal.disk) → TellsOf new (view left.disk)
+    → IsStarted threshold tells (run_start view (work_rounds work) journal) wal next (work_rounds work)
     → RunsOver tells view base work journal left outcome → RunsWork base work wal threshold tells old new outcome
-runs_work threshold tells view wal next base work journal left old new outcome row next_is from before polls after started ran =
-    let opening : Opening = run_opening view base (work_rounds work) journal in
+runs_work threshold tells view wal next base work journal left old new outcome row next_is from before after started ran =
+    let start : JournalStart = run_start view (work_rounds work) journal in
     record {
       batches = ran.batches;
       says = subst (λ (n : ℕ). SaysRun n base work ran.batches outcome) (first_is NUMBER_FIRST journal.state.next base row (from ∙ next_is)) ran.says;
+      of = record {
+        start = start;
+        started_as = subst (λ (n : ℕ). journal.state ≡ unbegun wal n threshold journal.state.queue) next_is started.started_as;
+        empty = started.empty;
+        over_old = before;
+        state = left.state;
+        disk = view left.disk;
+        outcome = ran.journal;
+        over_new = after;
+        acked_is = ran.tells_end.acked_is;
+        segments_is = ran.tells_end.segments_is;
+        died_is = ran.tells_end.died_is;
+      };
       ended =
-          subst (λ (n : ℕ). HasRun threshold tells old wal n (work_rounds work) ran.batches outcome.end new) next_is
-          (run_told old (view journal.disk) (view left.disk) new before polls after threshold tells wal next (work_rounds work) ran.batches outcome.end
-          (has_run threshold tells opening wal next (work_rounds work) ran.batches left.state (view left.disk) started ran.keeps outcome.end ran.tells_end));
+          subst (λ (n : ℕ). HasRun tells old wal n (work_rounds work) ran.batches outcome.end new) next_is
+          (run_told old (view journal.disk) (view left.disk) new before.tells before.polls after tells wal next (work_rounds work) ran.batches outcome.end
+          (has_run threshold tells start wal next (work_rounds work) ran.batches left.state (view left.disk) started ran.journal outcome.end ran.tells_end));
     }

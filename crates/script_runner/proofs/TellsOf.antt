@@ -11,7 +11,6 @@ use Rattle.disk_face.specs.Script.{TellsOf}
 use Rattle.failover_writer.specs.Answered.{FaultsRose, RoseBy}
 use Rattle.failover_writer.specs.Keeping.{IsOpening, RecoversTo}
 use Rattle.failover_writer.specs.Running.{PollsLeft, OthersSame, ReadsAsImage}
-use Rattle.failover_writer.proofs.Laws.{same_stands}
 use Rattle.session_script.specs.declared.replies.RunEnd.{RunEnd}
 use Rattle.session_script.specs.declared.script.Round.{Round}
 use Rattle.script_runner.specs.Runs.{PollsNeverRise, StallsSome, EndsRunAs, HasRun}
@@ -71,21 +70,10 @@ module _ (old start v new : DiskView) (before : TellsOf old start) (polls : (sid
   others_told wal others =
       subst (λ (fs : Files). OthersSame wal fs (files new)) was_files (subst (OthersSame wal (files start)) now_files others)
 
-  pub run_told : (threshold : ℕ) (tells : Bool) (wal first : ℕ) (rounds : List Round) (own : List Batch) (end : RunEnd)
-      → HasRun threshold tells start wal first rounds own end v → HasRun threshold tells old wal first rounds own end new
-  run_told threshold tells wal first rounds own end e = record {
+  pub run_told : (tells : Bool) (wal first : ℕ) (rounds : List Round) (own : List Batch) (end : RunEnd)
+      → HasRun tells start wal first rounds own end v → HasRun tells old wal first rounds own end new
+  run_told tells wal first rounds own end e = record {
     ends = ends_told rounds (length own) end e.ends;
-    of = record {
-      journal = e.of.journal;
-      stands = same_stands tells own e.of.journal v new (record
-          { in_flight = sym after.in_flight; clock = sym after.clock; history = sym after.history }) e.of.stands;
-      wal_is = e.of.wal_is;
-      base_is = e.of.base_is;
-      threshold_is = e.of.threshold_is;
-      acked_is = e.of.acked_is;
-      segments_is = e.of.segments_is;
-      died_is = e.of.died_is;
-    };
     others = λ told. others_told wal (e.others told);
     nothing = λ told empty p.
         let same : files v p ≡ files start p = e.nothing told empty p in

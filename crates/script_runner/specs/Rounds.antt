@@ -14,7 +14,7 @@ use Rattle.script_runner.specs.Transcripts.{NotesReplies, NotesRounds}
 
 -- There is no stall, or the opening allows some.
 abbrev pub AllowsPolls : Opening → List StallLine → Type 0
-AllowsPolls opening stalls = (stalls ≡ []) ⊎ IsTrue opening.may_stall
+AllowsPolls opening stalls = (stalls ≡ []) ⊎ IsTrue opening.start.may_stall
 
 -- The rounds stall polls only where the opening allows it.
 abbrev pub AllowsStalls : Opening → List Round → Type 0

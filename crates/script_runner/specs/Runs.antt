@@ -13,7 +13,8 @@ use Rattle.failover_writer.specs.State.{State, JournalView, len, acked}
 use Rattle.failover_writer.specs.Answered.{FaultsRose, RoseBy}
 use Rattle.failover_writer.specs.Keeping.{RecoversTo, IsOpening}
 use Rattle.failover_writer.specs.Sound.{IsSoundJournal}
-use Rattle.failover_writer.specs.Running.{PollsLeft, EndsOf, OthersSame, ReadsAsImage}
+use Rattle.failover_writer.specs.Running.{PollsLeft, OthersSame, ReadsAsImage}
+use Rattle.failover_writer.specs.Outcome.{JournalStart, start_on, JournalOutcome, EndsOf}
 use Rattle.session_script.specs.declared.replies.RunEnd.{RunEnd}
 use Rattle.session_script.specs.declared.script.Round.{Round}
 use Rattle.session_script.specs.declared.script.StallLine.{StallLine}
@@ -21,7 +22,7 @@ use Rattle.session_script.specs.Load.{live_keys}
 use Rattle.session_script.specs.Legal.{Replied, replies_text, AreLegal}
 use Rattle.session_script.specs.Lasting.{DeathLasts}
 use Rattle.session_script.specs.Theorems.{limit_told, IsLimitedExactly}
-use Rattle.commit_pipeline.specs.Openings.{Opening, first_of, opening_on, KeepsJournal}
+use Rattle.commit_pipeline.specs.Openings.{Opening, first_of}
 use Rattle.script_runner.specs.declared.performing.Told.{Told}
 use Rattle.script_runner.specs.declared.run.Outcome.{Outcome}
 use Rattle.script_runner.specs.declared.work.Work.{Work}
@@ -71,10 +72,8 @@ abbrev pub journal_end : RunEnd → JournalEnd
 journal_end end = record { acked = end.acked; segments = end.segments; died = end.died }
 
 -- The journal of a run was closed, or died, or was left as it was, with these numbers, over the disk as it is now.
-pub record HasRun (threshold : ℕ) (tells : Bool) (start : DiskView) (wal first : ℕ) (rounds : List Round) (own : List Batch) (end : RunEnd)
-    (v : DiskView) : Type 0 where
+pub record HasRun (tells : Bool) (start : DiskView) (wal first : ℕ) (rounds : List Round) (own : List Batch) (end : RunEnd) (v : DiskView) : Type 0 where
   pub ends : EndsRunAs rounds (length own) end start v
-  pub of : EndsOf threshold tells wal first own (journal_end end) v
   pub others : IsTrue tells → OthersSame wal (files start) (files v)
   pub nothing : IsTrue tells → own ≡ [] → (p : Place) → files v p ≡ files start p
   pub recovers : IsTrue tells → (base : List Batch) → IsOpening wal first base (files start) → RecoversTo base own end.acked (files v)
@@ -110,7 +109,8 @@ pub record SaysRun (from : ℕ) (base : List Batch) (work : Work) (batches : Lis
 pub record RunsWork (base : List Batch) (work : Work) (wal threshold : ℕ) (tells : Bool) (old new : DiskView) (outcome : Outcome) : Type 0 where
   pub batches : List Batch
   pub says : SaysRun NUMBER_FIRST base work batches outcome
-  pub ended : HasRun threshold tells old wal (end_after NUMBER_FIRST base) (work_rounds work) batches outcome.end new
+  pub of : EndsOf threshold tells wal (end_after NUMBER_FIRST base) batches (journal_end outcome.end) old new
+  pub ended : HasRun tells old wal (end_after NUMBER_FIRST base) (work_rounds work) batches outcome.end new
 
 -- ---- inside
 
@@ -123,14 +123,17 @@ stalls_any (stall ∷ stalls) = true
 abbrev pub has_stalls : Round → Bool
 has_stalls round = stalls_any round.stalls
 
--- what a run is opened on: more polls may be left to stall where a round stalls some
+-- what a run starts from: more polls may be left to stall where a round stalls some
+abbrev pub run_start : {Disk : Type 0} → (Disk → DiskView) → List Round → JournalView Disk → JournalStart
+run_start view rounds journal = start_on view journal (list_any has_stalls rounds)
+
 abbrev pub run_opening : {Disk : Type 0} → (Disk → DiskView) → List Batch → List Round → JournalView Disk → Opening
-run_opening view base rounds journal = opening_on view base journal (list_any has_stalls rounds)
+run_opening view base rounds journal = record { base = base; start = run_start view rounds journal }
 
 -- The journal keeps what it kept, and no fewer batches are acked.
 pub record GoesOnKept {Disk : Type 0} (tells : Bool) (view : Disk → DiskView) (old new : JournalView Disk) : Type 0 where
-  pub keeps : (opening : Opening) (batches : List Batch) → KeepsJournal tells opening batches old.state (view old.disk)
-      → KeepsJournal tells opening batches new.state (view new.disk)
+  pub outcome : (start : JournalStart) (batches : List Batch) → JournalOutcome tells start batches old.state (view old.disk)
+      → JournalOutcome tells start batches new.state (view new.disk)
   pub acked : acked old.state ≤ acked new.state
 
 -- A journal that was dead is dead.
@@ -158,15 +161,15 @@ pub record EndsJournal {Disk : Type 0} (view : Disk → DiskView) (halted : Bool
   pub dies : RemainsDead old.state new.state
   pub tells : TellsJournal new.state (view new.disk) end
 
--- The journal that is handed on is as it was, or keeps the opening of the run, with some batches.
-abbrev pub HandsOnOver : {Disk : Type 0} → Bool → (Disk → DiskView) → List Batch → List Round → JournalView Disk → JournalView Disk → Type 0
-HandsOnOver tells view base rounds old new = (new ≡ old)
-    ⊎ ((batches : List Batch) × KeepsJournal tells (run_opening view base rounds old) batches new.state (view new.disk))
+-- The journal that is handed on is as it was, or has taken some batches since the start of the run.
+abbrev pub HandsOnOver : {Disk : Type 0} → Bool → (Disk → DiskView) → List Round → JournalView Disk → JournalView Disk → Type 0
+HandsOnOver tells view rounds old new = (new ≡ old)
+    ⊎ ((batches : List Batch) × JournalOutcome tells (run_start view rounds old) batches new.state (view new.disk))
 
 -- Some work was run over a base and a journal: what is said of it, and what its journal came to.
 pub record RunsOver {Disk : Type 0} (tells : Bool) (view : Disk → DiskView) (base : List Batch) (work : Work) (old new : JournalView Disk)
     (outcome : Outcome) : Type 0 where
   pub batches : List Batch
-  pub keeps : KeepsJournal tells (run_opening view base (work_rounds work) old) batches new.state (view new.disk)
+  pub journal : JournalOutcome tells (run_start view (work_rounds work) old) batches new.state (view new.disk)
   pub says : SaysRun (first_of (run_opening view base (work_rounds work) old)) base work batches outcome
   pub tells_end : TellsJournal new.state (view new.disk) outcome.end

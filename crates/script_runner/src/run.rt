@@ -4,12 +4,13 @@ ghost use Rattle.std.specs.Prelude.{◌≡◌, ◌+◌, ◌≤◌, IfOk, OnOk, I
 ghost use Rattle.batch_repr.specs.declared.limits.TheConstants.{NUMBER_FIRST, NUMBER_MAX};
 ghost use Rattle.batch_repr.specs.Batches.{end_after, IsContiguous};
 ghost use Rattle.disk_face.specs.View.{files, NothingInFlight};
+ghost use Rattle.disk_face.specs.Calls.{WentOn};
 ghost use Rattle.disk_face.specs.declared.names.TheConstants.{WAL_MAX};
 ghost use Rattle.stall_monitor.specs.declared.verdict.TheConstants.{THRESHOLD_MAX};
 ghost use Rattle.failover_writer.specs.State.{len};
 ghost use Rattle.failover_writer.specs.Ranges.{AreUnsent};
 ghost use Rattle.failover_writer.specs.Running.{OthersSame};
-ghost use Rattle.commit_pipeline.specs.Openings.{EndsBefore, WentOn};
+ghost use Rattle.commit_pipeline.specs.Openings.{EndsBefore};
 ghost use Rattle.script_runner.specs.Works.{work_rounds, work_sessions, NamesItsOwn};
 ghost use Rattle.script_runner.specs.Runs.{StallNone, PollsNeverRise, GoesOnKept, RemainsDead};
 ghost use Rattle.script_runner.specs.Runs.{IsShutUnless, EndsJournal, run_opening};
@@ -56,7 +57,7 @@ struct Course<D: Disk> {
 
 /// Closes the journal, unless the script halted. A journal that is found dead is closed no further.
 fn close_unless<D: Disk>(journal: &mut Journal<D>, halted: bool) -> Result<(), NoMemory>
-    ensures keeps { GoesOnKept D.tells D.view journal.old journal.new }
+    ensures goes_on { GoesOnKept D.tells D.view journal.old journal.new }
     ensures left { IsTrue halted → journal.new ≡ journal.old }
     ensures dies { OnOk result (RemainsDead journal.old.state journal.new.state) }
     ensures shut { OnOk result (IsShutUnless halted journal.new.state (D.view journal.new.disk)) }
@@ -77,7 +78,7 @@ fn end_journal<D: Disk>(
     visible: u64,
     batches: u64,
 ) -> Result<RunEnd, NoMemory>
-    ensures keeps { GoesOnKept D.tells D.view journal.old journal.new }
+    ensures goes_on { GoesOnKept D.tells D.view journal.old journal.new }
     ensures left { IsTrue halted → journal.new ≡ journal.old }
     ensures ends { IfOk result (EndsJournal D.view halted visible batches journal.old journal.new) }
 {
@@ -108,7 +109,7 @@ fn run_over<D: StallDisk + Send, G: Gate + Sync, R: Threads + Wait + Sync>(
     requires within { journal.state.next ≤ NUMBER_MAX }
     requires base { EndsBefore base journal.state.next }
     requires sessions { NamesItsOwn work }
-    ensures keeps { HandsOnOver D.tells D.view base (work_rounds work) journal result.journal }
+    ensures hands_on { HandsOnOver D.tells D.view (work_rounds work) journal result.journal }
     ensures ran { IfOk result.outcome (RunsOver D.tells D.view base work journal result.journal) }
 {
     let sessions = work.sessions() as usize;
@@ -137,7 +138,7 @@ fn over_table<
     requires empty { len journal.state ≡ 0 }
     requires next { journal.state.next ≡ parts.next }
     requires sessions { NamesItsOwn work × (parts.sessions ≡ work_sessions work) }
-    ensures keeps { HandsOnOver D.tells D.view parts.base (work_rounds work) journal result.journal }
+    ensures hands_on { HandsOnOver D.tells D.view (work_rounds work) journal result.journal }
     ensures ran { IfOk result.outcome (RunsOver D.tells D.view parts.base work journal result.journal) }
 {
     over_names::<D, G, N, Brand, R>(rt, alloc, journal, parts, work, gate)
@@ -159,7 +160,7 @@ fn over_names<
     requires empty { len journal.state ≡ 0 }
     requires next { journal.state.next ≡ parts.next }
     requires sessions { NamesItsOwn work × (parts.sessions ≡ work_sessions work) }
-    ensures keeps { HandsOnOver D.tells D.view parts.base (work_rounds work) journal result.journal }
+    ensures hands_on { HandsOnOver D.tells D.view (work_rounds work) journal result.journal }
     ensures ran { IfOk result.outcome (RunsOver D.tells D.view parts.base work journal result.journal) }
 {
     let (pipe, sessions) = match Pipeline::<D, G, N, M>::new(journal, parts, gate) {

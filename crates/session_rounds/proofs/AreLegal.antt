@@ -103,15 +103,15 @@ module _ (e : End) where
   store_end =
       end_append (first_of e.opening) e.opening.base e.batches
       ∙ ap (λ (n : ℕ). end_after n e.batches) e.before.ends
-      ∙ ap (end_after e.opening.journal.next) (sym (take_all (length e.batches) e.batches (le_refl (length e.batches))))
-      ∙ row_end e.opening.journal.next e.batches (length e.batches) e.row
+      ∙ ap (end_after e.opening.start.state.next) (sym (take_all (length e.batches) e.batches (le_refl (length e.batches))))
+      ∙ row_end e.opening.start.state.next e.batches (length e.batches) e.row
 
 module _ (tells : Bool) (opening : Opening) (batches : List Batch) (last : List Standing) (state : State) (v : DiskView) (visible count : ℕ)
     (died : Bool) (ends : Finishes tells opening batches last state v visible count) (dies : state.dead ≢ None → IsTrue died) where
   -- the journal had no record at the opening
-  pub opening_next : opening.journal.next ≡ opening.journal.base
+  pub opening_next : opening.start.state.next ≡ opening.start.state.base
   unfolding end_after
-  opening_next = ends.opened.empty.next
+  opening_next = ends.opened.unbegun.empty.next
 
   -- what it ended with, and that all sessions are within that
   abbrev pub the_end : End

@@ -80,8 +80,8 @@ pub record End : Type 0 where
   pub batches : List Batch
   pub most : ℕ
   pub died : Bool
-  pub before : EndsBefore opening.base opening.journal.next
-  pub row : IsContiguous opening.journal.next batches
+  pub before : EndsBefore opening.base opening.start.state.next
+  pub row : IsContiguous opening.start.state.next batches
 
 -- What a session was told and has seen is of that end.
 pub record IsWithin (e : End) (s : Standing) : Type 0 where

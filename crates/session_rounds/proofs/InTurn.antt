@@ -45,8 +45,8 @@ module _ (e : End) where
       ap (end_after (first_of e.opening)) (take_after e.opening.base e.batches p)
       ∙ end_append (first_of e.opening) e.opening.base (take p e.batches)
       ∙ ap (λ (n : ℕ). end_after n (take p e.batches)) e.before.ends
-      ∙ row_end e.opening.journal.next e.batches p e.row
-      ∙ sym (at_end_of seen e.batches pre e.opening.journal.next p within)
+      ∙ row_end e.opening.start.state.next e.batches p e.row
+      ∙ sym (at_end_of seen e.batches pre e.opening.start.state.next p within)
 
   -- ---- one line
 

@@ -141,7 +141,7 @@ fn with_table<D: Disk + Drop + Send, N: PipeName + Send + Sync, R: Threads + Wai
     journal: Journal<D>,
     row: Row,
 ) -> Answers
-    requires opening { N.opening ≡ opening_on D.view parts.base journal N.opening.may_stall }
+    requires opening { N.opening ≡ opening_on D.view parts.base journal N.opening.start.may_stall }
     requires table { parts.table ≡ N.table }
     requires queue { parts.queue ≡ N.queue }
     requires batches { (parts.batches ≡ N.name) × (parts.sessions ≡ N.parts) }
@@ -159,7 +159,7 @@ fn with_names<
     M: Ledger + Send + Sync,
     R: Threads + Wait + Abort + Sync,
 >(rt: &R, alloc: Global, parts: Parts, journal: Journal<D>, row: Row) -> Answers
-    requires opening { N.opening ≡ opening_on D.view parts.base journal N.opening.may_stall }
+    requires opening { N.opening ≡ opening_on D.view parts.base journal N.opening.start.may_stall }
     requires table { parts.table ≡ N.table }
     requires queue { parts.queue ≡ N.queue }
     requires batches { (parts.batches ≡ N.name) × (parts.sessions ≡ N.parts) }

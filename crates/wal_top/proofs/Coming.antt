@@ -6,8 +6,8 @@ use Rattle.disk_face.specs.declared.Side.TheVariants.{Primary, Secondary}
 use Rattle.stall_monitor.specs.declared.verdict.TheConstants.{SEGMENTS_MAX}
 use Rattle.disk_face.specs.View.{Place, segment, DiskView, File, Files, files}
 use Rattle.disk_face.specs.Image.{IsSound, IsRested, as_read, dirs_as_read, directories}
-use Rattle.disk_face.specs.Calls.{GoesOn}
-use Rattle.disk_face.proofs.Laws.{rose_later}
+use Rattle.disk_face.specs.Calls.{GoesOn, WentOn}
+use Rattle.disk_face.proofs.Laws.{goes_went, rose_later, went_further}
 use Rattle.log_writer.specs.Fits.{IsUnsent}
 use Rattle.failover_writer.specs.Ranges.{side_at, AreUnsent}
 use Rattle.failover_writer.specs.Answered.{FaultsRose, RoseBy}
@@ -18,13 +18,11 @@ use Rattle.wal_recovery.specs.Recovering.{Recovers}
 use Rattle.wal_recovery.specs.Resting.{AreSegmentsStable, IsAsOrSynced, OnlySynced}
 use Rattle.disk_face.specs.declared.names.TheConstants.{WAL_MAX}
 use Rattle.failover_writer.specs.Running.{OthersOnlySynced, PollsLeft, LogsBatches, OthersSame}
-use Rattle.commit_pipeline.specs.Openings.{WentOn}
-use Rattle.commit_pipeline.proofs.Laws.{went_further}
 use Rattle.script_runner.specs.declared.run.Outcome.{Outcome}
 use Rattle.script_runner.specs.declared.work.Work.{Work}
 use Rattle.script_runner.specs.Works.{work_rounds}
 use Rattle.script_runner.specs.Runs.{PollsNeverRise, StallsSome, EndsRunAs, RunsWork}
-use Rattle.wal_top.specs.Outcomes.{RunsOverDisk}
+use Rattle.wal_top.specs.Outcomes.{WasRecovered, RunsOverDisk}
 
 -- ---- nothing was sent to a segment of the next WAL
 
@@ -65,7 +63,7 @@ are_unsent wal old now v is sound next within only index low high =
 
 pub went_since : (old mid new : DiskView) → GoesOn old mid → WentOn mid new → WentOn old new
 went_since old mid new goes later =
-    went_further old mid new (record { faults = goes.faults; clock = goes.clock; history = goes.history }) later
+    went_further old mid new (goes_went old mid goes) later
 
 pub polls_since : (old mid new : DiskView) → GoesOn old mid → PollsNeverRise mid new → PollsNeverRise old new
 polls_since old mid new goes later side = omega (arith, goes.polls side, later side)
@@ -74,7 +72,7 @@ module _ (old mid new : DiskView) (wal : ℕ) (tells : Bool) (only : IsTrue tell
   pub others_stay : (IsTrue tells → OthersSame wal (files mid) (files new)) → IsTrue tells → OthersOnlySynced wal (files old) (files new)
   others_stay same told p elsewhere = subst (IsAsOrSynced (files old p)) (sym (same told p elsewhere)) (only told p)
 
-  module _ (threshold : ℕ) (base' : List Batch) (work : Work) (ran : Outcome) (goes : GoesOn old mid)
+  module _ (threshold : ℕ) (base' : List Batch) (work : Work) (ran : Outcome) (goes : GoesOn old mid) (was : WasRecovered tells old mid)
       (r : RunsWork base' work wal threshold tells mid new ran) where
     rose_since : FaultsRose mid new → FaultsRose old new
     rose_since (side, rose) = (side, rose_later (old.faults side) (mid.faults side) (new.faults side) (goes.faults side) rose)
@@ -136,7 +134,9 @@ module _ (old mid new : DiskView) (wal : ℕ) (tells : Bool) (only : IsTrue tell
         ends = ends_since;
         wal = wal;
         next = next;
-        of = r.ended.of;
+        recovered = mid;
+        was_recovered = was;
+        of = r.of;
         logs = logs_since;
       }
 

@@ -2,11 +2,10 @@
 use Rattle.disk_face.specs.Image.{directories}
 use Rattle.std.proofs.Common.{◌+◌, ◌≤◌, ℕ, Bool, List, length, Option, IsTrue, inl, refl, sym, ap, subst}
 use Rattle.disk_face.specs.View.{DiskView, files, NothingInFlight}
-use Rattle.disk_face.specs.Calls.{GoesOn, SameDisk}
+use Rattle.disk_face.specs.Calls.{GoesOn, WentOn, SameDisk}
 use Rattle.disk_face.proofs.Laws.{goes_on_from, same_from, moments_from}
 use Rattle.wal_recovery.specs.Listing.{IsNextWal}
 use Rattle.wal_recovery.specs.Resting.{AddsNoImage}
-use Rattle.commit_pipeline.specs.Openings.{WentOn}
 use Rattle.script_runner.specs.Runs.{PollsNeverRise}
 use Rattle.wal_top.specs.declared.reading.TheConstants.{SCRIPT_MAX}
 use Rattle.wal_top.specs.Call.{Invocation, Stays}

@@ -6,7 +6,7 @@ use Rattle.batch_repr.specs.declared.batch.Batch.{Batch}
 use Rattle.batch_repr.specs.declared.limits.TheConstants.{NUMBER_FIRST, NUMBER_MAX, BATCHES_MAX}
 use Rattle.batch_repr.specs.Batches.{end_after}
 use Rattle.disk_face.specs.View.{DiskView, files, NothingInFlight, AtEachMoment}
-use Rattle.disk_face.specs.Calls.{SameDisk}
+use Rattle.disk_face.specs.Calls.{WentOn, SameDisk}
 use Rattle.wal_recovery.specs.declared.reports.Mode.{Mode}
 use Rattle.wal_recovery.specs.declared.fault.RecoverFault.{RecoverFault}
 use Rattle.wal_recovery.specs.Listing.{IsNextWal}
@@ -26,7 +26,6 @@ use Rattle.session_script.specs.declared.script.Script.{Script}
 use Rattle.session_script.specs.Load.{load_rounds}
 use Rattle.session_script.specs.Script.{rounds_numbers, rounds_commits}
 use Rattle.session_script.specs.Theorems.{AsksTooMuch}
-use Rattle.commit_pipeline.specs.Openings.{WentOn}
 use Rattle.script_runner.specs.declared.work.Work.{Work}
 use Rattle.script_runner.specs.declared.work.Work.TheVariants as works
 use Rattle.script_runner.specs.Works.{work_rounds}

@@ -12,7 +12,7 @@ ghost use Rattle.failover_writer.specs.Running.{OthersOnlySynced};
 ghost use Rattle.session_script.specs.declared.fault.ScriptFault.TheVariants as faults;
 ghost use Rattle.session_script.specs.Words.{lines_of};
 ghost use Rattle.session_script.specs.Script.{IsScript, IsFirstBad, NamesItsSessions, script_numbers};
-ghost use Rattle.commit_pipeline.specs.Openings.{WentOn};
+ghost use Rattle.disk_face.specs.Calls.{WentOn};
 ghost use Rattle.script_runner.specs.Runs.{PollsNeverRise};
 ghost use Rattle.wal_top.specs.Call.{change_in};
 ghost use Rattle.wal_top.specs.Parts.{StallsNoneOf, SaysOfBytes};

@@ -7,7 +7,7 @@ ghost use Rattle.disk_face.specs.View.{files, NothingInFlight};
 ghost use Rattle.stall_monitor.specs.declared.verdict.TheConstants.{THRESHOLD_MAX};
 ghost use Rattle.wal_recovery.specs.Listing.{IsNextWal};
 ghost use Rattle.failover_writer.specs.Running.{OthersOnlySynced};
-ghost use Rattle.commit_pipeline.specs.Openings.{WentOn};
+ghost use Rattle.disk_face.specs.Calls.{WentOn};
 ghost use Rattle.script_runner.specs.Runs.{PollsNeverRise};
 ghost use Rattle.command_line.specs.Commands.{AsksToReplay};
 ghost use Rattle.wal_top.specs.Call.{Invocation, change_in, call_of};

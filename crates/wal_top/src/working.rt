@@ -6,7 +6,7 @@ ghost use Rattle.disk_face.specs.View.{files, NothingInFlight};
 ghost use Rattle.stall_monitor.specs.declared.verdict.TheConstants.{THRESHOLD_MAX};
 ghost use Rattle.wal_recovery.specs.Listing.{IsNextWal};
 ghost use Rattle.failover_writer.specs.Running.{OthersOnlySynced};
-ghost use Rattle.commit_pipeline.specs.Openings.{WentOn};
+ghost use Rattle.disk_face.specs.Calls.{WentOn};
 ghost use Rattle.script_runner.specs.Works.{work_rounds, NamesItsOwn};
 ghost use Rattle.script_runner.specs.Runs.{StallNone, PollsNeverRise};
 ghost use Rattle.wal_top.specs.Call.{change_in};

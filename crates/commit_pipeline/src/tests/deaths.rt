@@ -43,7 +43,7 @@ impl Play for DiesForAll {
         pipe: &Pipeline<'_, D, NoGate, N, M>,
         sessions: Sessions<N, M>,
     )
-        requires may_stall { N.opening.may_stall ≡ true }
+        requires may_stall { N.opening.start.may_stall ≡ true }
     {
         let mut sessions = sessions;
         pipe.stall(rt, Side::Primary, self.polls);
@@ -99,7 +99,7 @@ impl Play for DiesAsItWrites {
         pipe: &Pipeline<'_, D, NoGate, N, M>,
         sessions: Sessions<N, M>,
     )
-        requires may_stall { N.opening.may_stall ≡ true }
+        requires may_stall { N.opening.start.may_stall ≡ true }
     {
         let mut sessions = sessions;
         for session in sessions.iter_mut() {

@@ -38,7 +38,7 @@ impl Play for TakesTheLast {
         pipe: &Pipeline<'_, D, NoGate, N, M>,
         sessions: Sessions<N, M>,
     )
-        requires may_stall { N.opening.may_stall ≡ true }
+        requires may_stall { N.opening.start.may_stall ≡ true }
     {
         let mut sessions = sessions;
         let (left, end) = (72_057_594_037_927_934, 72_057_594_037_927_935);

@@ -122,7 +122,7 @@ impl<N: PipeName, M: Ledger> Model for Holding<N, M> {
 
     ghost invariant = { λ s.
         (session_table s.desk.seat ≡ N.table)
-        × ((session_view s.desk.seat).base ≡ N.opening.journal.next)
+        × ((session_view s.desk.seat).base ≡ N.opening.start.state.next)
         × ((session_view s.desk.seat).seat.turn ≡ None)
         × HoldsUnapplied (session_view s.desk.seat) s.pieces
         × IsHeldEnd (session_view s.desk.seat) s.end
@@ -292,7 +292,7 @@ impl Play for Played {
         pipe: &Pipeline<'_, D, NoGate, N, M>,
         sessions: Sessions<N, M>,
     )
-        requires may_stall { N.opening.may_stall ≡ true }
+        requires may_stall { N.opening.start.may_stall ≡ true }
     {
         let mut seats = seats_of(rt, alloc, sessions);
         for round in 0..ROUNDS {

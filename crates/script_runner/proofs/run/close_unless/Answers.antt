@@ -2,14 +2,14 @@
 use Rattle.script_runner.proofs.GoesOnKept.{closed_on}
 use Rattle.script_runner.proofs.run.close_unless.Goals as goal
 
-pub returns-in-Ok-2-clause-keeps : goal.returns-in-Ok-2-clause-keeps
-returns-in-Ok-2-clause-keeps g c =
+pub returns-in-Ok-2-clause-goes_on : goal.returns-in-Ok-2-clause-goes_on
+returns-in-Ok-2-clause-goes_on g c =
     closed_on g.D.Disk.tells g.D.Disk.view c.args.journal.now c.close.new.self c.close.ensures.lasts c.close.ensures.survives
 
-pub returns-in-Ok-clause-keeps : goal.returns-in-Ok-clause-keeps
-returns-in-Ok-clause-keeps g c =
+pub returns-in-Ok-clause-goes_on : goal.returns-in-Ok-clause-goes_on
+returns-in-Ok-clause-goes_on g c =
     closed_on g.D.Disk.tells g.D.Disk.view c.args.journal.now c.close.new.self c.close.ensures.lasts c.close.ensures.survives
 
-pub returns-in-Err-NoMemory-clause-keeps : goal.returns-in-Err-NoMemory-clause-keeps
-returns-in-Err-NoMemory-clause-keeps g c =
+pub returns-in-Err-NoMemory-clause-goes_on : goal.returns-in-Err-NoMemory-clause-goes_on
+returns-in-Err-NoMemory-clause-goes_on g c =
     closed_on g.D.Disk.tells g.D.Disk.view c.args.journal.now c.close.new.self c.close.ensures.lasts c.close.ensures.survives

@@ -2,7 +2,8 @@
 use Rattle.std.proofs.Common.{◌≡◌, ◌∙◌, Bool, IsTrue, refl, ap, sym, subst, arith, rules, length}
 use Rattle.std.specs.Vec.{vec_len}
 use Rattle.record_flow.specs.Passes.{taken_numbers}
-use Rattle.commit_pipeline.specs.Openings.{Opening, KeepsJournal}
+use Rattle.failover_writer.specs.Outcome.{JournalOutcome}
+use Rattle.commit_pipeline.specs.Openings.{Opening}
 use Rattle.commit_pipeline.specs.Parts.{AreNew}
 use Rattle.script_runner.specs.Works.{work_rounds, halts}
 use Rattle.script_runner.specs.Runs.{EndsJournal}
@@ -19,7 +20,7 @@ perform-requires-clause-named g c κs within =
 pub perform-requires-clause-may : goal.perform-requires-clause-may
 perform-requires-clause-may g c κs within =
     allowed g.N.PipeName.opening (work_rounds c.args.work)
-    (λ some. subst IsTrue (sym (ap (λ (o : Opening). o.may_stall) c.requires.opening)) some)
+    (λ some. subst IsTrue (sym (ap (λ (o : Opening). o.start.may_stall) c.requires.opening)) some)
 
 pub finish-journal-requires : goal.finish-journal-requires
 finish-journal-requires g c =
@@ -31,21 +32,21 @@ finish-journal-requires g c =
     ∙ plays_count g.N.PipeName.opening (work_rounds c.args.work) done.replies made done.mid done.plays ∙ c.in-Ok.ensures.sessions.all in
     record { all = (count ∙ c.requires.batches.1, omega (arith, count, c.requires.answers.1)) }
 
-pub returns-in-Ok-end_journal-clause-keeps : goal.returns-in-Ok-end_journal-clause-keeps
-returns-in-Ok-end_journal-clause-keeps g c =
+pub returns-in-Ok-end_journal-clause-hands_on : goal.returns-in-Ok-end_journal-clause-hands_on
+returns-in-Ok-end_journal-clause-hands_on g c =
     let ends = c.finish-journal.ensures in
     let left = c.finish-journal.result.journal in
-    handed_further g.D.Disk.tells g.D.Disk.view c.args.parts.base (work_rounds c.args.work) c.args.journal left c.end_journal.new.journal ends.0
-    (subst (λ (o : Opening). KeepsJournal g.D.Disk.tells o ends.0 left.state (g.D.Disk.view left.disk)) c.requires.opening ends.1.keeps)
-    c.end_journal.ensures.keeps
+    handed_further g.D.Disk.tells g.D.Disk.view (work_rounds c.args.work) c.args.journal left c.end_journal.new.journal ends.0
+    (subst (λ (o : Opening). JournalOutcome g.D.Disk.tells o.start ends.0 left.state (g.D.Disk.view left.disk)) c.requires.opening ends.1.keeps)
+    c.end_journal.ensures.goes_on
 
-pub returns-in-Err-end_journal-clause-keeps : goal.returns-in-Err-end_journal-clause-keeps
-returns-in-Err-end_journal-clause-keeps g c =
+pub returns-in-Err-end_journal-clause-hands_on : goal.returns-in-Err-end_journal-clause-hands_on
+returns-in-Err-end_journal-clause-hands_on g c =
     let ends = c.finish-journal.ensures in
     let left = c.finish-journal.result.journal in
-    handed_further g.D.Disk.tells g.D.Disk.view c.args.parts.base (work_rounds c.args.work) c.args.journal left c.end_journal.new.journal ends.0
-    (subst (λ (o : Opening). KeepsJournal g.D.Disk.tells o ends.0 left.state (g.D.Disk.view left.disk)) c.requires.opening ends.1.keeps)
-    c.end_journal.ensures.keeps
+    handed_further g.D.Disk.tells g.D.Disk.view (work_rounds c.args.work) c.args.journal left c.end_journal.new.journal ends.0
+    (subst (λ (o : Opening). JournalOutcome g.D.Disk.tells o.start ends.0 left.state (g.D.Disk.view left.disk)) c.requires.opening ends.1.keeps)
+    c.end_journal.ensures.goes_on
 
 pub returns-in-Ok-end_journal-clause-ran : goal.returns-in-Ok-end_journal-clause-ran
 returns-in-Ok-end_journal-clause-ran g c =
@@ -59,4 +60,4 @@ returns-in-Ok-end_journal-clause-ran g c =
     runs_over g.D.Disk.tells g.D.Disk.view c.args.parts.base c.args.work g.N.PipeName.opening c.args.journal finished.journal new made
     c.in-Ok-perform.sessions.items finished.visible finished.batches (taken_numbers finished.popped) c.in-Ok-perform.told c.in-Ok-end_journal.end c.requires.opening fresh
     (named_own c.args.work (length made) c.requires.sessions.0 (c.in-Ok.ensures.sessions.all ∙ c.requires.sessions.1))
-    c.in-Ok-perform.ensures c.finish-journal.ensures c.end_journal.ensures.keeps ended
+    c.in-Ok-perform.ensures c.finish-journal.ensures c.end_journal.ensures.goes_on ended

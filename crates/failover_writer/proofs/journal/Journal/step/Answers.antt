@@ -9,6 +9,7 @@ use Rattle.failover_writer.specs.Stepping.{was_dead, idle}
 use Rattle.failover_writer.specs.Answered.{AsksInTurn, StepsBy}
 use Rattle.failover_writer.specs.Keeping.{Passes}
 use Rattle.failover_writer.specs.Lasting.{Lasts, Survives}
+use Rattle.failover_writer.specs.Outcome.{at_start, stepped}
 use Rattle.failover_writer.proofs.Passes.{passes_still}
 use Rattle.failover_writer.proofs.Survives.{survives}
 use Rattle.failover_writer.proofs.StepRule.{idle_of, waited_of, dead_of, harmed_of, smooth_of}
@@ -113,6 +114,7 @@ returns-clause-lasts g c =
     let new = c.advance-answer.new.self in
     let by = steps_by g c in
     record {
+      comes = stepped old.state new.state (g.D.Disk.view old.disk) (g.D.Disk.view new.disk) c.advance-answer.result at_start by;
       setting = (goal_kept by.rule).keeps;
       acked = (passes g c).acked;
       harmed = harmed_of old.state new.state (g.D.Disk.view old.disk) (g.D.Disk.view new.disk) c.advance-answer.result by;

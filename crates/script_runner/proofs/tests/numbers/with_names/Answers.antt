@@ -12,4 +12,4 @@ perform-requires-clause-named g c κs within =
 
 pub perform-requires-clause-may : goal.perform-requires-clause-may
 perform-requires-clause-may g c κs within =
-    allowed g.N.PipeName.opening (work_rounds c.args.work) (λ some. subst IsTrue (sym (ap (λ (o : Opening). o.may_stall) c.requires.opening)) refl)
+    allowed g.N.PipeName.opening (work_rounds c.args.work) (λ some. subst IsTrue (sym (ap (λ (o : Opening). o.start.may_stall) c.requires.opening)) refl)
