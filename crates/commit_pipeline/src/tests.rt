@@ -13,7 +13,7 @@ mod numbers;
 mod on_the_way;
 mod stops;
 
-use crate::{Gate, GatePoint, NoGate, Parts, PipeName, Pipeline, Session, Sessions};
+use crate::{Gate, GatePoint, NoGate, Parts, PipeName, Pipeline, Reply, Session, Sessions};
 use batch_repr::{BatchBuilder, Batches, NUMBER_FIRST, Unnumbered};
 use disk_face::{Disk, Side, StallDisk};
 use failover_writer::Journal;
@@ -44,9 +44,7 @@ fn counted(count: &AtomicU64, least: u64) -> bool {
 /// A batch that sets a key of one byte to a value of one byte.
 fn one_set(rt: &impl Abort, alloc: Global, key: u8, value: u8) -> Unnumbered {
     let mut builder = BatchBuilder::new(alloc).expect(rt, "memory");
-    if builder.set(&[key], &[value]).is_err() {
-        panic!(rt; "memory");
-    }
+    assert!(rt; builder.set(&[key], &[value]).is_ok());
     match builder.finish() {
         Ok(batch) => batch,
         Err(_) => panic!(rt; "a batch of one entry"),
@@ -143,11 +141,6 @@ fn with_names<
     each_acts(rt, alloc, &pipe, sessions.as_mut_slice(), act);
     pipe.meet(rt, &mut sessions).expect(rt, "memory");
     let finished = pipe.finish(rt, sessions);
-    assert_eq!(rt;
-        finished.visible,
-        NUMBER_FIRST.wrapping_add(finished.batches)
-    );
-    assert_eq!(rt; finished.journal.len(), finished.batches);
     finished.batches
 }
 
@@ -170,6 +163,36 @@ fn each_acts<
     );
 }
 
+/// A key of one byte is read, and its value is this one.
+fn check_read<D: Disk, G: Gate, N: PipeName, M: Ledger, R: Wait + Abort>(
+    rt: &R,
+    pipe: &Pipeline<'_, D, G, N, M>,
+    session: &mut Session<N, M>,
+    key: u8,
+    value: u8,
+) {
+    let Ok(
+        Reply {
+            value: Some(read),
+            ..
+        },
+    ) = pipe.get(rt, session, &[key])
+    else {
+        panic!(rt; "a value");
+    };
+    assert_eq!(rt; read.as_slice(), [value].as_slice());
+}
+
+/// How many records the journal of a pipeline has, how many of them are acked, and whether it is dead.
+fn state_of<D: Disk, G: Gate, N: PipeName, M: Ledger, R: Wait>(
+    rt: &R,
+    pipe: &Pipeline<'_, D, G, N, M>,
+) -> (u64, u64, bool) {
+    let log = pipe.log.lock.lock(rt);
+    let journal = &log.journal;
+    (journal.len(), journal.acked(), journal.dead().is_some())
+}
+
 /// Each session commits so many batches under its own key, and reads what it wrote.
 #[derive(Drop)]
 struct ReadsItsWrites {
@@ -188,68 +211,87 @@ impl<G: Gate> Act<G> for ReadsItsWrites {
         for value in 0..self.commits {
             let batch = one_set(rt, alloc, key, value);
             let sync = value % 16 == 15;
-            let committed = pipe.commit(rt, session, batch, sync).expect(rt, "a commit");
-            assert_eq!(rt; committed.count, 1);
-            assert_eq!(rt; committed.synced, sync);
-            let reply = pipe.get(rt, session, &[key]).expect(rt, "memory");
-            let read = reply.value.expect(rt, "a value");
-            assert_eq!(rt; read.as_slice(), [value].as_slice());
-            assert!(rt; reply.visible > committed.first);
+            assert!(rt; pipe.commit(rt, session, batch, sync).is_ok());
+            check_read(rt, pipe, session, key, value);
         }
     }
+}
+
+/// So many sessions do so beside one another.
+fn read_beside<R: Threads + Wait + Abort + Sync>(rt: &R, alloc: Global, sessions: u64)
+    requires sessions { (1 ≤ sessions) × (sessions ≤ SESSIONS_MAX) }
+{
+    let act = ReadsItsWrites { commits: 100 };
+    let journal = new_journal(rt, alloc);
+    let batches = run(rt, alloc, &NoGate, journal, sessions as usize, &act);
+    assert_eq!(rt; batches, sessions.wrapping_mul(100));
 }
 
 #[test]
 fn sessions_read_what_they_wrote(rt: HostRuntime) {
-    for sessions in [1usize, 2, 8, 64] {
-        let act = ReadsItsWrites { commits: 100 };
-        let batches = run(
-            &rt,
-            rt.alloc(),
-            &NoGate,
-            new_journal(&rt, rt.alloc()),
-            sessions,
-            &act,
-        );
-        assert_eq!(rt; batches, sessions as u64 * 100);
+    let alloc = rt.alloc();
+    read_beside(&rt, alloc, 1);
+    read_beside(&rt, alloc, 2);
+    read_beside(&rt, alloc, 8);
+    read_beside(&rt, alloc, 64);
+}
+
+/// A point that the session of this number passes, or that each one does.
+#[derive(Clone, Copy)]
+struct Pass {
+    session: Option<u32>,
+    point: GatePoint,
+}
+
+impl Pass {
+    fn is_by(self, session: u32, point: GatePoint) -> bool {
+        let is_meant = match self.session {
+            Some(number) => number == session,
+            None => true,
+        };
+        is_meant && self.point == point
     }
 }
 
-/// A gate that holds one session once it has its number until another one has marked its batch, for
-/// so many turns at most.
+/// A gate that counts each pass of one point, and holds who passes another one until so many are counted, for so many
+/// turns at most.
 #[derive(Drop)]
-struct Held {
-    held: u32,
-    other: u32,
-    marked: AtomicBool,
-    /// How many turns were left as the hold ended.
-    left: AtomicU64,
+struct Turnstile {
+    counts: Pass,
+    holds: Pass,
+    least: u64,
+    count: AtomicU64,
+    /// A hold ran out of turns.
+    late: AtomicBool,
 }
 
-impl Held {
-    fn new(held: u32, other: u32) -> Held {
-        Held {
-            held,
-            other,
-            marked: AtomicBool::new(false),
-            left: AtomicU64::new(0),
+impl Turnstile {
+    fn new(counts: Pass, holds: Pass, least: u64) -> Turnstile {
+        Turnstile {
+            counts,
+            holds,
+            least,
+            count: AtomicU64::new(0),
+            late: AtomicBool::new(false),
         }
+    }
+
+    /// How many are counted, and whether a hold ran out of turns.
+    fn state(&self) -> (u64, bool) {
+        (
+            self.count.load(Ordering::SeqCst),
+            self.late.load(Ordering::SeqCst),
+        )
     }
 }
 
-impl Gate for Held {
+impl Gate for Turnstile {
     fn pass(&self, session: u32, point: GatePoint) {
-        if session == self.other && point == GatePoint::Marked {
-            self.marked.store(true, Ordering::SeqCst);
+        if self.counts.is_by(session, point) {
+            self.count.fetch_add(1, Ordering::SeqCst);
         }
-        if session == self.held && point == GatePoint::Numbered {
-            for turn in 0..TURNS {
-                if self.marked.load(Ordering::SeqCst) {
-                    self.left.store(TURNS - turn, Ordering::SeqCst);
-                    return;
-                }
-                thread::yield_now();
-            }
+        if self.holds.is_by(session, point) && !counted(&self.count, self.least) {
+            self.late.store(true, Ordering::SeqCst);
         }
     }
 }
@@ -269,30 +311,44 @@ impl<G: Gate> Act<G> for CommitsOne {
         session: &mut Session<N, M>,
     ) {
         let batch = one_set(rt, alloc, (session.number % 256) as u8, 0);
-        let committed = pipe
-            .commit(rt, session, batch, self.sync)
-            .expect(rt, "a commit");
-        assert_eq!(rt; committed.synced, self.sync);
+        assert!(rt; pipe.commit(rt, session, batch, self.sync).is_ok());
     }
+}
+
+/// One session of so many is held once it has its number, until another one has marked its batch.
+fn hold_one<R: Threads + Wait + Abort + Sync>(
+    rt: &R,
+    alloc: Global,
+    sessions: u64,
+    held: u32,
+    other: u32,
+)
+    requires sessions { (1 ≤ sessions) × (sessions ≤ SESSIONS_MAX) }
+{
+    let marked = Pass {
+        session: Some(other),
+        point: GatePoint::Marked,
+    };
+    let numbered = Pass {
+        session: Some(held),
+        point: GatePoint::Numbered,
+    };
+    let gate = Turnstile::new(marked, numbered, 1);
+    let journal = new_journal(rt, alloc);
+    let act = CommitsOne { sync: false };
+    let batches = run(rt, alloc, &gate, journal, sessions as usize, &act);
+    assert_eq!(rt; (batches, gate.state()), (sessions, (1, false)));
 }
 
 #[test]
 fn a_session_that_is_held_holds_up_no_other(rt: HostRuntime) {
-    for sessions in [2u32, 8, 64] {
-        for (held, other) in [(0, sessions - 1), (sessions - 1, 0)] {
-            let gate = Held::new(held, other);
-            let batches = run(
-                &rt,
-                rt.alloc(),
-                &gate,
-                new_journal(&rt, rt.alloc()),
-                sessions as usize,
-                &CommitsOne { sync: false },
-            );
-            assert_eq!(rt; batches, u64::from(sessions));
-            assert!(rt; gate.left.load(Ordering::SeqCst) > 0);
-        }
-    }
+    let alloc = rt.alloc();
+    hold_one(&rt, alloc, 2, 0, 1);
+    hold_one(&rt, alloc, 2, 1, 0);
+    hold_one(&rt, alloc, 8, 0, 7);
+    hold_one(&rt, alloc, 8, 7, 0);
+    hold_one(&rt, alloc, 64, 0, 63);
+    hold_one(&rt, alloc, 64, 63, 0);
 }
 
 /// What a thread plays with all sessions of a pipeline, polls of whose disk may be left to stall.
@@ -367,6 +423,9 @@ fn played_names<D: StallDisk + Drop, N: PipeName, M: Ledger, P: Play, R: Wait + 
     pipe.into_journal()
 }
 
+/// So many polls are left to stall.
+const STALLS: &[u32] = &[0, 1, 2, 20];
+
 /// Each session commits one batch with a sync, after so many polls of the primary side were left to stall.
 #[derive(Drop)]
 struct SyncsStalled {
@@ -393,9 +452,10 @@ impl Play for SyncsStalled {
 
 #[test]
 fn a_journal_is_given_up_with_all_batches_though_polls_stalled(rt: HostRuntime) {
-    for polls in [0u32, 1, 2, 20] {
-        let journal = new_journal(&rt, rt.alloc());
-        let journal = play_out(&rt, rt.alloc(), journal, 3, &mut SyncsStalled { polls });
+    let alloc = rt.alloc();
+    for polls in STALLS {
+        let mut play = SyncsStalled { polls: *polls };
+        let journal = play_out(&rt, alloc, new_journal(&rt, alloc), 3, &mut play);
         assert_eq!(rt; journal.len(), 3);
     }
 }

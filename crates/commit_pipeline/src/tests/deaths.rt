@@ -16,15 +16,26 @@ const DEAD: CommitFault = CommitFault::Dead {
     faults: 10,
 };
 
-/// Commits a batch of one entry.
-fn commit<D: StallDisk, N: PipeName, M: Ledger, R: Wait + Abort>(
+/// The same, where the batch was numbered before.
+const UNSYNCED: CommitFault = CommitFault::Unsynced {
+    first: 10,
+    count: 1,
+    side: Side::Secondary,
+    faults: 10,
+};
+
+/// A commit of a batch of one entry is answered so, and leaves no session as one that waits.
+fn check<D: StallDisk, N: PipeName, M: Ledger, R: Wait + Abort>(
     rt: &R,
     alloc: Global,
     pipe: &Pipeline<'_, D, NoGate, N, M>,
     session: &mut Session<N, M>,
     sync: bool,
-) -> Result<Committed, CommitFault> {
-    pipe.commit(rt, session, one_set(rt, alloc, b'a', b'1'), sync)
+    wanted: Result<Committed, CommitFault>,
+) {
+    let batch = one_set(rt, alloc, b'a', b'1');
+    assert_eq!(rt; pipe.commit(rt, session, batch, sync), wanted);
+    assert_eq!(rt; pipe.log.bells.waiting(), 0);
 }
 
 /// The first session commits with a sync that cannot be had, after so many polls were left to stall: where it is none,
@@ -51,20 +62,11 @@ impl Play for DiesForAll {
         pipe.log.bells.wait_for(0, 1);
         for session in sessions.iter_mut() {
             let (sync, wanted) = match session.number {
-                0 => (
-                    true,
-                    CommitFault::Unsynced {
-                        first: 10,
-                        count: 1,
-                        side: Side::Secondary,
-                        faults: 10,
-                    },
-                ),
+                0 => (true, UNSYNCED),
                 1 => (true, DEAD),
                 _ => (false, DEAD),
             };
-            assert_eq!(rt; commit(rt, alloc, pipe, session, sync), Err(wanted));
-            assert_eq!(rt; pipe.log.bells.waiting(), 0);
+            check(rt, alloc, pipe, session, sync, Err(wanted));
         }
     }
 }
@@ -72,13 +74,9 @@ impl Play for DiesForAll {
 #[test]
 fn a_death_is_seen_by_sessions_that_were_not_told(rt: HostRuntime) {
     let alloc = rt.alloc();
-    for polls in [0u32, 1] {
-        let mut fresh = Fresh::new(&rt, alloc);
+    for polls in 0..2u32 {
         // The sync of each segment.
-        for index in 0..10 {
-            fresh.fail_op(&rt, 2 + 3 * index);
-        }
-        let journal = fresh.journal(&rt, alloc, 3);
+        let journal = Fresh::failing(&rt, alloc, 2, 3, 10).journal(&rt, alloc, 3);
         let journal = play_out(&rt, alloc, journal, 3, &mut DiesForAll { polls });
         assert_eq!(&rt; (journal.len(), journal.acked()), (1, 0));
     }
@@ -102,14 +100,14 @@ impl Play for DiesAsItWrites {
         requires may_stall { N.opening.start.may_stall ≡ true }
     {
         let mut sessions = sessions;
+        let numbered = Committed {
+            first: 10,
+            count: 1,
+            synced: false,
+        };
         for session in sessions.iter_mut() {
-            let numbered = Committed {
-                first: 10,
-                count: 1,
-                synced: false,
-            };
-            assert_eq!(rt; commit(rt, alloc, pipe, session, false), Ok(numbered));
-            assert_eq!(rt; commit(rt, alloc, pipe, session, self.sync), Err(DEAD));
+            check(rt, alloc, pipe, session, false, Ok(numbered));
+            check(rt, alloc, pipe, session, self.sync, Err(DEAD));
         }
     }
 }
@@ -117,14 +115,11 @@ impl Play for DiesAsItWrites {
 #[test]
 fn a_death_that_the_own_write_met_is_told_to_the_next_commit(rt: HostRuntime) {
     let alloc = rt.alloc();
-    for sync in [false, true] {
-        let mut fresh = Fresh::new(&rt, alloc);
+    for syncs in 0..2u32 {
         // The creation of each segment.
-        for number in 0..10 {
-            fresh.fail_op(&rt, number);
-        }
-        let journal = fresh.journal(&rt, alloc, 3);
-        let journal = play_out(&rt, alloc, journal, 1, &mut DiesAsItWrites { sync });
+        let journal = Fresh::failing(&rt, alloc, 0, 1, 10).journal(&rt, alloc, 3);
+        let mut play = DiesAsItWrites { sync: syncs == 1 };
+        let journal = play_out(&rt, alloc, journal, 1, &mut play);
         assert_eq!(&rt; (journal.len(), journal.segments()), (1, 10));
     }
 }

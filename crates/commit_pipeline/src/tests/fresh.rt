@@ -26,8 +26,23 @@ impl Fresh {
     }
 
     /// The operation of that number is to fail.
-    pub(crate) fn fail_op(&mut self, rt: &impl Abort, number: u64) {
+    fn fail_op(&mut self, rt: &impl Abort, number: u64) {
         self.disk.fail_op(number).expect(rt, "memory");
+    }
+
+    /// A disk on which so many operations are to fail: the one of this number, and then one in so many.
+    pub(crate) fn failing(
+        rt: &impl Abort,
+        alloc: Global,
+        first: u64,
+        every: u64,
+        count: u64,
+    ) -> Fresh {
+        let mut fresh = Fresh::new(rt, alloc);
+        for place in 0..count {
+            fresh.fail_op(rt, first.wrapping_add(every.wrapping_mul(place)));
+        }
+        fresh
     }
 
     /// A journal of no record over the disk, which stays with it. From so many pending polls on a segment hangs.

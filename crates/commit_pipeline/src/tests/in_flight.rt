@@ -1,19 +1,20 @@
 //! Sessions that number and publish while an operation of the journal is in flight.
-ghost use Rattle.std.specs.Prelude.{◌≡◌};
-ghost use Rattle.batch_repr.specs.declared.limits.TheConstants.{NUMBER_FIRST};
+ghost use Rattle.std.specs.Prelude.{◌≡◌, ◌≤◌};
+ghost use Rattle.batch_repr.specs.declared.limits.TheConstants.{NUMBER_FIRST, SESSIONS_MAX};
 ghost use Rattle.failover_writer.specs.State.{len};
 
 use super::fresh::Fresh;
-use super::{Act, CommitsOne, counted, one_set, run};
-use crate::{Gate, GatePoint, PipeName, Pipeline, Session};
+use super::{Act, CommitsOne, Pass, Turnstile, check_read, counted, one_set, run, state_of};
+use crate::{GatePoint, PipeName, Pipeline, Session};
 use disk_face::{Disk, Side};
 use failover_writer::Journal;
 use mem_disk::MemDisk;
 use std::alloc::Global;
 use std::process::Abort;
 use std::sync::Wait;
-use std::sync::atomic::{AtomicBool, AtomicU64, Ordering};
+use std::sync::atomic::Ordering;
 use std::sync::ledger::Ledger;
+use std::thread::Threads;
 
 /// For so many polls the first operation is in flight: more than the commits of a test make without a wait.
 const POLLS: u32 = 200;
@@ -28,136 +29,85 @@ fn stalled(rt: &impl Abort, alloc: Global, fresh: Fresh) -> Journal<MemDisk>
     journal
 }
 
-/// A gate that has all sessions but the first one begin once the operation for its batch is in flight, and holds the
-/// first one, once it has published, until all others have published and seen that nothing is synced.
-#[derive(Drop)]
-struct InFlight {
-    others: u64,
-    begun: AtomicU64,
-    unsynced: AtomicU64,
-    /// A wait ran out of turns.
-    late: AtomicBool,
-}
-
-impl InFlight {
-    fn new(others: u64) -> InFlight {
-        InFlight {
-            others,
-            begun: AtomicU64::new(0),
-            unsynced: AtomicU64::new(0),
-            late: AtomicBool::new(false),
-        }
-    }
-
-    fn wait_for(&self, count: &AtomicU64, least: u64) {
-        if !counted(count, least) {
-            self.late.store(true, Ordering::SeqCst);
-        }
-    }
-}
-
-impl Gate for InFlight {
-    fn pass(&self, session: u32, point: GatePoint) {
-        if session == 0 && point == GatePoint::Numbered {
-            self.begun.store(1, Ordering::SeqCst);
-        }
-        if session == 0 && point == GatePoint::Published {
-            self.wait_for(&self.unsynced, self.others);
-        }
-    }
-}
-
-/// The first session commits with a sync, and the others without one while its operation is in flight.
+/// The first session commits with a sync, and the others without one while its operation is in flight: they begin once
+/// its batch has a number. It is held, once it has published, until all others have published and seen that nothing is
+/// synced.
 #[derive(Drop)]
 struct CommitsInFlight<'a> {
-    gate: &'a InFlight,
+    gate: &'a Turnstile,
 }
 
-impl<'a> Act<InFlight> for CommitsInFlight<'a> {
+impl<'a> Act<Turnstile> for CommitsInFlight<'a> {
     fn act<D: Disk, N: PipeName, M: Ledger, R: Wait + Abort>(
         &self,
         rt: &R,
         alloc: Global,
-        pipe: &Pipeline<'_, D, InFlight, N, M>,
+        pipe: &Pipeline<'_, D, Turnstile, N, M>,
         session: &mut Session<N, M>,
     ) {
         let key = (session.number % 256) as u8;
+        let is_first = session.number == 0;
+        assert!(rt; is_first || counted(&self.gate.count, 1));
         let batch = one_set(rt, alloc, key, 0);
-        if session.number == 0 {
-            let committed = pipe.commit(rt, session, batch, true).expect(rt, "a commit");
-            assert!(rt; committed.synced);
-            return;
+        assert!(rt; pipe.commit(rt, session, batch, is_first).is_ok());
+        if !is_first {
+            check_read(rt, pipe, session, key, 0);
+            assert_eq!(rt; state_of(rt, pipe).1, 0);
+            self.gate.count.fetch_add(1, Ordering::SeqCst);
         }
-        self.gate.wait_for(&self.gate.begun, 1);
-        let committed = pipe
-            .commit(rt, session, batch, false)
-            .expect(rt, "a commit");
-        let reply = pipe.get(rt, session, &[key]).expect(rt, "memory");
-        assert!(rt; reply.value.is_some() && reply.visible > committed.first);
-        assert_eq!(rt; pipe.log.lock.lock(rt).journal.acked(), 0);
-        self.gate.unsynced.fetch_add(1, Ordering::SeqCst);
     }
+}
+
+/// So many sessions do so: the first one is counted once it has its number, and each other one as it ends.
+fn commit_in_flight<R: Threads + Wait + Abort + Sync>(rt: &R, alloc: Global, sessions: u64)
+    requires sessions { (1 ≤ sessions) × (sessions ≤ SESSIONS_MAX) }
+{
+    let first = Some(0);
+    let numbered = Pass {
+        session: first,
+        point: GatePoint::Numbered,
+    };
+    let published = Pass {
+        session: first,
+        point: GatePoint::Published,
+    };
+    let gate = Turnstile::new(numbered, published, sessions);
+    let act = CommitsInFlight { gate: &gate };
+    let journal = stalled(rt, alloc, Fresh::new(rt, alloc));
+    let batches = run(rt, alloc, &gate, journal, sessions as usize, &act);
+    assert_eq!(rt; (batches, gate.state()), (sessions, (sessions, false)));
 }
 
 #[test]
 fn sessions_number_and_publish_while_an_operation_is_in_flight(rt: HostRuntime) {
     let alloc = rt.alloc();
-    for sessions in [2u64, 8, 64] {
-        let journal = stalled(&rt, alloc, Fresh::new(&rt, alloc));
-        let gate = InFlight::new(sessions - 1);
-        let act = CommitsInFlight { gate: &gate };
-        let batches = run(&rt, alloc, &gate, journal, sessions as usize, &act);
-        assert_eq!(rt; batches, sessions);
-        assert!(rt; !gate.late.load(Ordering::SeqCst));
-        assert_eq!(rt; gate.unsynced.load(Ordering::SeqCst), sessions - 1);
-    }
+    commit_in_flight(&rt, alloc, 2);
+    commit_in_flight(&rt, alloc, 8);
+    commit_in_flight(&rt, alloc, 64);
 }
 
-/// A gate that holds each session, once it has published, until all have published.
-#[derive(Drop)]
-struct Together {
-    sessions: u64,
-    published: AtomicU64,
-    /// A wait ran out of turns.
-    late: AtomicBool,
-}
-
-impl Gate for Together {
-    fn pass(&self, _session: u32, point: GatePoint) {
-        if point == GatePoint::Published {
-            self.published.fetch_add(1, Ordering::SeqCst);
-            if !counted(&self.published, self.sessions) {
-                self.late.store(true, Ordering::SeqCst);
-            }
-        }
-    }
-}
-
-/// A creation, a write and a sync: what is asked for beyond these fails, in each segment, so that a batch that they did
+/// So many sessions commit with a sync, each of which is held, once it has published, until all have published. A
+/// creation, a write and a sync: what is asked for beyond these fails, in each segment, so that a batch that they did
 /// not sync would be answered as unsynced.
+fn sync_together<R: Threads + Wait + Abort + Sync>(rt: &R, alloc: Global, sessions: u64)
+    requires sessions { (1 ≤ sessions) × (sessions ≤ SESSIONS_MAX) }
+{
+    let published = Pass {
+        session: None,
+        point: GatePoint::Published,
+    };
+    let gate = Turnstile::new(published, published, sessions);
+    let journal = stalled(rt, alloc, Fresh::failing(rt, alloc, 3, 1, 37));
+    let act = CommitsOne { sync: true };
+    let batches = run(rt, alloc, &gate, journal, sessions as usize, &act);
+    assert_eq!(rt; (batches, gate.state()), (sessions, (sessions, false)));
+}
+
 #[test]
 fn one_write_and_one_sync_are_for_all_that_wait(rt: HostRuntime) {
     let alloc = rt.alloc();
-    for sessions in [1u64, 2, 16, 64] {
-        let mut fresh = Fresh::new(&rt, alloc);
-        for number in 3..40 {
-            fresh.fail_op(&rt, number);
-        }
-        let gate = Together {
-            sessions,
-            published: AtomicU64::new(0),
-            late: AtomicBool::new(false),
-        };
-        let journal = stalled(&rt, alloc, fresh);
-        let batches = run(
-            &rt,
-            alloc,
-            &gate,
-            journal,
-            sessions as usize,
-            &CommitsOne { sync: true },
-        );
-        assert_eq!(rt; batches, sessions);
-        assert!(rt; !gate.late.load(Ordering::SeqCst));
-    }
+    sync_together(&rt, alloc, 1);
+    sync_together(&rt, alloc, 2);
+    sync_together(&rt, alloc, 16);
+    sync_together(&rt, alloc, 64);
 }

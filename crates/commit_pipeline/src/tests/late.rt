@@ -4,7 +4,7 @@ ghost use Rattle.batch_repr.specs.declared.limits.TheConstants.{NUMBER_FIRST};
 ghost use Rattle.failover_writer.specs.State.{len};
 
 use super::fresh::Fresh;
-use super::{Act, one_set, run};
+use super::{Act, one_set, run, state_of};
 use crate::{CommitFault, Committed, NoGate, PipeName, Pipeline, Session};
 use batch_repr::NUMBER_FIRST;
 use disk_face::{CallLog, Disk, DiskErr, DiskOp, Names, OpId, Progress, SegName, Side};
@@ -14,6 +14,7 @@ use std::alloc::Global;
 use std::process::Abort;
 use std::sync::Wait;
 use std::sync::ledger::Ledger;
+use std::thread::Threads;
 use wal_base::NoMemory;
 
 /// The sync of the first segment, which comes after its creation and its write.
@@ -111,37 +112,40 @@ impl Act<NoGate> for SyncsLate {
         session: &mut Session<N, M>,
     ) {
         let batch = one_set(rt, alloc, b'a', b'1');
-        let answer = pipe.commit(rt, session, batch, true);
-        assert_eq!(rt; answer, self.answer);
-        let log = pipe.log.lock.lock(rt);
-        assert!(rt; log.journal.dead().is_some());
-        assert_eq!(rt; log.journal.acked(), self.acked);
+        assert_eq!(rt; pipe.commit(rt, session, batch, true), self.answer);
+        assert_eq!(rt; state_of(rt, pipe), (1, self.acked, true));
     }
 }
 
-/// The sync of the first segment hangs, and the nine creations after it fail. The step that finds the last of them failed
-/// is the twelfth one that polls the sync.
+/// Such a session over a disk that is late by so many polls. The sync of the first segment hangs, and the nine creations
+/// after it fail.
+fn sync_late<R: Threads + Wait + Abort + Sync>(
+    rt: &R,
+    alloc: Global,
+    polls: u64,
+    answer: Result<Committed, CommitFault>,
+    acked: u64,
+) {
+    let fresh = Fresh::failing(rt, alloc, 3, 1, 9);
+    let journal = late_journal(rt, alloc, fresh, polls);
+    run(rt, alloc, &NoGate, journal, 1, &SyncsLate { answer, acked });
+}
+
+/// The step that finds the last creation failed is the twelfth one that polls the sync.
 #[test]
 fn a_sync_that_ends_as_the_journal_dies_counts(rt: HostRuntime) {
     let alloc = rt.alloc();
-    let synced = Ok(Committed {
+    let synced = Committed {
         first: 10,
         count: 1,
         synced: true,
-    });
-    let unsynced = Err(CommitFault::Unsynced {
+    };
+    let unsynced = CommitFault::Unsynced {
         first: 10,
         count: 1,
         side: Side::Secondary,
         faults: 9,
-    });
-    for (polls, answer, acked) in [(11u64, synced, 1u64), (12, unsynced, 0)] {
-        let mut fresh = Fresh::new(&rt, alloc);
-        for number in 3..12 {
-            fresh.fail_op(&rt, number);
-        }
-        let journal = late_journal(&rt, alloc, fresh, polls);
-        let act = SyncsLate { answer, acked };
-        assert_eq!(rt; run(&rt, alloc, &NoGate, journal, 1, &act), 1);
-    }
+    };
+    sync_late(&rt, alloc, 11, Ok(synced), 1);
+    sync_late(&rt, alloc, 12, Err(unsynced), 0);
 }

@@ -1,6 +1,6 @@
 //! Records that stay on their way to the journal while the flush lock is held.
 
-use super::{Act, TURNS, counted, new_journal, one_set, run};
+use super::{Act, counted, new_journal, one_set, run};
 use crate::{Gate, NoGate, PipeName, Pipeline, Session};
 use disk_face::Disk;
 use memtable_shards::split;
@@ -8,9 +8,8 @@ use record_queue::RecordNode;
 use std::alloc::Global;
 use std::process::Abort;
 use std::sync::Wait;
-use std::sync::atomic::{AtomicBool, AtomicU64, Ordering};
+use std::sync::atomic::{AtomicU64, Ordering};
 use std::sync::ledger::Ledger;
-use std::thread;
 
 /// So many records are on their way at a time: more than a block of the queue has places.
 const MANY: u64 = 100;
@@ -44,20 +43,20 @@ fn commit_unwritten<D: Disk, G: Gate, N: PipeName, M: Ledger, R: Wait + Abort>(
 /// The second session holds the flush lock until the first one has numbered and published all its batches.
 #[derive(Drop)]
 struct SendsMany {
-    is_held: AtomicBool,
+    held: AtomicU64,
     published: AtomicU64,
 }
 
 impl SendsMany {
-    /// Whether the lock is held, within so many turns.
-    fn is_held_soon(&self) -> bool {
-        for _ in 0..TURNS {
-            if self.is_held.load(Ordering::SeqCst) {
-                return true;
-            }
-            thread::yield_now();
-        }
-        false
+    /// Holds the lock. Answers whether so many were published meanwhile, and none was moved.
+    fn holds<D: Disk, G: Gate, N: PipeName, M: Ledger, R: Wait>(
+        &self,
+        rt: &R,
+        pipe: &Pipeline<'_, D, G, N, M>,
+    ) -> bool {
+        let log = pipe.log.lock.lock(rt);
+        self.held.store(1, Ordering::SeqCst);
+        counted(&self.published, MANY) && log.journal.len() == 0
     }
 }
 
@@ -70,13 +69,10 @@ impl<G: Gate> Act<G> for SendsMany {
         session: &mut Session<N, M>,
     ) {
         if session.number == 1 {
-            let log = pipe.log.lock.lock(rt);
-            self.is_held.store(true, Ordering::SeqCst);
-            assert!(rt; counted(&self.published, MANY));
-            assert_eq!(rt; log.journal.len(), 0);
+            assert!(rt; self.holds(rt, pipe));
             return;
         }
-        assert!(rt; self.is_held_soon());
+        assert!(rt; counted(&self.held, 1));
         for place in 0..MANY {
             assert_eq!(rt; commit_unwritten(rt, alloc, pipe, session), place);
             self.published.fetch_add(1, Ordering::SeqCst);
@@ -87,7 +83,7 @@ impl<G: Gate> Act<G> for SendsMany {
 #[test]
 fn no_record_waits_for_the_flush_lock_and_what_is_left_is_finished(rt: HostRuntime) {
     let act = SendsMany {
-        is_held: AtomicBool::new(false),
+        held: AtomicU64::new(0),
         published: AtomicU64::new(0),
     };
     let alloc = rt.alloc();

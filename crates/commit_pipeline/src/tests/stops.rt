@@ -1,10 +1,10 @@
 //! A stop after each call of the journal in a run of eight sessions, which is played by the parts of a commit.
 ghost use Rattle.std.specs.Prelude.{◌≡◌, true};
 
-use super::{Play, new_journal, one_set, play_out};
+use super::{Play, new_journal, one_set, play_out, state_of};
 use crate::desk::Desk;
 use crate::{NoGate, PipeName, Pipeline, Session, Sessions};
-use batch_repr::{Batch, NUMBER_FIRST};
+use batch_repr::{Batch, Batches, NUMBER_FIRST};
 use disk_face::{Disk, SegName, Side, StallDisk};
 use failover_writer::{Journal, Step};
 use mem_disk::{CrashPick, FilePick, FilePicks, MemDisk};
@@ -26,7 +26,7 @@ const COMMITTING: usize = 8;
 const ROUNDS: u64 = 4;
 
 /// So many sessions, one group after another, number before anything is written.
-const GROUPS: [usize; 4] = [1, 2, 3, 2];
+const GROUPS: &[usize] = &[1, 2, 3, 2];
 
 /// More steps than any wait of the run takes.
 const STEPS: u32 = 100;
@@ -211,7 +211,7 @@ fn step_until<D: Disk, N: PipeName, M: Ledger, R: Wait + Abort>(
 ) {
     for _ in 0..STEPS {
         if let Some(acked) = acked
-            && pipe.log.lock.lock(rt).journal.acked() >= acked
+            && state_of(rt, pipe).1 >= acked
         {
             return;
         }
@@ -223,6 +223,35 @@ fn step_until<D: Disk, N: PipeName, M: Ledger, R: Wait + Abort>(
         }
     }
     panic!(rt; "a step of the journal that comes to an end");
+}
+
+/// The next session numbers the next batch of the run.
+fn number_next<D: Disk, N: PipeName, M: Ledger, R: Wait + Abort>(
+    rt: &R,
+    alloc: Global,
+    pipe: &Pipeline<'_, D, NoGate, N, M>,
+    played: &mut Played,
+    idle: &mut Vec<Idle<N, M>>,
+) -> Holding<N, M> {
+    let Some(session) = idle.pop() else {
+        panic!(rt; "a session");
+    };
+    let place = played.numbered;
+    played.numbered = place.wrapping_add(1);
+    played.on_way = played.on_way.wrapping_add(1);
+    session.number(rt, alloc, pipe, place)
+}
+
+/// These sessions publish, one after another.
+fn publish_all<D: Disk, N: PipeName, M: Ledger, R: Wait + Abort>(
+    rt: &R,
+    pipe: &Pipeline<'_, D, NoGate, N, M>,
+    holding: Vec<Holding<N, M>>,
+    done: &mut Vec<Idle<N, M>>,
+) {
+    for held in holding {
+        done.push(held.publish(rt, pipe)).expect(rt, "memory");
+    }
 }
 
 /// So many sessions number, one after another, then the log is written, and then they publish. Answers how many batches
@@ -238,14 +267,9 @@ fn play_group<D: Disk, N: PipeName, M: Ledger, R: Wait + Abort>(
     let mut holding = Vec::new(alloc);
     let mut asked = None;
     for _ in 0..group {
-        let Some(session) = seats.idle.pop() else {
-            panic!(rt; "a session");
-        };
         let place = played.numbered;
-        let held = session.number(rt, alloc, pipe, place);
+        let held = number_next(rt, alloc, pipe, played, &mut seats.idle);
         holding.push(held).expect(rt, "memory");
-        played.numbered = place.wrapping_add(1);
-        played.on_way = played.on_way.wrapping_add(1);
         take_in(rt, pipe, played, true);
         if is_synced(place) {
             asked = Some(played.numbered);
@@ -253,11 +277,22 @@ fn play_group<D: Disk, N: PipeName, M: Ledger, R: Wait + Abort>(
     }
     take_in(rt, pipe, played, false);
     step_until(rt, pipe, played, &mut seats.stepping, None);
-    for held in holding {
-        let idle = held.publish(rt, pipe);
-        seats.done.push(idle).expect(rt, "memory");
-    }
+    publish_all(rt, pipe, holding, &mut seats.done);
     asked
+}
+
+/// The sessions of a run, none of which holds a batch.
+fn idle_of<N: PipeName, M: Ledger>(
+    rt: &impl Abort,
+    alloc: Global,
+    sessions: Sessions<N, M>,
+) -> Vec<Idle<N, M>> {
+    let mut idle = Vec::new(alloc);
+    for session in sessions {
+        let Session { number: _, desk } = session;
+        idle.push(Idle { desk }).expect(rt, "memory");
+    }
+    idle
 }
 
 /// The sessions of a run before its first group.
@@ -266,15 +301,10 @@ fn seats_of<N: PipeName, M: Ledger>(
     alloc: Global,
     sessions: Sessions<N, M>,
 ) -> Seats<N, M> {
-    let mut idle = Vec::new(alloc);
-    for session in sessions {
-        let Session { number: _, desk } = session;
-        idle.push(Idle { desk }).expect(rt, "memory");
-    }
+    let mut idle = idle_of(rt, alloc, sessions);
     let Some(stepping) = idle.pop() else {
         panic!(rt; "a session");
     };
-    assert_eq!(rt; idle.len(), COMMITTING);
     Seats {
         stepping,
         idle,
@@ -304,7 +334,7 @@ impl Play for Played {
             }
             for group in GROUPS {
                 let stopped = self.left == 0;
-                let asked = play_group(rt, alloc, pipe, self, &mut seats, group);
+                let asked = play_group(rt, alloc, pipe, self, &mut seats, *group);
                 if asked.is_some() {
                     step_until(rt, pipe, self, &mut seats.stepping, asked);
                 }
@@ -326,14 +356,6 @@ fn run_stopped<R: Wait + Abort>(rt: &R, alloc: Global, calls: u32) -> (Journal<M
     (journal, played)
 }
 
-/// What a crash leaves after the stable bytes of each segment.
-#[derive(Clone, Copy, Debug, PartialEq, Eq)]
-enum Tail {
-    Nothing,
-    AllSent,
-    LastByteChanged,
-}
-
 fn side_of(index: u32) -> Side {
     if index % 2 == 0 {
         Side::Primary
@@ -347,51 +369,50 @@ fn segment_at(index: u32) -> SegName {
     SegName { wal: 1, index }
 }
 
-/// The bytes sent to a segment after its stable ones, changed as the tail says.
-fn tail_of(
-    rt: &impl Abort,
-    alloc: Global,
-    disk: &MemDisk,
-    least: &MemDisk,
-    index: u32,
-    tail: Tail,
-) -> Option<Blob> {
+/// The bytes sent to a segment after its stable ones.
+fn unstable<'a>(disk: &'a MemDisk, least: &MemDisk, index: u32) -> Option<&'a [u8]> {
     let (side, name) = (side_of(index), segment_at(index));
-    if tail == Tail::Nothing {
-        return None;
-    }
     let stable = match least.content(side, name) {
         Some(bytes) => bytes.len(),
         None => 0,
     };
-    let sent = disk.sent(side, name)?;
-    let mut bytes = Vec::from_slice(alloc, sent.get(stable..)?).expect(rt, "memory");
-    if tail == Tail::LastByteChanged
-        && let Some(last) = bytes.last_mut()
-    {
-        *last ^= 1;
-    }
-    Some(Blob::copy_of(alloc, bytes.as_slice()).expect(rt, "memory"))
+    disk.sent(side, name)?.get(stable..)
 }
 
-/// The pick of an image in which each segment has this tail after its stable bytes, as they stand in that image.
+/// These bytes, the last one of which is changed by so much.
+fn changed(rt: &impl Abort, alloc: Global, bytes: &[u8], change: u8) -> Blob {
+    let mut bytes = Vec::from_slice(alloc, bytes).expect(rt, "memory");
+    if let Some(last) = bytes.last_mut() {
+        *last ^= change;
+    }
+    Blob::copy_of(alloc, bytes.as_slice()).expect(rt, "memory")
+}
+
+/// The pick of an image in which each segment has all its bytes, the last one changed by so much, or those alone that
+/// are stable, as they stand in the least image. No torn chunk deceives there.
 fn pick_of(
     rt: &impl Abort,
     alloc: Global,
     disk: &MemDisk,
     least: &MemDisk,
-    tail: Tail,
+    change: Option<u8>,
 ) -> CrashPick {
     let mut files = FilePicks::new(alloc);
     for index in 0..10 {
+        let tail = match (change, unstable(disk, least, index)) {
+            (Some(change), Some(bytes)) => Some(changed(rt, alloc, bytes, change)),
+            _ => None,
+        };
         let pushed = files.push(FilePick {
             side: side_of(index),
             name: segment_at(index),
-            tail: tail_of(rt, alloc, disk, least, index, tail),
+            tail,
         });
         assert!(rt; pushed.is_ok());
     }
-    CrashPick { files }
+    let pick = CrashPick { files };
+    assert!(rt; disk.chance_free(&pick) == Ok(true));
+    pick
 }
 
 /// The batch of this place of the run is as it was committed.
@@ -407,51 +428,84 @@ fn check_batch(rt: &impl Abort, place: u64, batch: &Batch) {
     }
 }
 
-/// After so many calls of the journal a crash with this tail leaves a prefix of the batches in the order of their
-/// numbers, with all that were acked, and none that no call moved.
-fn crash<R: Wait + Abort>(rt: &R, alloc: Global, calls: u32, tail: Tail) {
+/// The least image that a crash leaves after so many calls of the journal.
+fn least_image<R: Wait + Abort>(rt: &R, alloc: Global, calls: u32) -> MemDisk {
     let none = CrashPick {
         files: FilePicks::new(alloc),
     };
     let (journal, _) = run_stopped(rt, alloc, calls);
-    let least = journal.into_disk().crash(&none).expect(rt, "memory");
+    journal.into_disk().crash(&none).expect(rt, "memory")
+}
+
+/// What is recovered of the image that the pick names.
+fn recovered(
+    rt: &impl Abort,
+    alloc: Global,
+    disk: MemDisk,
+    pick: &CrashPick,
+    calls: u32,
+) -> Batches {
+    let mut image = disk.crash(pick).expect(rt, "memory");
+    match recover(alloc, &mut image, Mode::Strict) {
+        Ok(found) => found.batches,
+        Err(_) => panic!(rt; "after {calls} calls the image recovers"),
+    }
+}
+
+/// These are a prefix of the batches of the run.
+fn check_batches(rt: &impl Abort, batches: &[Batch]) {
+    for (place, batch) in batches.iter().enumerate() {
+        check_batch(rt, place as u64, batch);
+    }
+}
+
+/// After so many calls of the journal a crash with this tail leaves a prefix of the batches in the order of their
+/// numbers, with all that were acked, and none that no call moved.
+fn crash<R: Wait + Abort>(rt: &R, alloc: Global, calls: u32, change: Option<u8>) {
+    let least = least_image(rt, alloc, calls);
     let (journal, played) = run_stopped(rt, alloc, calls);
     let (acked, moved) = (journal.acked(), journal.len());
+    let disk = journal.into_disk();
+    let pick = pick_of(rt, alloc, &disk, &least, change);
+    let found = recovered(rt, alloc, disk, &pick, calls);
+    let count = found.len() as u64;
+    check_batches(rt, found.as_slice());
+    check_counts(rt, &played, calls, moved);
+    assert!(rt;
+        acked <= count && count <= moved,
+        "after {calls} calls {count}"
+    );
+}
+
+/// The run made all calls that it might, and each batch was moved or is on its way.
+fn check_counts(rt: &impl Abort, played: &Played, calls: u32, moved: u64) {
     assert_eq!(rt; (played.left, played.made), (0, calls));
     assert_eq!(rt;
         moved.wrapping_add(u64::from(played.on_way)),
         played.numbered
     );
-    let disk = journal.into_disk();
-    let pick = pick_of(rt, alloc, &disk, &least, tail);
-    assert!(rt; disk.chance_free(&pick).expect(rt, "memory"));
-    let mut image = disk.crash(&pick).expect(rt, "memory");
-    let found = match recover(alloc, &mut image, Mode::Strict) {
-        Ok(found) => found,
-        Err(_) => panic!(rt; "after {calls} calls the image recovers"),
-    };
-    let count = found.batches.len() as u64;
-    assert!(rt;
-        acked <= count && count <= moved,
-        "after {calls} calls {count}"
+}
+
+/// Plays the whole run, and answers how many calls of the journal it makes.
+fn play_whole<R: Wait + Abort>(rt: &R, alloc: Global) -> u32 {
+    let (journal, played) = run_stopped(rt, alloc, 1_000);
+    let batches = ROUNDS * COMMITTING as u64;
+    assert_eq!(rt;
+        (journal.len(), played.numbered, 2 < journal.segments()),
+        (batches, batches, true)
     );
-    for (place, batch) in found.batches.as_slice().iter().enumerate() {
-        check_batch(rt, place as u64, batch);
-    }
+    played.made
 }
 
 #[test]
 fn a_stop_after_each_call_of_the_journal(rt: HostRuntime) {
     let alloc = rt.alloc();
-    let (journal, played) = run_stopped(&rt, alloc, 1_000);
-    let (calls, batches) = (played.made, ROUNDS * COMMITTING as u64);
+    let calls = play_whole(&rt, alloc);
     // One for each batch, and one step at least for each group.
     assert!(rt; 48 <= calls && calls < 1_000);
-    assert!(rt; 2 < journal.segments());
-    assert_eq!(rt; (journal.len(), played.numbered), (batches, batches));
     for made in 0..=calls {
-        for tail in [Tail::Nothing, Tail::AllSent, Tail::LastByteChanged] {
-            crash(&rt, alloc, made, tail);
-        }
+        crash(&rt, alloc, made, None);
+        crash(&rt, alloc, made, Some(0));
+        crash(&rt, alloc, made, Some(1));
     }
 }
