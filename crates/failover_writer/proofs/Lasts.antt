@@ -144,6 +144,7 @@ module _ {Disk : Type 0} (tells : Bool) (view : Disk → DiskView) where
     smooth = λ low smooth. inl (record { lives = smooth.lives; few = smooth.few; segments = smooth.segments });
     covers = λ start covered. covered;
     unstalled = λ low still. inl (record { left = still.left; waiting = still.waiting });
+    hangs = omega arith;
     keeps = keeps;
     passes = passes_still tells old.state (record old.state { want = want }) (view old.disk) refl refl refl;
     goes_on = goes_on_from (view old.disk);
@@ -182,6 +183,7 @@ module _ {Disk : Type 0} (tells : Bool) (view : Disk → DiskView) where
       ]
       | inr fell ↦ inr (fell_before (view old.disk) (view mid.disk) (view new.disk) two.goes_on fell)
     ];
+    hangs = omega (arith, one.hangs, two.hangs);
     keeps = λ records stands. two.keeps records (one.keeps records stands);
     passes = passes_further tells old.state mid.state new.state (view old.disk) (view mid.disk) (view new.disk) one.keeps two.goes_on one.passes two.passes;
     goes_on = goes_on_further (view old.disk) (view mid.disk) (view new.disk) one.goes_on two.goes_on;

@@ -20,6 +20,7 @@ mod RecoversTo
 mod Survives
 mod StepRule
 mod Failures
+mod Hangs
 mod IsSoundJournal
 mod Accounted
 mod Covers

@@ -1,5 +1,5 @@
 -- What each call of a journal does to what became of it since its start.
-use Rattle.std.proofs.Common.{◌≡◌, ◌⊎◌, inl, inr, ℕ, ◌≤◌, Bool, true, false, List, [], ◌∷◌, ◌++◌, length, map, IsTrue, ap, sym, subst, ◌∙◌, refl, arith}
+use Rattle.std.proofs.Common.{◌≡◌, ◌⊎◌, inl, inr, ℕ, ◌+◌, ◌*◌, ◌≤◌, Bool, true, false, List, [], ◌∷◌, ◌++◌, length, map, IsTrue, ap, sym, subst, ◌∙◌, refl, arith}
 use Rattle.std.specs.Prelude.{Contains, count_by}
 use Rattle.std.specs.List.{AllByRecursion}
 use Rattle.batch_repr.specs.declared.batch.Batch.{Batch}
@@ -16,6 +16,7 @@ use Rattle.failover_writer.specs.Answered.{IsHarmed, IsSmooth, IsUnstalled, Faul
 use Rattle.failover_writer.specs.Moves.{Pushes}
 use Rattle.failover_writer.specs.Keeping.{OthersStay, KeepsBase, KeepsBases, RecoversTo}
 use Rattle.failover_writer.specs.Lasting.{Lasts}
+use Rattle.failover_writer.specs.Remaining.{polls_left, waited_on_current, pending_in_all}
 use Rattle.failover_writer.specs.Outcome.{JournalStart, start_on, IsUnbegun, MayStall, ComesTo, at_start, added, roomier, stalled, JournalOutcome}
 use Rattle.failover_writer.specs.Sound.{IsSoundJournal}
 use Rattle.failover_writer.proofs.KeepsRun.{run_kept_now}
@@ -56,11 +57,17 @@ module _ (tells : Bool) (start : JournalStart) where
     smooth = was_smooth r.smooth;
     covers = subst (λ (ws : List Writer). RoseBy (count_by is_broken ws) start.disk v) (sym segments) r.covers;
     unstalled = was_still r.unstalled;
+    hangs = λ never. omega (arith, same_pending, r.hangs never);
     kept = λ b was. keeps b (r.kept b was);
     others = λ told first was p outside. r.others told first was p
         (λ has. outside (subst (λ (ws : List Writer). Contains (map place_of_writer ws) p) (sym segments) has));
   }
     where
+      same_pending : pending_in_all new v ≡ pending_in_all old v
+      same_pending = ap (λ (n : ℕ). n * new.threshold + waited_on_current new.segments + polls_left v) left
+          ∙ ap (λ (n : ℕ). old.left_by_stall * n + waited_on_current new.segments + polls_left v) threshold
+          ∙ ap (λ (ws : List Writer). old.left_by_stall * old.threshold + waited_on_current ws + polls_left v) segments
+
       was_harmed : IsHarmed new → IsHarmed old
       was_harmed (inl died) = inl (λ lives. died (dead ∙ lives))
       was_harmed (inr broken) = inr (subst (λ (ws : List Writer). 1 ≤ count_by is_broken ws) segments broken)
@@ -95,6 +102,7 @@ module _ (tells : Bool) (start : JournalStart) where
     smooth = inr (inr (inr may));
     covers = still_covers r.covers;
     unstalled = inr (inr may);
+    hangs = λ never. let clash : true ≡ false = sym may ∙ never in absurd cc;
     kept = λ b was. keeps_base b (r.kept b was);
     others = λ told first was. subst (λ (fs : Files). OthersStay first state fs) (sym same) (r.others told first was);
   }
@@ -130,6 +138,7 @@ module _ (tells : Bool) (start : JournalStart) where
       smooth = by_smooth r.smooth;
       covers = lasts.covers start.disk r.covers;
       unstalled = by_still r.unstalled;
+      hangs = λ never. omega (arith, lasts.hangs, r.hangs never);
       kept = λ b was. keeps_base b (r.kept b was);
       others = λ told first was. lasts.passes.others first told (r.others told first was);
     }
@@ -234,6 +243,9 @@ outcome_begun tells start unbegun least = record {
   });
   covers = inl (omega (arith, ap (λ (ws : List Writer). count_by is_broken ws) unbegun.none_begun));
   unstalled = inl (record { left = unbegun.none_left; waiting = subst (AllByRecursion _) (sym unbegun.none_begun) tt });
+  hangs = λ never.
+      let none : start.state.left_by_stall * start.state.threshold ≡ 0 * start.state.threshold = ap (λ (n : ℕ). n * start.state.threshold) unbegun.none_left in
+      omega (arith, none, ap waited_on_current unbegun.none_begun);
   kept = λ base keeps. keeps;
   others = λ told first stay. stay;
 }

@@ -8,11 +8,13 @@ use Rattle.failover_writer.specs.Setting.{KeepsEnd}
 use Rattle.failover_writer.specs.Ranges.{StandsFor, KeepsRecords}
 use Rattle.failover_writer.specs.Answered.{IsHarmed, IsSmooth, IsUnstalled, FaultsRose, PollsFell, RoseBy}
 use Rattle.failover_writer.specs.Outcome.{ComesTo}
+use Rattle.failover_writer.specs.Remaining.{pending_in_all}
 use Rattle.failover_writer.specs.Keeping.{KeepsRun, RecoversTo, IsOpenedOn, KeepsBase, KeepsBases, Passes}
 
 -- What steps come to, what they leave as it was, and what they tell of the disk: so much holds of one, and of several one after
 -- another. The journal is harmed only where faults rose, and stays smooth where none rose and no poll was pending. Faults that covered its
--- failures since a moment cover them still, and none of its segments is left by a stall where no poll was pending.
+-- failures since a moment cover them still, none of its segments is left by a stall where no poll was pending, and each that is left
+-- has taken `threshold` pending polls.
 pub record Lasts {Disk : Type 0} (tells : Bool) (view : Disk → DiskView) (old new : JournalView Disk) : Type 0 where
   pub comes : ComesTo old.state (view old.disk) new.state (view new.disk)
   pub setting : KeepsEnd old.state new.state
@@ -22,6 +24,7 @@ pub record Lasts {Disk : Type 0} (tells : Bool) (view : Disk → DiskView) (old 
       ⊎ (FaultsRose (view old.disk) (view new.disk) ⊎ PollsFell (view old.disk) (view new.disk))
   pub covers : (start : DiskView) → RoseBy (broken_count old.state) start (view old.disk) → RoseBy (broken_count new.state) start (view new.disk)
   pub unstalled : 1 ≤ old.state.threshold → IsUnstalled old.state → IsUnstalled new.state ⊎ PollsFell (view old.disk) (view new.disk)
+  pub hangs : pending_in_all new.state (view new.disk) ≤ pending_in_all old.state (view old.disk)
   pub keeps : KeepsRecords tells view old new
   pub passes : Passes tells old.state new.state (view old.disk) (view new.disk)
   pub goes_on : GoesOn (view old.disk) (view new.disk)

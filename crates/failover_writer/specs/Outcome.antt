@@ -14,6 +14,7 @@ use Rattle.failover_writer.specs.Answered.{StepsBy, FaultsRose, IsHarmed, IsSmoo
 use Rattle.failover_writer.specs.Moves.{Pushes}
 use Rattle.failover_writer.specs.Keeping.{OthersStay, KeepsBase}
 use Rattle.failover_writer.specs.Running.{PollsLeft}
+use Rattle.failover_writer.specs.Remaining.{polls_left, pending_in_all}
 
 -- What a journal is started as: its state, its disk as it is then, and whether more polls may be left to stall since.
 pub record JournalStart : Type 0 where
@@ -51,8 +52,9 @@ pub data ComesTo (first : State) (before : DiskView) : State → DiskView → Ty
 
 -- What became of a journal since its start, over its disk as it is now: it has these records, and came here so. An operation failed,
 -- and it died, only where faults rose since; it began a second segment only there, or where a poll may be answered pending. Faults
--- rose by so many at least as it has broken segments, and it left one that was not broken only where a poll may be pending. It keeps
--- each base that it kept at the start, and no file changed since but those of its segments.
+-- rose by so many at least as it has broken segments, and it left one that was not broken only where a poll may be pending: after
+-- `threshold` pending polls, which were taken from those left at the start where no more are left to stall since. It keeps each base
+-- that it kept at the start, and no file changed since but those of its segments.
 pub record JournalOutcome (tells : Bool) (start : JournalStart) (batches : List Batch) (state : State) (v : DiskView) : Type 0 where
   pub stands : StandsFor tells batches state v
   pub comes : ComesTo start.state start.disk state v
@@ -66,6 +68,7 @@ pub record JournalOutcome (tells : Bool) (start : JournalStart) (batches : List 
   pub smooth : IsSmooth state ⊎ (FaultsRose start.disk v ⊎ MayStall start)
   pub covers : RoseBy (broken_count state) start.disk v
   pub unstalled : IsUnstalled state ⊎ MayStall start
+  pub hangs : start.may_stall ≡ false → pending_in_all state v ≤ polls_left start.disk
   pub kept : (base : List Batch) → KeepsBase tells base start.state start.disk → KeepsBase tells base state v
   pub others : IsTrue tells → (at_start : Files) → OthersStay at_start start.state (files start.disk) → OthersStay at_start state (files v)
 

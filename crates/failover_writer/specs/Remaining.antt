@@ -45,6 +45,17 @@ polls_left v = v.polls_left Primary + v.polls_left Secondary
 abbrev pub measure : State → DiskView → ℕ
 measure state v = polls_left v + work state
 
+-- how often the operation on the current segment was answered pending, since it was started
+abbrev pub waited_on_current : List Writer → ℕ
+waited_on_current [] = 0
+waited_on_current (w ∷ []) = w.waiting
+waited_on_current (w ∷ v ∷ writers) = waited_on_current (v ∷ writers)
+
+-- Pending polls, those that were and those that may come: `threshold` for each segment that was left by a stall, those that the
+-- current one has waited, and those that are left. No step makes them more.
+abbrev pub pending_in_all : State → DiskView → ℕ
+pending_in_all state v = state.left_by_stall * state.threshold + waited_on_current state.segments + polls_left v
+
 -- It falls with a step that moves or waits.
 abbrev pub Falls : State → State → DiskView → DiskView → Result Step JournalFault → Type 0
 Falls old new before after answer = IfOk answer (λ step. step ≢ steps.Idle → measure new after < measure old before)

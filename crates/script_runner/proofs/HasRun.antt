@@ -1,5 +1,5 @@
 -- What the journal of a run came to, by what became of it since its start.
-use Rattle.std.proofs.Common.{◌≡◌, ◌≢◌, ◌⊎◌, inl, inr, ℕ, suc, ◌<◌, ◌≤◌, ◌-◌, Bool, true, false, List, [], ◌∷◌, length, map, Option, Some, None, IsTrue, ap, sym, subst, ◌∙◌, refl, arith}
+use Rattle.std.proofs.Common.{◌≡◌, ◌≢◌, ◌⊎◌, inl, inr, ℕ, suc, ◌+◌, ◌*◌, ◌<◌, ◌≤◌, ◌-◌, Bool, true, false, List, [], ◌∷◌, length, map, Option, Some, None, IsTrue, ap, sym, subst, ◌∙◌, refl, arith}
 use Rattle.std.specs.Prelude.{is_some, max, Contains}
 use Rattle.std.specs.List.{AllByRecursion}
 use Rattle.std.proofs.lemmas.List.{nil_from_length}
@@ -15,13 +15,14 @@ use Rattle.failover_writer.specs.State.{State, JournalView, unbegun, acked, most
 use Rattle.failover_writer.specs.Ranges.{AreJoined, StandsFor}
 use Rattle.failover_writer.specs.Answered.{FaultsRose, IsSmooth, IsUnstalled, RoseBy}
 use Rattle.failover_writer.specs.Keeping.{IsElsewhere, OthersStay, IsOpening, KeepsBase, RecoversTo}
+use Rattle.failover_writer.specs.Remaining.{polls_left}
 use Rattle.failover_writer.specs.Running.{PollsLeft, OthersSame}
 use Rattle.failover_writer.specs.Sound.{CountsLeaveFew}
 use Rattle.failover_writer.proofs.Laws.{counts_leave_few, rose_by_less, len_is, synced_within, not_theirs, outcome_recovers, reads_as_image}
 use Rattle.session_script.specs.declared.replies.RunEnd.{RunEnd}
 use Rattle.session_script.specs.declared.script.Round.{Round}
 use Rattle.failover_writer.specs.Outcome.{JournalStart, IsUnbegun, MayStall, JournalOutcome}
-use Rattle.script_runner.specs.Runs.{WasClosed, StallsSome, EndsRunAs, HasRun, TellsJournal, run_start}
+use Rattle.script_runner.specs.Runs.{WasClosed, StallsSome, HasCauses, EndsRunAs, HasRun, TellsJournal, run_start}
 use Rattle.script_runner.proofs.AllowsStalls.{some_stall}
 
 -- ---- the opening
@@ -127,7 +128,26 @@ module _ (threshold : ℕ) (tells : Bool) (start : JournalStart) (wal first : �
     faults_or (inr (inl left)) n less = inr (inl left)
     faults_or (inr (inr may)) n less = inr (inr (started.may may))
 
-    ends : EndsRunAs rounds (length own) end start.disk v
+    threshold_same : state.threshold ≡ threshold
+    threshold_same = r.threshold_is ∙ ap (λ (s : State). s.threshold) started.started_as
+
+    -- Where no round stalls polls, the pending ones were taken from those left at the start.
+    pending : (may : Bool) → start.may_stall ≡ may → (state.left_by_stall * threshold + polls_left v ≤ polls_left start.disk) ⊎ StallsSome rounds
+    pending true is = inr (started.may (subst IsTrue (sym is) refl))
+    pending false is = inl (subst (λ (t : ℕ). state.left_by_stall * t + polls_left v ≤ polls_left start.disk) threshold_same
+        (omega (arith, r.hangs is)))
+
+    causes : HasCauses threshold rounds end start.disk v
+    causes = record {
+      failures = broken_count state;
+      stalls = state.left_by_stall;
+      segments = omega (arith, few.segments, told_end.segments_is);
+      death = λ d. few.dead (dead d);
+      rose = r.covers;
+      pending = pending start.may_stall refl;
+    }
+
+    ends : EndsRunAs threshold rounds (length own) end start.disk v
     ends = record {
       within = omega (arith, told_end.acked_is, synced_within tells own v 0 state.segments (omega arith) r.stands.fit);
       all = all_own;
@@ -139,6 +159,7 @@ module _ (threshold : ℕ) (tells : Bool) (start : JournalStart) (wal first : �
       ten = λ d. told_end.segments_is ∙ ten (dead d);
       each_fault = faults_or r.unstalled (end.segments - 1) (λ still. omega (arith, few.segments, still.left, told_end.segments_is));
       ten_faults = λ d. faults_or r.unstalled SEGMENTS_MAX (λ still. omega (arith, few.dead (dead d), still.left));
+      causes = causes;
     }
 
     not_broken : (FaultsRose start.disk v → ⊥) → broken_count state ≡ 0
@@ -151,7 +172,7 @@ module _ (threshold : ℕ) (tells : Bool) (start : JournalStart) (wal first : �
     recovers told base opens = subst (λ (n : ℕ). RecoversTo base own n (files v)) (sym told_end.acked_is)
         (outcome_recovers tells start own state v base told r (started.keeps base opens))
 
-    pub has_run : HasRun tells start.disk wal first rounds own end v
+    pub has_run : HasRun threshold tells start.disk wal first rounds own end v
     has_run = record {
       ends = ends;
       others = run_others;

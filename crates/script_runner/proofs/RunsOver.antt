@@ -70,7 +70,7 @@ runs_work threshold tells view wal next base work journal left old new outcome r
         died_is = ran.tells_end.died_is;
       };
       ended =
-          subst (λ (n : ℕ). HasRun tells old wal n (work_rounds work) ran.batches outcome.end new) next_is
-          (run_told old (view journal.disk) (view left.disk) new before.tells before.polls after tells wal next (work_rounds work) ran.batches outcome.end
+          subst (λ (n : ℕ). HasRun threshold tells old wal n (work_rounds work) ran.batches outcome.end new) next_is
+          (run_told old (view journal.disk) (view left.disk) new before.tells before.polls after threshold tells wal next (work_rounds work) ran.batches outcome.end
           (has_run threshold tells start wal next (work_rounds work) ran.batches left.state (view left.disk) started ran.journal outcome.end ran.tells_end));
     }

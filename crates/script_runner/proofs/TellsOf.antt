@@ -1,5 +1,5 @@
 -- What a run tells of the disk that a script stalls, told of the disk within.
-use Rattle.std.proofs.Common.{◌≡◌, ◌⊎◌, inl, inr, ℕ, ◌-◌, Bool, List, length, Option, sym, ap, ◌∙◌, arith, subst}
+use Rattle.std.proofs.Common.{◌≡◌, ◌⊎◌, inl, inr, ℕ, ◌+◌, ◌-◌, ◌*◌, ◌≤◌, Bool, List, length, Option, sym, ap, ◌∙◌, arith, subst}
 use Rattle.batch_repr.specs.declared.batch.Batch.{Batch}
 use Rattle.disk_face.specs.declared.Side.{Side}
 use Rattle.disk_face.specs.declared.Side.TheVariants.{Primary, Secondary}
@@ -10,10 +10,11 @@ use Rattle.disk_face.specs.Image.{IsRested}
 use Rattle.disk_face.specs.Script.{TellsOf}
 use Rattle.failover_writer.specs.Answered.{FaultsRose, RoseBy}
 use Rattle.failover_writer.specs.Keeping.{IsOpening, RecoversTo}
+use Rattle.failover_writer.specs.Remaining.{polls_left}
 use Rattle.failover_writer.specs.Running.{PollsLeft, OthersSame, ReadsAsImage}
 use Rattle.session_script.specs.declared.replies.RunEnd.{RunEnd}
 use Rattle.session_script.specs.declared.script.Round.{Round}
-use Rattle.script_runner.specs.Runs.{PollsNeverRise, StallsSome, EndsRunAs, HasRun}
+use Rattle.script_runner.specs.Runs.{PollsNeverRise, StallsSome, HasCauses, EndsRunAs, HasRun}
 
 told_files : (inner outer : DiskView) → TellsOf inner outer → files outer ≡ files inner
 told_files inner outer t = ap (λ (h : ℕ → Files). h outer.clock) t.history ∙ ap inner.history t.clock
@@ -37,17 +38,36 @@ module _ (old start v new : DiskView) (before : TellsOf old start) (polls : (sid
   more_told rounds (inr (inl (side, left))) = inr (inl (side, omega (arith, left, polls side)))
   more_told rounds (inr (inr some)) = inr (inr some)
 
+  rose_by_told : (n : ℕ) → RoseBy n start v → RoseBy n old new
+  rose_by_told n (inl rose) = inl (omega (arith, rose, faults_of Primary, faults_of Secondary, faults_then Primary, faults_then Secondary))
+  rose_by_told n (inr (side, at_end)) = inr (side, omega (arith, at_end, faults_then side))
+
   by_told : (rounds : List Round) (n : ℕ) → RoseBy n start v ⊎ (PollsLeft start ⊎ StallsSome rounds) → RoseBy n old new ⊎ (PollsLeft old ⊎ StallsSome rounds)
-  by_told rounds n (inl (inl rose)) = inl (inl (omega (arith, rose, faults_of Primary, faults_of Secondary, faults_then Primary, faults_then Secondary)))
-  by_told rounds n (inl (inr (side, at_end))) = inl (inr (side, omega (arith, at_end, faults_then side)))
+  by_told rounds n (inl rose) = inl (rose_by_told n rose)
   by_told rounds n (inr (inl (side, left))) = inr (inl (side, omega (arith, left, polls side)))
   by_told rounds n (inr (inr some)) = inr (inr some)
 
   idle_told : NothingInFlight v → NothingInFlight new
   idle_told idle id = ap (λ (flights : OpId → Option Flight). flights id) (sym after.in_flight) ∙ idle id
 
-  ends_told : (rounds : List Round) (n : ℕ) (end : RunEnd) → EndsRunAs rounds n end start v → EndsRunAs rounds n end old new
-  ends_told rounds n end e = record {
+  pending_told : (rounds : List Round) (n : ℕ) → (n + polls_left v ≤ polls_left start) ⊎ StallsSome rounds
+      → (n + polls_left new ≤ polls_left old) ⊎ StallsSome rounds
+  pending_told rounds n (inl taken) = inl (omega (arith, taken, polls Primary, polls Secondary, after.polls Primary, after.polls Secondary))
+  pending_told rounds n (inr some) = inr some
+
+  causes_told : (threshold : ℕ) (rounds : List Round) (end : RunEnd) → HasCauses threshold rounds end start v → HasCauses threshold rounds end old new
+  causes_told threshold rounds end c = record {
+    failures = c.failures;
+    stalls = c.stalls;
+    segments = c.segments;
+    death = c.death;
+    rose = rose_by_told c.failures c.rose;
+    pending = pending_told rounds (c.stalls * threshold) c.pending;
+  }
+
+  ends_told : (threshold : ℕ) (rounds : List Round) (n : ℕ) (end : RunEnd) → EndsRunAs threshold rounds n end start v
+      → EndsRunAs threshold rounds n end old new
+  ends_told threshold rounds n end e = record {
     within = e.within;
     all = e.all;
     rests = λ closed. idle_told (e.rests closed);
@@ -58,6 +78,7 @@ module _ (old start v new : DiskView) (before : TellsOf old start) (polls : (sid
     ten = e.ten;
     each_fault = by_told rounds (end.segments - 1) e.each_fault;
     ten_faults = λ died. by_told rounds SEGMENTS_MAX (e.ten_faults died);
+    causes = causes_told threshold rounds end e.causes;
   }
 
   was_files : files start ≡ files old
@@ -70,10 +91,10 @@ module _ (old start v new : DiskView) (before : TellsOf old start) (polls : (sid
   others_told wal others =
       subst (λ (fs : Files). OthersSame wal fs (files new)) was_files (subst (OthersSame wal (files start)) now_files others)
 
-  pub run_told : (tells : Bool) (wal first : ℕ) (rounds : List Round) (own : List Batch) (end : RunEnd)
-      → HasRun tells start wal first rounds own end v → HasRun tells old wal first rounds own end new
-  run_told tells wal first rounds own end e = record {
-    ends = ends_told rounds (length own) end e.ends;
+  pub run_told : (threshold : ℕ) (tells : Bool) (wal first : ℕ) (rounds : List Round) (own : List Batch) (end : RunEnd)
+      → HasRun threshold tells start wal first rounds own end v → HasRun threshold tells old wal first rounds own end new
+  run_told threshold tells wal first rounds own end e = record {
+    ends = ends_told threshold rounds (length own) end e.ends;
     others = λ told. others_told wal (e.others told);
     nothing = λ told empty p.
         let same : files v p ≡ files start p = e.nothing told empty p in

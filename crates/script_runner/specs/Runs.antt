@@ -1,5 +1,5 @@
 -- What a whole run over a disk comes to (docs/formats/program.md, "The run of a script" and "The generated load").
-use Rattle.std.specs.Prelude.{◌≡◌, ◌≢◌, ◌⊎◌, ◌++◌, ◌-◌, ℕ, ◌<◌, ◌≤◌, Bool, true, false, List, [], ◌∷◌, length, Contains, None, IsTrue, is_some}
+use Rattle.std.specs.Prelude.{◌≡◌, ◌≢◌, ◌⊎◌, ◌++◌, ◌+◌, ◌-◌, ◌*◌, ℕ, ◌<◌, ◌≤◌, Bool, true, false, List, [], ◌∷◌, length, Contains, None, IsTrue, is_some}
 use Rattle.std.specs.List.{AllByRecursion, list_any}
 use Rattle.batch_repr.specs.declared.batch.Batch.{Batch}
 use Rattle.batch_repr.specs.declared.limits.TheConstants.{NUMBER_FIRST}
@@ -11,6 +11,7 @@ use Rattle.stall_monitor.specs.declared.verdict.TheConstants.{SEGMENTS_MAX}
 use Rattle.failover_writer.specs.declared.fault.JournalEnd.{JournalEnd}
 use Rattle.failover_writer.specs.State.{State, JournalView, len, acked}
 use Rattle.failover_writer.specs.Answered.{FaultsRose, RoseBy}
+use Rattle.failover_writer.specs.Remaining.{polls_left}
 use Rattle.failover_writer.specs.Keeping.{RecoversTo, IsOpening}
 use Rattle.failover_writer.specs.Sound.{IsSoundJournal}
 use Rattle.failover_writer.specs.Running.{PollsLeft, OthersSame, ReadsAsImage}
@@ -51,10 +52,21 @@ pub record StallsSome (rounds : List Round) : Type 0 where
   pub stands : Contains rounds round
   pub some : round.stalls ≢ []
 
+-- Why a journal began its segments, and why it died: an operation on a segment failed, or `threshold` polls of it were answered
+-- pending. So many faults rose at least as there were failures, and where no round stalls polls each pending one was taken from those
+-- that were left to stall.
+pub record HasCauses (threshold : ℕ) (rounds : List Round) (end : RunEnd) (old new : DiskView) : Type 0 where
+  pub failures : ℕ
+  pub stalls : ℕ
+  pub segments : end.segments ≤ 1 + (failures + stalls)
+  pub death : IsTrue end.died → SEGMENTS_MAX ≤ failures + stalls
+  pub rose : RoseBy failures old new
+  pub pending : (stalls * threshold + polls_left new ≤ polls_left old) ⊎ StallsSome rounds
+
 -- The numbers of the end, for so many batches. A journal that was closed has synced them all and left nothing in flight; it has a
 -- segment where there is a batch, unless the script halted, and more than one only where an operation failed or was stalled; and it
 -- dies only where operations failed.
-pub record EndsRunAs (rounds : List Round) (batches : ℕ) (end : RunEnd) (old new : DiskView) : Type 0 where
+pub record EndsRunAs (threshold : ℕ) (rounds : List Round) (batches : ℕ) (end : RunEnd) (old new : DiskView) : Type 0 where
   pub within : end.acked ≤ batches
   pub all : WasClosed end → end.acked ≡ batches
   pub rests : WasClosed end → NothingInFlight new
@@ -66,14 +78,17 @@ pub record EndsRunAs (rounds : List Round) (batches : ℕ) (end : RunEnd) (old n
   -- where no poll may be stalled, each segment after the first is a fault of its own, and ten faults make a journal die
   pub each_fault : RoseBy (end.segments - 1) old new ⊎ (PollsLeft old ⊎ StallsSome rounds)
   pub ten_faults : IsTrue end.died → RoseBy SEGMENTS_MAX old new ⊎ (PollsLeft old ⊎ StallsSome rounds)
+  -- and where polls may be, each takes a fault, or as many pending polls as the threshold says
+  pub causes : HasCauses threshold rounds end old new
 
 -- what the end of a run says of its journal
 abbrev pub journal_end : RunEnd → JournalEnd
 journal_end end = record { acked = end.acked; segments = end.segments; died = end.died }
 
 -- The journal of a run was closed, or died, or was left as it was, with these numbers, over the disk as it is now.
-pub record HasRun (tells : Bool) (start : DiskView) (wal first : ℕ) (rounds : List Round) (own : List Batch) (end : RunEnd) (v : DiskView) : Type 0 where
-  pub ends : EndsRunAs rounds (length own) end start v
+pub record HasRun (threshold : ℕ) (tells : Bool) (start : DiskView) (wal first : ℕ) (rounds : List Round) (own : List Batch) (end : RunEnd)
+    (v : DiskView) : Type 0 where
+  pub ends : EndsRunAs threshold rounds (length own) end start v
   pub others : IsTrue tells → OthersSame wal (files start) (files v)
   pub nothing : IsTrue tells → own ≡ [] → (p : Place) → files v p ≡ files start p
   pub recovers : IsTrue tells → (base : List Batch) → IsOpening wal first base (files start) → RecoversTo base own end.acked (files v)
@@ -110,7 +125,7 @@ pub record RunsWork (base : List Batch) (work : Work) (wal threshold : ℕ) (tel
   pub batches : List Batch
   pub says : SaysRun NUMBER_FIRST base work batches outcome
   pub of : EndsOf threshold tells wal (end_after NUMBER_FIRST base) batches (journal_end outcome.end) old new
-  pub ended : HasRun tells old wal (end_after NUMBER_FIRST base) (work_rounds work) batches outcome.end new
+  pub ended : HasRun threshold tells old wal (end_after NUMBER_FIRST base) (work_rounds work) batches outcome.end new
 
 -- ---- inside
 

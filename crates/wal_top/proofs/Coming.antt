@@ -1,5 +1,5 @@
 -- What a run does after a recovery, told of the disk as it was before.
-use Rattle.std.proofs.Common.{◌≡◌, ◌⊎◌, inl, inr, ℕ, suc, ◌-◌, ◌≤◌, Bool, true, false, List, [], length, Option, Some, None, IsTrue, refl, sym, ap, ◌∙◌, arith, subst}
+use Rattle.std.proofs.Common.{◌≡◌, ◌⊎◌, inl, inr, ℕ, suc, ◌+◌, ◌-◌, ◌*◌, ◌≤◌, Bool, true, false, List, [], length, Option, Some, None, IsTrue, refl, sym, ap, ◌∙◌, arith, subst}
 use Rattle.batch_repr.specs.declared.batch.Batch.{Batch}
 use Rattle.disk_face.specs.declared.Side.{Side}
 use Rattle.disk_face.specs.declared.Side.TheVariants.{Primary, Secondary}
@@ -12,6 +12,7 @@ use Rattle.log_writer.specs.Fits.{IsUnsent}
 use Rattle.failover_writer.specs.Ranges.{side_at, AreUnsent}
 use Rattle.failover_writer.specs.Answered.{FaultsRose, RoseBy}
 use Rattle.failover_writer.specs.Keeping.{RecoversTo}
+use Rattle.failover_writer.specs.Remaining.{polls_left}
 use Rattle.failover_writer.proofs.Laws.{read_synced, rested_synced, recovered_opens}
 use Rattle.wal_recovery.specs.Listing.{Stored, StandsIn, name_in, IsNextWal}
 use Rattle.wal_recovery.specs.Recovering.{Recovers}
@@ -21,7 +22,7 @@ use Rattle.failover_writer.specs.Running.{OthersOnlySynced, PollsLeft, LogsBatch
 use Rattle.script_runner.specs.declared.run.Outcome.{Outcome}
 use Rattle.script_runner.specs.declared.work.Work.{Work}
 use Rattle.script_runner.specs.Works.{work_rounds}
-use Rattle.script_runner.specs.Runs.{PollsNeverRise, StallsSome, EndsRunAs, RunsWork}
+use Rattle.script_runner.specs.Runs.{PollsNeverRise, StallsSome, HasCauses, EndsRunAs, RunsWork}
 use Rattle.wal_top.specs.Outcomes.{WasRecovered, RunsOverDisk}
 
 -- ---- nothing was sent to a segment of the next WAL
@@ -82,13 +83,33 @@ module _ (old mid new : DiskView) (wal : ℕ) (tells : Bool) (only : IsTrue tell
     more_since (inr (inl (side, left))) = inr (inl (side, omega (arith, left, goes.polls side)))
     more_since (inr (inr stalls)) = inr (inr stalls)
 
+    rose_by_since : (n : ℕ) → RoseBy n mid new → RoseBy n old new
+    rose_by_since n (inl rose) = inl (omega (arith, rose, goes.faults Primary, goes.faults Secondary))
+    rose_by_since n (inr at_end) = inr at_end
+
+    pending_since : (n : ℕ) → (n + polls_left new ≤ polls_left mid) ⊎ StallsSome (work_rounds work)
+        → (n + polls_left new ≤ polls_left old) ⊎ StallsSome (work_rounds work)
+    pending_since n (inl taken) = inl (omega (arith, taken, goes.polls Primary, goes.polls Secondary))
+    pending_since n (inr stalls) = inr stalls
+
+    causes_since : HasCauses threshold (work_rounds work) ran.end old new
+    causes_since =
+        let c = r.ended.ends.causes in
+        record {
+          failures = c.failures;
+          stalls = c.stalls;
+          segments = c.segments;
+          death = c.death;
+          rose = rose_by_since c.failures c.rose;
+          pending = pending_since (c.stalls * threshold) c.pending;
+        }
+
     by_since : (n : ℕ) → RoseBy n mid new ⊎ (PollsLeft mid ⊎ StallsSome (work_rounds work)) → RoseBy n old new ⊎ (PollsLeft old ⊎ StallsSome (work_rounds work))
-    by_since n (inl (inl rose)) = inl (inl (omega (arith, rose, goes.faults Primary, goes.faults Secondary)))
-    by_since n (inl (inr at_end)) = inl (inr at_end)
+    by_since n (inl rose) = inl (rose_by_since n rose)
     by_since n (inr (inl (side, left))) = inr (inl (side, omega (arith, left, goes.polls side)))
     by_since n (inr (inr stalls)) = inr (inr stalls)
 
-    ends_since : EndsRunAs (work_rounds work) (length r.batches) ran.end old new
+    ends_since : EndsRunAs threshold (work_rounds work) (length r.batches) ran.end old new
     ends_since =
         let e = r.ended.ends in
         record {
@@ -102,6 +123,7 @@ module _ (old mid new : DiskView) (wal : ℕ) (tells : Bool) (only : IsTrue tell
           ten = e.ten;
           each_fault = by_since (ran.end.segments - 1) e.each_fault;
           ten_faults = λ died. by_since SEGMENTS_MAX (e.ten_faults died);
+          causes = causes_since;
         }
 
     module _ (stable : IsTrue tells → IsRested (files old) → AreSegmentsStable (files mid)) (within : wal ≤ WAL_MAX)

@@ -75,7 +75,7 @@ pub record RunsOverDisk (work : Work) (threshold : ℕ) (tells : Bool) (old new 
   pub recovers : IsTrue tells → Recovers (directories old) base
   pub batches : List Batch
   pub says : SaysRun NUMBER_FIRST base work batches outcome
-  pub ends : EndsRunAs (work_rounds work) (length batches) outcome.end old new
+  pub ends : EndsRunAs threshold (work_rounds work) (length batches) outcome.end old new
   pub wal : ℕ
   pub next : IsTrue tells → IsNextWal (directories old) wal
   pub recovered : DiskView

@@ -18,6 +18,7 @@ use Rattle.failover_writer.specs.Sound.{CountsLeaveFew}
 use Rattle.failover_writer.proofs.Accounted.{counts_leave_few}
 use Rattle.failover_writer.proofs.Covers.{rose_by_none}
 use Rattle.failover_writer.proofs.Failures.{covers_of, unstalled_of}
+use Rattle.failover_writer.proofs.Hangs.{hangs_of}
 use Rattle.failover_writer.proofs.Falls.{falls}
 use Rattle.failover_writer.proofs.Lasts.{goal_kept, lasts_none, records_are}
 use Rattle.failover_writer.proofs.journal.Journal.step.Goals as goal
@@ -121,6 +122,7 @@ returns-clause-lasts g c =
       smooth = smooth_of old.state new.state (g.D.Disk.view old.disk) (g.D.Disk.view new.disk) c.advance-answer.result by;
       covers = covers_of old.state new.state (g.D.Disk.view old.disk) (g.D.Disk.view new.disk) c.advance-answer.result by (goes_on g c);
       unstalled = unstalled_of old.state new.state (g.D.Disk.view old.disk) (g.D.Disk.view new.disk) c.advance-answer.result by;
+      hangs = hangs_of old.state new.state (g.D.Disk.view old.disk) (g.D.Disk.view new.disk) c.advance-answer.result by;
       keeps = keeps g c;
       passes = passes g c;
       goes_on = goes_on g c;
