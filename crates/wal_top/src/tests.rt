@@ -90,14 +90,16 @@ impl Rig {
 
 /// What a crash leaves where the stable bytes of the log of WAL 1 are followed by this tail.
 fn tail_of(alloc: Global, tail: &[u8]) -> Result<CrashPick, NoMemory> {
-    let mut files = FilePicks::new(alloc);
     let pick = FilePick {
         side: Side::Primary,
         name: SegName { wal: 1, index: 0 },
         tail: Some(Blob::copy_of(alloc, tail)?),
     };
-    files.push(pick).map_err(|_| NoMemory)?;
-    Ok(CrashPick { files })
+    let mut files = FilePicks::new(alloc);
+    match files.push(pick) {
+        Ok(()) => Ok(CrashPick { files }),
+        Err(_) => Err(NoMemory),
+    }
 }
 
 /// What a segment of WAL 1 has, which stands on the primary side where its index is even.
@@ -243,14 +245,17 @@ fn check_log<R: Threads + Wait + Sync + Abort>(
 }
 
 /// The log of one batch that sets `a` to `1`.
-const FIRST_LOG: &[u8] = &[
-    0x5e, 0x28, 0x29, 0x10, 0x11, 0x00, 0x05, 0x01, 0x00, 0x00, 0x00, 0x0a, 0x00, 0x00, 0x00, 0x00,
-    0x00, 0x00, 0x00, 0x01, 0x00, 0x00, 0x00, 0x01, 0x01, 0x61, 0x01, 0x31,
-];
+const FIRST_LOG: &[u8] = b"\x5e\x28\x29\x10\x11\x00\x05\x01\x00\x00\x00\
+    \x0a\x00\x00\x00\x00\x00\x00\x00\x01\x00\x00\x00\
+    \x01\x01\x61\x01\x31";
 
-/// The record of a batch that sets `a` to a digit.
-fn record_of(first: u8, digit: u8) -> [u8; 17] {
-    [first, 0, 0, 0, 0, 0, 0, 0, 1, 0, 0, 0, 1, 1, b'a', 1, digit]
+/// The record of a batch that sets a key to a digit.
+fn record_of(first: u8, key: u8, digit: u8) -> [u8; 17] {
+    let mut record = *b"\0\0\0\0\0\0\0\0\x01\0\0\0\x01\x01\0\x01\0";
+    record[0] = first;
+    record[14] = key;
+    record[16] = digit;
+    record
 }
 
 /// Adds one chunk of a log to a segment.
@@ -266,7 +271,7 @@ fn append(segment: &mut Buf, log: u32, payload: &[u8]) -> Result<(), NoMemory>
 fn segment_of(alloc: Global, log: u32, batches: &[(u8, u8)]) -> Result<Buf, NoMemory> {
     let mut segment = Buf::new(alloc)?;
     for (first, digit) in batches {
-        append(&mut segment, log, &record_of(*first, *digit))?;
+        append(&mut segment, log, &record_of(*first, b'a', *digit))?;
     }
     Ok(segment)
 }

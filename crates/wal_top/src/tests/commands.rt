@@ -2,110 +2,130 @@
 
 use super::{Rig, check_command, check_crash, segment_at, told_of};
 use crate::Status;
+use std::alloc::Global;
+use std::process::Abort;
+use std::sync::Wait;
 use std::test::Fail;
+use std::thread::Threads;
 
-const COMMANDS: &[&[&str]] = &[
-    &["replay"],
-    &["replay", "--threshold", "1"],
-    &["replay", "--threshold", "1000"],
-    &["replay", "--threshold", "00000000000000000003"],
-    &["replay", "--threshold=1"],
-    &["replay", "--threshold=01"],
-    &["replay", "--threshold=1000"],
-    &["replay", "--threshold=00000000000000000003"],
-    &["recover"],
-    &["dump"],
-    &["load", "7", "1"],
-    &["load", "0", "001"],
-    &["load", "18446744073709551615", "2"],
-    &["load", "00000000000000000007", "00000000000000000001"],
-];
+/// Commands, a line each, with a bar between two words.
+const COMMANDS: &str = "\
+    replay\n\
+    replay|--threshold|1\n\
+    replay|--threshold|1000\n\
+    replay|--threshold|00000000000000000003\n\
+    replay|--threshold=1\n\
+    replay|--threshold=01\n\
+    replay|--threshold=1000\n\
+    replay|--threshold=00000000000000000003\n\
+    recover\n\
+    dump\n\
+    load|7|1\n\
+    load|0|001\n\
+    load|18446744073709551615|2\n\
+    load|00000000000000000007|00000000000000000001";
 
-const OTHERS: &[&[&str]] = &[
-    &[],
-    &[""],
-    &["Replay"],
-    &["repla"],
-    &["replays"],
-    &["replay", ""],
-    &["replay", "3"],
-    &["replay", "replay"],
-    &["replay", "recover"],
-    &["replay", "--threshold"],
-    &["replay", "--threshold="],
-    &["replay", "--threshold", ""],
-    &["replay", "--threshold", "0"],
-    &["replay", "--threshold", "1001"],
-    &["replay", "--threshold", "-1"],
-    &["replay", "--threshold", "+3"],
-    &["replay", "--threshold", " 3"],
-    &["replay", "--threshold", "three"],
-    &["replay", "--threshold", "000000000000000000003"],
-    &["replay", "--threshold", "18446744073709551619"],
-    &["replay", "--threshold", "3", "3"],
-    &["replay", "--threshold", "3", ""],
-    &["replay", "--threshold", "3", "--threshold", "3"],
-    &["replay", "--threshold=3", "--threshold=3"],
-    &["replay", "--threshold", "--threshold", "3"],
-    &["replay", "--threshold=0"],
-    &["replay", "--threshold=1001"],
-    &["replay", "--threshold=-1"],
-    &["replay", "--thresh", "3"],
-    &["replay", "--thresh=3"],
-    &["replay", "-threshold", "3"],
-    &["replay", "-t", "3"],
-    &["replay", "-"],
-    &["replay", "--"],
-    &["replay", "--threshold", "3", "--"],
-    &["replay", "--help"],
-    &["replay", "-h"],
-    &["--threshold", "3", "replay"],
-    &["--", "replay"],
-    &["recover", ""],
-    &["recover", "recover"],
-    &["recover", "--threshold", "3"],
-    &["recover", "--help"],
-    &["dump", "dump"],
-    &["dump", "1"],
-    &["dump", "--"],
-    &["load"],
-    &["load", "7"],
-    &["load", "7", "1", "1"],
-    &["load", "7", "1", ""],
-    &["load", "7", "1", "--"],
-    &["load", "--", "7", "1"],
-    &["load", "", "1"],
-    &["load", "7", ""],
-    &["load", "7", "0"],
-    &["load", "7", "2000001"],
-    &["load", "7", "-1"],
-    &["load", "7", "+1"],
-    &["load", "7", "1 "],
-    &["load", "0x7", "1"],
-    &["load", "-7", "1"],
-    &["load", "18446744073709551616", "1"],
-    &["load", "000000000000000000007", "1"],
-    &["load", "7", "000000000000000000001"],
-    &["load", "7", "1", "--threshold", "3"],
-    &["load", "--help"],
-    &["--help"],
-    &["-h"],
-    &["help"],
-    &["help", "replay"],
-    &["--version"],
-    &["-V"],
-    &["version"],
-];
+/// What is no command.
+const OTHERS: &str = "\
+    Replay\n\
+    repla\n\
+    replays\n\
+    replay|\n\
+    replay|3\n\
+    replay|replay\n\
+    replay|recover\n\
+    replay|--threshold\n\
+    replay|--threshold=\n\
+    replay|--threshold|\n\
+    replay|--threshold|0\n\
+    replay|--threshold|1001\n\
+    replay|--threshold|-1\n\
+    replay|--threshold|+3\n\
+    replay|--threshold| 3\n\
+    replay|--threshold|three\n\
+    replay|--threshold|000000000000000000003\n\
+    replay|--threshold|18446744073709551619\n\
+    replay|--threshold|3|3\n\
+    replay|--threshold|3|\n\
+    replay|--threshold|3|--threshold|3\n\
+    replay|--threshold=3|--threshold=3\n\
+    replay|--threshold|--threshold|3\n\
+    replay|--threshold=0\n\
+    replay|--threshold=1001\n\
+    replay|--threshold=-1\n\
+    replay|--thresh|3\n\
+    replay|--thresh=3\n\
+    replay|-threshold|3\n\
+    replay|-t|3\n\
+    replay|-\n\
+    replay|--\n\
+    replay|--threshold|3|--\n\
+    replay|--help\n\
+    replay|-h\n\
+    --threshold|3|replay\n\
+    --|replay\n\
+    recover|\n\
+    recover|recover\n\
+    recover|--threshold|3\n\
+    recover|--help\n\
+    dump|dump\n\
+    dump|1\n\
+    dump|--\n\
+    load\n\
+    load|7\n\
+    load|7|1|1\n\
+    load|7|1|\n\
+    load|7|1|--\n\
+    load|--|7|1\n\
+    load||1\n\
+    load|7|\n\
+    load|7|0\n\
+    load|7|2000001\n\
+    load|7|-1\n\
+    load|7|+1\n\
+    load|7|1 \n\
+    load|0x7|1\n\
+    load|-7|1\n\
+    load|18446744073709551616|1\n\
+    load|000000000000000000007|1\n\
+    load|7|000000000000000000001\n\
+    load|7|1|--threshold|3\n\
+    load|--help\n\
+    --help\n\
+    -h\n\
+    help\n\
+    help|replay\n\
+    --version\n\
+    -V\n\
+    version";
+
+/// Asserts the status of a run with each line's words over a new disk.
+fn check_lines<R: Threads + Wait + Sync + Abort>(
+    rt: &R,
+    alloc: Global,
+    lines: &str,
+    status: Status,
+) -> Result<(), Fail> {
+    for line in lines.split('\n') {
+        let mut words = Vec::new(alloc);
+        for word in line.split('|') {
+            words.push(word)?;
+        }
+        let told = told_of(rt, alloc, Rig::new(alloc)?, words.as_slice(), b"")?;
+        assert_eq!(rt; told.status, status);
+    }
+    Ok(())
+}
 
 #[test]
 fn each_list_of_words_is_a_command_or_none(rt: HostRuntime) -> Result<(), Fail> {
     let alloc = rt.alloc();
-    for (lists, status) in [(COMMANDS, Status::Done), (OTHERS, Status::Usage)] {
-        for words in lists {
-            let told = told_of(&rt, alloc, Rig::new(alloc)?, words, b"")?;
-            assert_eq!(rt; told.status, status);
-        }
-    }
+    check_lines(&rt, alloc, COMMANDS, Status::Done)?;
+    check_lines(&rt, alloc, OTHERS, Status::Usage)?;
+    // One empty word.
+    check_lines(&rt, alloc, "", Status::Usage)?;
+    let told = told_of(&rt, alloc, Rig::new(alloc)?, &[], b"")?;
+    assert_eq!(rt; told.status, Status::Usage);
     Ok(())
 }
 

@@ -1,4 +1,4 @@
-use super::{Rig, append, check_command, check_crash, check_replay, log_at, tail_of};
+use super::{Rig, append, check_command, check_crash, check_replay, log_at, record_of, tail_of};
 use crate::Status;
 use disk_face::{SegName, Side};
 use mem_disk::MemDisk;
@@ -86,11 +86,7 @@ fn a_replay_goes_on_where_a_halted_one_crashed(rt: HostRuntime) -> Result<(), Fa
 fn three_batches(alloc: Global) -> Result<Buf, NoMemory> {
     let mut log = Buf::new(alloc)?;
     for (first, key, digit) in [(10, b'a', b'1'), (11, b'b', b'2'), (12, b'c', b'3')] {
-        append(
-            &mut log,
-            1,
-            &[first, 0, 0, 0, 0, 0, 0, 0, 1, 0, 0, 0, 1, 1, key, 1, digit],
-        )?;
+        append(&mut log, 1, &record_of(first, key, digit))?;
     }
     Ok(log)
 }
@@ -164,28 +160,39 @@ fn a_crash_leaves_a_front_of_what_was_not_synced(rt: HostRuntime) -> Result<(), 
     Ok(())
 }
 
-#[test]
-fn a_crash_leaves_all_that_was_synced(rt: HostRuntime) -> Result<(), Fail> {
-    let alloc = rt.alloc();
+/// The disk after a script of which the first two batches were synced, and the third was not.
+fn two_synced<R: Threads + Wait + Sync + Abort>(rt: &R, alloc: Global) -> Result<MemDisk, Fail> {
     let script = "commit 0 nosync set a 1\ncommit 0 sync set b 2\ncommit 0 nosync set c 3\nhalt\n";
     let text = "s0 commit 10 1\n\
         s0 commit 11 1 synced\n\
         s0 commit 12 1\n\
         end visible 13 batches 3 acked 2 segments 1 halted\n";
+    check_replay(rt, alloc, script, Status::Done, text)
+}
+
+/// Asserts how many of those batches are recovered where a crash leaves this tail after what is stable.
+fn check_left<R: Threads + Wait + Sync + Abort>(
+    rt: &R,
+    alloc: Global,
+    tail: &[u8],
+    batches: usize,
+) -> Result<(), Fail> {
+    let disk = two_synced(rt, alloc)?;
+    check_tail(rt, alloc, disk, tail, batches)
+}
+
+#[test]
+fn a_crash_leaves_all_that_was_synced(rt: HostRuntime) -> Result<(), Fail> {
+    let alloc = rt.alloc();
     let log = three_batches(alloc)?;
     let wrong = changed(alloc, &log, 56, 83)?;
-    for (tail, batches) in [
-        (part(&log, 56, 84), 3),
-        (part(&log, 56, 83), 2),
-        (b"".as_slice(), 2),
-        (b"\0\0\0\0\0\0\0\0\0\0\0\0".as_slice(), 2),
-        (wrong.as_slice(), 2),
-    ] {
-        let disk = check_replay(&rt, alloc, script, Status::Done, text)?;
-        check_tail(&rt, alloc, disk, tail, batches)?;
-    }
+    check_left(&rt, alloc, part(&log, 56, 84), 3)?;
+    check_left(&rt, alloc, part(&log, 56, 83), 2)?;
+    check_left(&rt, alloc, b"", 2)?;
+    check_left(&rt, alloc, b"\0\0\0\0\0\0\0\0\0\0\0\0", 2)?;
+    check_left(&rt, alloc, wrong.as_slice(), 2)?;
     // Where the tail has a whole chunk of another place, the premise is not met.
-    let disk = check_replay(&rt, alloc, script, Status::Done, text)?;
+    let disk = two_synced(&rt, alloc)?;
     let pick = tail_of(alloc, part(&log, 0, 28))?;
     assert!(rt; !disk.chance_free(&pick)?);
     Ok(())

@@ -33,7 +33,7 @@ fn segments_are_recovered(rt: HostRuntime) -> Result<(), Fail> {
 fn segments_are_dumped(rt: HostRuntime) -> Result<(), Fail> {
     let alloc = rt.alloc();
     let mut segment = segment_of(alloc, 1, &[(10, b'1')])?;
-    append(&mut segment, 7, &record_of(11, b'9'))?;
+    append(&mut segment, 7, &record_of(11, b'a', b'9'))?;
     let rig = rig_of(&rt, alloc, segment.as_slice(), None)?;
     let text =
         "segment 000001.log primary bytes 56 records 1 ends 28 torn\nbatch 10 1\nset a 1\nend batches 1 next 11\n";
@@ -41,11 +41,7 @@ fn segments_are_dumped(rt: HostRuntime) -> Result<(), Fail> {
     // A gap is accepted, and an empty segment and a batch without counted records are listed.
     let first = segment_of(alloc, 1, &[(10, b'1')])?;
     let mut second = segment_of(alloc, 1, &[(15, b'6')])?;
-    append(
-        &mut second,
-        1,
-        &[9, 0, 0, 0, 0, 0, 0, 0, 0, 0, 0, 0, 3, 1, b' '],
-    )?;
+    append(&mut second, 1, b"\x09\0\0\0\0\0\0\0\0\0\0\0\x03\x01 ")?;
     let mut rig = rig_of(&rt, alloc, first.as_slice(), Some(second.as_slice()))?;
     rig.put(&rt, Side::Secondary, SegName { wal: 3, index: 0 }, b"");
     let text =
@@ -77,22 +73,17 @@ fn directories_are_refused(rt: HostRuntime) -> Result<(), Fail> {
     let gap = segment_of(alloc, 1, &[(15, b'6')])?;
     let conflict = segment_of(alloc, 1, &[(12, b'9')])?;
     let mut kind = Buf::new(alloc)?;
-    append(
-        &mut kind,
-        1,
-        &[10, 0, 0, 0, 0, 0, 0, 0, 1, 0, 0, 0, 2, 1, b'a', 1, b'1'],
-    )?;
+    append(&mut kind, 1, b"\x0a\0\0\0\0\0\0\0\x01\0\0\0\x02\x01a\x011")?;
     let gap_text = "refused gap 000001-001.log expected 13 found 15\n";
     let conflict_text = "refused conflict 000001-001.log 12\n";
     let kind_text = "refused batch 000001.log 0 unknown-kind 12 2\n";
     for (first, second, words, text) in [
-        (&three, Some(&gap), "recover", gap_text),
-        (&three, Some(&gap), "replay", gap_text),
-        (&three, Some(&conflict), "recover", conflict_text),
-        (&three, Some(&conflict), "dump", conflict_text),
+        (&three, Some(gap.as_slice()), "recover", gap_text),
+        (&three, Some(gap.as_slice()), "replay", gap_text),
+        (&three, Some(conflict.as_slice()), "recover", conflict_text),
+        (&three, Some(conflict.as_slice()), "dump", conflict_text),
         (&kind, None, "dump", kind_text),
     ] {
-        let second = second.map(|buf| buf.as_slice());
         let rig = rig_of(&rt, alloc, first.as_slice(), second)?;
         check_command(&rt, alloc, rig, &[words], script, Status::Refused, text)?;
     }
