@@ -1,8 +1,7 @@
 -- The keys of a load, counted one after another.
-use Rattle.std.proofs.Common.{◌≡◌, ◌∙◌, ℕ, zero, suc, ◌+◌, ◌<◌, ◌≤◌, Bool, true, false, List, [], ◌∷◌, ◌++◌, length, take, get_or, Some, le_refl, refl, sym, ap, subst, arith}
-use Rattle.std.specs.Prelude.{is_some, count_by, slice_get, slice_set}
+use Rattle.std.proofs.Common.{◌≡◌, ◌∙◌, ℕ, ◌+◌, ◌<◌, ◌≤◌, Bool, true, false, List, [], ◌∷◌, ◌++◌, length, take, get_or, Contains, le_refl, refl, sym, ap, subst, arith}
+use Rattle.std.specs.Prelude.{is_some, count_by}
 use Rattle.std.proofs.lemmas.List.{take_all}
-use Rattle.std.proofs.lemmas.Option.{slice_get-get_or}
 use Rattle.std.proofs.lemmas.List.FromFn.{length-map-range_with_len, get_or-map-range_with_len}
 use Rattle.std.proofs.lemmas.List.Sums.{count_by_more_no, count_by_more_yes}
 use Rattle.batch_repr.specs.declared.batch.Batch.{Batch}
@@ -16,9 +15,9 @@ use Rattle.commit_pipeline.specs.Openings.{Opening}
 use Rattle.commit_pipeline.specs.declared.standing.Standing.{Standing}
 use Rattle.commit_pipeline.specs.Standings.{Idles}
 use Rattle.commit_pipeline.specs.Commits.{TellsRead}
-use Rattle.commit_pipeline.specs.Meeting.{StaysOn, StayOn}
 use Rattle.session_rounds.proofs.Laws.{prefix_whole}
-use Rattle.session_script.specs.Legal.{Replied}
+use Rattle.session_rounds.specs.declared.answers.Answer.{Answer}
+use Rattle.session_rounds.specs.Players.{ReadersView, FirstReads}
 use Rattle.script_runner.specs.declared.performing.Told.{Told}
 use Rattle.script_runner.specs.Works.{CountsLive, KeepsCount}
 
@@ -26,11 +25,16 @@ use Rattle.script_runner.specs.Works.{CountsLive, KeepsCount}
 abbrev pub has_value : List Batch → List ℕ → Bool
 has_value store key = is_some (answer store (length store) key)
 
-pub record KeysSoFar (opening : Opening) (s mid : Standing) (index live : ℕ) : Type 0 where
-  pub idles : Idles s mid
-  pub dead : mid.dead ≡ s.dead
+pub record KeysSoFar (opening : Opening) (old now : ReadersView) (index live : ℕ) : Type 0 where
+  pub first : Standing
+  pub first' : Standing
+  pub others : List Standing
+  pub was : old.now ≡ first ∷ others
+  pub is : now.now ≡ first' ∷ others
+  pub met : now.met ≡ old.met
+  pub idles : Idles first first'
   pub few : live ≤ index
-  pub counts : mid.seen ≡ s.seen → live ≡ count_by (has_value (opening.base ++ s.seen)) (take index load_keys)
+  pub counts : first'.seen ≡ first.seen → live ≡ count_by (has_value (opening.base ++ first.seen)) (take index load_keys)
 
 -- a session that does nothing
 idle_still : (s : Standing) → Idles s s
@@ -57,8 +61,26 @@ between s mid new one two same =
     let back : IsPrefix mid.seen s.seen = subst (IsPrefix mid.seen) same two.goes_on.seen in
     prefix_whole mid.seen s.seen back (longer_prefix s.seen mid.seen one.goes_on.seen)
 
-pub no_key_yet : (opening : Opening) (s : Standing) → KeysSoFar opening s s 0 0
-no_key_yet opening s = record { idles = idle_still s; dead = refl; few = omega arith; counts = λ same. refl }
+pub no_key_yet : (opening : Opening) (readers : ReadersView) → 1 ≤ length readers.now → KeysSoFar opening readers readers 0 0
+no_key_yet opening readers some = go readers.now refl
+  where
+    go : (ss : List Standing) → readers.now ≡ ss → KeysSoFar opening readers readers 0 0
+    go [] none = absurd (let bad : 1 ≤ 0 = subst (λ (l : List Standing). 1 ≤ length l) none some in omega (arith, bad))
+    go (s ∷ ss) is = record {
+      first = s;
+      first' = s;
+      others = ss;
+      was = is;
+      is = is;
+      met = refl;
+      idles = idle_still s;
+      few = omega arith;
+      counts = λ same. refl;
+    }
+
+-- there is a first one still
+pub some_reader : (opening : Opening) (old now : ReadersView) (index live : ℕ) → KeysSoFar opening old now index live → 1 ≤ length now.now
+some_reader opening old now index live so = subst (λ (l : List Standing). 1 ≤ length l) (sym so.is) (omega arith)
 
 keys_are : length load_keys ≡ LOAD_KEYS
 unfolding load_keys
@@ -68,77 +90,80 @@ key_at : (index : ℕ) → index < LOAD_KEYS → get_or load_keys index (load_ke
 unfolding load_keys
 key_at index below = get_or-map-range_with_len load_key 0 LOAD_KEYS index index (load_key index) below (omega arith)
 
-module _ (opening : Opening) (s mid new : Standing) (index live : ℕ) (key : List ℕ) (reply : Reply) (so : KeysSoFar opening s mid index live)
-    (below : index < LOAD_KEYS) (key_is : key ≡ load_key index) (read : TellsRead opening key reply mid new) where
-  value_is : new.seen ≡ s.seen → has_value (opening.base ++ s.seen) (get_or load_keys index (load_key index)) ≡ is_some reply.value
-  value_is same =
-      ap (has_value (opening.base ++ s.seen)) (key_at index below ∙ sym key_is)
-      ∙ sym (ap is_some read.value ∙ ap (λ (seen : List Batch). has_value (opening.base ++ seen) key) same)
+module _ (opening : Opening) (old mid new : ReadersView) (index live : ℕ) (key : List ℕ) (reply : Reply)
+    (so : KeysSoFar opening old mid index live) (below : index < LOAD_KEYS) (key_is : key ≡ load_key index)
+    (read : FirstReads opening key reply mid new) where
+  same_row : (so.first' ∷ so.others) ≡ (read.first ∷ read.others)
+  same_row = sym so.is ∙ read.was
 
-  pub one_live : is_some reply.value ≡ true → KeysSoFar opening s new (index + 1) (live + 1)
+  tells : TellsRead opening key reply so.first' read.first'
+  tells = let same : read.first ≡ so.first' = cc in subst (λ (s : Standing). TellsRead opening key reply s read.first') same read.reads
+
+  value_is : read.first'.seen ≡ so.first.seen → has_value (opening.base ++ so.first.seen) (get_or load_keys index (load_key index)) ≡ is_some reply.value
+  value_is same =
+      ap (has_value (opening.base ++ so.first.seen)) (key_at index below ∙ sym key_is)
+      ∙ sym (ap is_some tells.value ∙ ap (λ (seen : List Batch). has_value (opening.base ++ seen) key) same)
+
+  no_more : read.first'.seen ≡ so.first.seen → so.first'.seen ≡ so.first.seen
+  no_more same = between so.first so.first' read.first' so.idles tells.idles same
+
+  now_is : new.now ≡ read.first' ∷ so.others
+  now_is = let same : read.others ≡ so.others = cc in read.is ∙ ap (λ (l : List Standing). read.first' ∷ l) same
+
+  pub one_live : is_some reply.value ≡ true → KeysSoFar opening old new (index + 1) (live + 1)
   one_live some = record {
-    idles = idle_then s mid new so.idles read.idles;
-    dead = read.dead ∙ so.dead;
+    first = so.first;
+    first' = read.first';
+    others = so.others;
+    was = so.was;
+    is = now_is;
+    met = read.met ∙ so.met;
+    idles = idle_then so.first so.first' read.first' so.idles tells.idles;
     few = omega (arith, so.few);
-    counts = λ same. ap (λ (n : ℕ). n + 1) (so.counts (between s mid new so.idles read.idles same))
-        ∙ sym (count_by_more_yes (has_value (opening.base ++ s.seen)) load_keys index (load_key index) (omega (arith, below, keys_are))
+    counts = λ same. ap (λ (n : ℕ). n + 1) (so.counts (no_more same))
+        ∙ sym (count_by_more_yes (has_value (opening.base ++ so.first.seen)) load_keys index (load_key index) (omega (arith, below, keys_are))
         (value_is same ∙ some));
   }
 
-  pub none_live : is_some reply.value ≡ false → KeysSoFar opening s new (index + 1) live
+  pub none_live : is_some reply.value ≡ false → KeysSoFar opening old new (index + 1) live
   none_live none = record {
-    idles = idle_then s mid new so.idles read.idles;
-    dead = read.dead ∙ so.dead;
+    first = so.first;
+    first' = read.first';
+    others = so.others;
+    was = so.was;
+    is = now_is;
+    met = read.met ∙ so.met;
+    idles = idle_then so.first so.first' read.first' so.idles tells.idles;
     few = omega (arith, so.few);
-    counts = λ same. so.counts (between s mid new so.idles read.idles same)
-        ∙ sym (count_by_more_no (has_value (opening.base ++ s.seen)) load_keys index (load_key index) (omega (arith, below, keys_are))
+    counts = λ same. so.counts (no_more same)
+        ∙ sym (count_by_more_no (has_value (opening.base ++ so.first.seen)) load_keys index (load_key index) (omega (arith, below, keys_are))
         (value_is same ∙ none));
   }
 
-pub all_counted : (opening : Opening) (s new : Standing) (index live : ℕ) → LOAD_KEYS ≤ index → KeysSoFar opening s new index live
-    → CountsLive opening s live new
+pub all_counted : (opening : Opening) (old new : ReadersView) (index live : ℕ) → LOAD_KEYS ≤ index → KeysSoFar opening old new index live
+    → CountsLive opening live old new
 unfolding live_keys
-all_counted opening s new index live all so = record {
+all_counted opening old new index live all so = record {
+  first = so.first;
+  first' = so.first';
+  others = so.others;
+  was = so.was;
+  is = so.is;
+  met = so.met;
   idles = so.idles;
-  dead = so.dead;
-  counts = λ same. so.counts same ∙ ap (count_by (has_value (opening.base ++ s.seen))) (take_all index load_keys (omega (arith, all, keys_are)));
+  counts = λ same. so.counts same
+      ∙ ap (count_by (has_value (opening.base ++ so.first.seen))) (take_all index load_keys (omega (arith, all, keys_are)));
 }
-
--- ---- one session counts, the others stay
-
--- the first one
-pub first_here : (ss : List Standing) (s : Standing) → 0 < length ss → s ≡ get_or ss 0 s → slice_get ss 0 ≡ Some s
-first_here ss s some is = slice_get-get_or ss 0 s some ∙ ap Some (sym is)
-
-stays_idle : (s s' : Standing) → Idles s s' → s'.dead ≡ s.dead → StaysOn s s'
-stays_idle s s' idles dead = record { goes_on = idles.goes_on; own = idles.own; dead = dead }
-
-pub counts_first : (opening : Opening) (ss : List Standing) (s s' : Standing) (live : ℕ) → slice_get ss 0 ≡ Some s → CountsLive opening s live s'
-    → StayOn ss (slice_set ss 0 s')
-counts_first opening [] s s' live here counts = absurd cc
-counts_first opening (o ∷ os) s s' live here counts = record {
-  all = refl;
-  each = λ i t t' at at'. go i t t' at at';
-}
-  where
-    same : o ≡ s
-    same = cc
-
-    go : (i : ℕ) (t t' : Standing) → slice_get (o ∷ os) i ≡ Some t → slice_get (s' ∷ os) i ≡ Some t' → StaysOn t t'
-    go zero t t' at at' =
-        let is : s ≡ t = cc in
-        let is' : s' ≡ t' = cc in
-        subst (λ (x : Standing). StaysOn x t') is (subst (StaysOn s) is' (stays_idle s s' counts.idles counts.dead))
-    go (suc i) t t' at at' =
-        let is : t ≡ t' = cc in
-        subst (StaysOn t) is (stays_idle t t (idle_still t) refl)
 
 -- What it counts is the number of live keys after all batches, where it had seen just these.
-pub keeps_count : (opening : Opening) (told : Told) (replies : List (List Replied)) (ss : List Standing) (s s' : Standing)
-    → slice_get ss 0 ≡ Some s → CountsLive opening s told.live s' → KeepsCount opening told replies ss (slice_set ss 0 s')
-keeps_count opening told replies [] s s' here counts batches seen within = absurd cc
-keeps_count opening told replies (o ∷ os) s s' here counts batches seen within =
-    let all : s.seen ≡ batches = seen s (0, omega arith, cc) in
-    let back : IsPrefix s'.seen s.seen = subst (IsPrefix s'.seen) (sym all) (within s' (0, omega arith, refl)) in
-    let same : s'.seen ≡ s.seen = prefix_whole s'.seen s.seen back (longer_prefix s.seen s'.seen counts.idles.goes_on.seen) in
-    counts.counts same ∙ ap (λ (seen : List Batch). live_keys (opening.base ++ seen)) all
+pub keeps_count : (opening : Opening) (told : Told) (own : List (List Answer)) (old new : ReadersView) → old.met ≡ old.now
+    → CountsLive opening told.live old new → KeepsCount opening told own new
+keeps_count opening told own old new same counts batches seen within =
+    let all : counts.first.seen ≡ batches =
+    seen counts.first (subst (λ (l : List Standing). Contains l counts.first) (sym (counts.met ∙ same ∙ counts.was)) (0, omega arith, refl)) in
+    let there : IsPrefix counts.first'.seen batches =
+    within counts.first' (subst (λ (l : List Standing). Contains l counts.first') (sym counts.is) (0, omega arith, refl)) in
+    let back : IsPrefix counts.first'.seen counts.first.seen = subst (IsPrefix counts.first'.seen) (sym all) there in
+    let no_more : counts.first'.seen ≡ counts.first.seen =
+    prefix_whole counts.first'.seen counts.first.seen back (longer_prefix counts.first.seen counts.first'.seen counts.idles.goes_on.seen) in
+    counts.counts no_more ∙ ap (λ (seen : List Batch). live_keys (opening.base ++ seen)) all

@@ -1,7 +1,5 @@
 mod Transcribes
-mod PlaysAll
 mod RoundsSoFar
-mod LoadSoFar
 mod CountsKeys
 mod AllowsStalls
 mod GoesOnKept

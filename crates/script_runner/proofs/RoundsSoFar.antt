@@ -1,24 +1,34 @@
--- The rounds so far, and those that are left.
-use Rattle.std.proofs.Common.{◌≡◌, ◌∙◌, ℕ, List, [], ◌∷◌, ◌++◌, length, refl, sym, ap, subst, append_assoc}
+-- The rounds so far with their answers, and those that are left.
+use Rattle.std.proofs.Common.{◌≡◌, ◌∙◌, ◌||◌, ℕ, Bool, List, [], ◌∷◌, ◌++◌, length, refl, sym, ap, subst, append_assoc}
 use Rattle.std.proofs.lemmas.List.{append-nil}
 use Rattle.session_script.specs.Script.{LinesAreOfSome, NameSessions}
 use Rattle.session_script.specs.declared.script.Round.{Round}
 use Rattle.commit_pipeline.specs.Openings.{Opening}
 use Rattle.commit_pipeline.specs.declared.standing.Standing.{Standing}
+use Rattle.session_rounds.specs.declared.answers.Answer.{Answer}
+use Rattle.session_rounds.specs.Players.{AllowsPolls, PlayMore}
+use Rattle.session_rounds.proofs.Laws.{none_more, more_then}
 use Rattle.script_runner.specs.declared.transcript.Transcript.{Transcript}
-use Rattle.script_runner.specs.Rounds.{AllowsPolls, AllowsStalls, PlaysOn, PlaysAll}
-use Rattle.script_runner.proofs.PlaysAll.{none_played, one_more_played, plays_count}
+use Rattle.script_runner.specs.Transcripts.{any_round_limited, NotesAnswers, IsSilentTranscript}
+use Rattle.script_runner.specs.Rounds.{AllowsStalls, PlayNoted}
+use Rattle.script_runner.specs.Works.{AnswersLoad}
+use Rattle.script_runner.proofs.Transcribes.{rounds_none, rounds_push}
 
 pub record RoundsSoFar (opening : Opening) (ss : List Standing) (all rest : List Round) (mid : List Standing) (before after : Transcript)
     : Type 0 where
   pub front : List Round
   pub is : front ++ rest ≡ all
   pub named : NameSessions (length ss) rest
-  pub so : PlaysAll opening ss front mid before after
+  pub so : PlayNoted opening front ss mid before after
 
 pub no_round_yet : (opening : Opening) (ss : List Standing) (all : List Round) (transcript : Transcript) → NameSessions (length ss) all
     → RoundsSoFar opening ss all all ss transcript transcript
-no_round_yet opening ss all transcript named = record { front = []; is = refl; named = named; so = none_played opening ss transcript }
+no_round_yet opening ss all transcript named = record {
+  front = [];
+  is = refl;
+  named = named;
+  so = record { own = []; plays = none_more opening ss; notes = rounds_none transcript };
+}
 
 -- what the next round may stall, and those after it
 pub stalls_next : (opening : Opening) (old_rest rest : List Round) (round : Round) → AllowsStalls opening old_rest → old_rest ≡ round ∷ rest
@@ -31,22 +41,37 @@ module _ (opening : Opening) (ss : List Standing) (all old_rest rest : List Roun
   pub next_named : LinesAreOfSome (length mid) round.lines
   next_named =
       let named : NameSessions (length ss) (round ∷ rest) = subst (NameSessions (length ss)) e so.named in
-      subst (λ (n : ℕ). LinesAreOfSome n round.lines) (sym (plays_count opening so.front so.so.replies ss mid so.so.plays)) named.0
+      subst (λ (n : ℕ). LinesAreOfSome n round.lines) (sym so.so.plays.all) named.0
 
   -- it is played
-  pub round_more : (met : List Standing) (after : Transcript) → PlaysOn opening round.lines mid met between after
-      → RoundsSoFar opening ss all rest met before after
-  round_more met after on =
+  pub round_more : (own : List Answer) (met : List Standing) (after : Transcript) → PlayMore opening (round ∷ []) (own ∷ []) mid met
+      → NotesAnswers own between after → RoundsSoFar opening ss all rest met before after
+  round_more own met after plays notes =
       let named : NameSessions (length ss) (round ∷ rest) = subst (NameSessions (length ss)) e so.named in
       record {
         front = so.front ++ round ∷ [];
         is = append_assoc so.front (round ∷ []) rest ∙ ap (λ (l : List Round). so.front ++ l) (sym e) ∙ so.is;
         named = named.1;
-        so = one_more_played opening so.front round ss mid met before between after so.so on;
+        so = record {
+          own = so.so.own ++ own ∷ [];
+          plays = more_then opening so.front (round ∷ []) so.so.own (own ∷ []) ss mid met so.so.plays plays;
+          notes = rounds_push so.so.own own before between after so.so.notes notes;
+        };
       }
 
 pub all_played : (opening : Opening) (ss : List Standing) (all rest : List Round) (mid : List Standing) (before after : Transcript)
-    → RoundsSoFar opening ss all rest mid before after → rest ≡ [] → PlaysAll opening ss all mid before after
+    → RoundsSoFar opening ss all rest mid before after → rest ≡ [] → PlayNoted opening all ss mid before after
 all_played opening ss all rest mid before after so none =
-    subst (λ (l : List Round). PlaysAll opening ss l mid before after)
+    subst (λ (l : List Round). PlayNoted opening l ss mid before after)
     (sym (append-nil so.front) ∙ ap (λ (l : List Round). so.front ++ l) (sym none) ∙ so.is) so.so
+
+-- a load's transcript keeps no line, and tells whether a reply told of a limit
+pub all_loaded : (opening : Opening) (ss : List Standing) (all rest : List Round) (mid : List Standing) (before after : Transcript)
+    → RoundsSoFar opening ss all rest mid before after → IsSilentTranscript before → rest ≡ [] → AnswersLoad opening all ss mid after.limited
+all_loaded opening ss all rest mid before after so silent none =
+    let ran = all_played opening ss all rest mid before after so none in
+    record {
+      own = ran.own;
+      plays = ran.plays;
+      limited_is = ran.notes.limited ∙ ap (λ (b : Bool). b || any_round_limited ran.own) silent.limited;
+    }

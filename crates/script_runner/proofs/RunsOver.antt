@@ -6,13 +6,11 @@ use Rattle.batch_repr.specs.Batches.{IsContiguous, end_after}
 use Rattle.disk_face.specs.View.{DiskView}
 use Rattle.disk_face.specs.Script.{TellsOf, BeginsOver}
 use Rattle.failover_writer.specs.State.{JournalView, unbegun}
-use Rattle.session_script.specs.Script.{NameSessions}
 use Rattle.session_script.specs.declared.replies.RunEnd.{RunEnd}
 use Rattle.failover_writer.specs.Outcome.{JournalStart, JournalOutcome}
 use Rattle.commit_pipeline.specs.Openings.{Opening, first_number, first_of}
 use Rattle.commit_pipeline.specs.declared.standing.Standing.{Standing}
-use Rattle.commit_pipeline.specs.Parts.{AreNew}
-use Rattle.commit_pipeline.specs.Ending.{EndsPipeline}
+use Rattle.session_rounds.specs.Players.{ReadersView, HavePlayed, EndsPlayers}
 use Rattle.script_runner.specs.declared.run.Outcome.{Outcome}
 use Rattle.script_runner.specs.declared.performing.Told.{Told}
 use Rattle.script_runner.specs.declared.work.Work.{Work}
@@ -24,17 +22,17 @@ use Rattle.script_runner.proofs.TellsOf.{run_told}
 
 -- Some work was done over a pipeline of the opening, and the journal that it gave up was ended.
 pub runs_over : {Disk : Type 0} (tells : Bool) (view : Disk → DiskView) (base : List Batch) (work : Work) (opening : Opening) (old left new : JournalView Disk)
-    (ss ss' : List Standing) (visible count : ℕ) (taken : List ℕ) (told : Told) (end : RunEnd) → opening ≡ run_opening view base (work_rounds work) old
-    → AreNew (length ss) ss → NameSessions (length ss) (work_rounds work) → PerformsWork opening work ss ss' told
-    → EndsPipeline tells view opening ss' left visible count taken → GoesOnKept tells view left new
-    → EndsJournal view (halts work) visible count left new end → RunsOver tells view base work old new (record { told = told; end = end })
-runs_over tells view base work opening old left new ss ss' visible count taken told end is made named done finished goes ended =
+    (ss : List Standing) (readers : ReadersView) (visible count : ℕ) (told : Told) (end : RunEnd) → opening ≡ run_opening view base (work_rounds work) old
+    → HavePlayed opening [] [] ss → PerformsWork opening work ss readers told → EndsPlayers tells view opening readers left visible count
+    → GoesOnKept tells view left new → EndsJournal view (halts work) visible count left new end
+    → RunsOver tells view base work old new (record { told = told; end = end })
+runs_over tells view base work opening old left new ss readers visible count told end is begun done finished goes ended =
     record {
       batches = finished.0;
       journal = subst (λ (o : Opening). JournalOutcome tells o.start finished.0 new.state (view new.disk)) is
           (goes.outcome opening.start finished.0 finished.1.keeps);
       says = subst (λ (o : Opening). SaysRun (first_of o) o.base work finished.0 (record { told = told; end = end })) is
-          (says_run tells view opening work ss ss' left new visible count told end finished.0 made named done finished.1 goes.acked ended);
+          (says_run tells view opening work ss readers left new visible count told end finished.0 begun done finished.1 goes.acked ended);
       tells_end = ended.tells;
     }
 

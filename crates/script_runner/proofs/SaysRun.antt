@@ -1,26 +1,24 @@
 -- What is said of a run, by what was played and by how its journal ended.
-use Rattle.std.proofs.Common.{◌≡◌, ◌≢◌, ℕ, ◌≤◌, Bool, true, List, [], ◌∷◌, ◌++◌, length, Option, Some, None, refl, ◌∙◌, arith}
+use Rattle.std.proofs.Common.{◌≡◌, ◌≢◌, ℕ, ◌≤◌, Bool, true, List, [], ◌∷◌, ◌++◌, Option, Some, None, refl, ◌∙◌, arith}
 use Rattle.std.specs.Prelude.{is_some}
 use Rattle.std.specs.List.{AllByRecursion}
 use Rattle.batch_repr.specs.declared.batch.Batch.{Batch}
 use Rattle.disk_face.specs.View.{DiskView}
 use Rattle.failover_writer.specs.declared.fault.DeadMark.{DeadMark}
 use Rattle.failover_writer.specs.State.{JournalView, acked}
-use Rattle.session_script.specs.Script.{NameSessions}
 use Rattle.session_script.specs.declared.replies.RunEnd.{RunEnd}
 use Rattle.session_script.specs.Legal.{Replied}
 use Rattle.session_script.proofs.Laws.{limited_exactly}
 use Rattle.commit_pipeline.specs.Openings.{Opening, first_of}
 use Rattle.commit_pipeline.specs.declared.standing.Standing.{Standing}
-use Rattle.commit_pipeline.specs.Parts.{AreNew}
-use Rattle.commit_pipeline.specs.Ending.{Finishes}
-use Rattle.session_rounds.specs.Legality.{SyncedAreAmong, HaveSeenThem}
-use Rattle.session_rounds.proofs.Laws.{played_legally, played_seen, deaths_lasting, visible_at_end}
+use Rattle.session_rounds.specs.Legality.{SyncedAreAmong}
+use Rattle.session_rounds.specs.Players.{ReadersView, HavePlayed, ArePlayedLegally, EndsPlay}
 use Rattle.script_runner.specs.declared.performing.Told.{Told}
 use Rattle.script_runner.specs.declared.work.Work.{Work}
 use Rattle.script_runner.specs.declared.work.Work.TheVariants as works
 use Rattle.script_runner.specs.Works.{work_rounds, halts, Keeps, PerformsWork}
 use Rattle.script_runner.specs.Runs.{TellsWork, SaysRun, EndsJournal}
+use Rattle.script_runner.proofs.Transcribes.{rounds_said, limits_said}
 
 more_acked : (batches : List Batch) (low high : ℕ) (replies : List (List Replied)) → low ≤ high → AllByRecursion (SyncedAreAmong batches low) replies
     → AllByRecursion (SyncedAreAmong batches high) replies
@@ -34,34 +32,31 @@ is_marked : (o : Option DeadMark) → o ≢ None → is_some o ≡ true
 is_marked None some = absurd (some refl)
 is_marked (Some mark) some = refl
 
-module _ {Disk : Type 0} (tells : Bool) (view : Disk → DiskView) (opening : Opening) (work : Work) (ss ss' : List Standing) (left new : JournalView Disk)
-    (visible count : ℕ) (told : Told) (end : RunEnd) (batches : List Batch) (made : AreNew (length ss) ss)
-    (named : NameSessions (length ss) (work_rounds work)) (done : PerformsWork opening work ss ss' told)
-    (finishes : Finishes tells opening batches ss' left.state (view left.disk) visible count) where
-  -- all batches are seen after the last meeting
-  have_seen : HaveSeenThem tells opening batches done.mid left.state (view left.disk) visible count
-  have_seen = played_seen tells opening (work_rounds work) done.replies ss done.mid ss' batches left.state (view left.disk) visible count made named
-      done.plays done.stay finishes
+module _ {Disk : Type 0} (tells : Bool) (view : Disk → DiskView) (opening : Opening) (work : Work) (ss : List Standing) (readers : ReadersView)
+    (left new : JournalView Disk) (visible count : ℕ) (told : Told) (end : RunEnd) (batches : List Batch) (begun : HavePlayed opening [] [] ss)
+    (done : PerformsWork opening work ss readers told)
+    (ends : EndsPlay tells opening readers batches left.state (view left.disk) visible count) where
+  played : ArePlayedLegally opening (work_rounds work) done.own readers.met batches left.state
+  played = ends.legally (work_rounds work) done.own (done.plays.after [] [] begun)
 
-  tells_work : (work' : Work) → Keeps opening work' told done.replies done.mid ss' → TellsWork work' (opening.base ++ batches) done.replies told
-  tells_work (works.Script script) kept = kept
-  tells_work (works.Load load) kept = kept batches have_seen.seen finishes.seen
+  tells_work : (work' : Work) → Keeps opening work' told done.own readers → TellsWork work' (opening.base ++ batches) played.replies told
+  tells_work (works.Script script) kept = kept ∙ rounds_said done.own played.replies played.answers_are
+  tells_work (works.Load load) kept = kept batches played.seen ends.within
 
   pub says_run : acked left.state ≤ acked new.state → EndsJournal view (halts work) visible count left new end
       → SaysRun (first_of opening) opening.base work batches (record { told = told; end = end })
   says_run acked_on ended =
-      let played = played_legally tells opening (work_rounds work) done.replies ss done.mid batches left.state (view left.disk) visible count end.died
-      made named done.plays have_seen.finishes (λ dead. ended.tells.died_is ∙ is_marked new.state.dead (ended.dies dead)) in
+      let legal = played.legal end.died (λ dead. ended.tells.died_is ∙ is_marked new.state.dead (ended.dies dead)) in
       record {
-        replies = done.replies;
+        replies = played.replies;
         answers = record {
-          legal = played.0;
-          synced = more_acked batches (acked left.state) end.acked done.replies (omega (arith, acked_on, ended.tells.acked_is)) played.1;
-          lasting = deaths_lasting opening (work_rounds work) done.replies ss done.mid named done.plays;
-          exact = limited_exactly (first_of opening) opening.base end.died (work_rounds work) batches done.replies played.0;
-          limited = done.limited;
-          visible = ended.visible_is ∙ visible_at_end tells opening batches ss' left.state (view left.disk) visible count finishes;
-          count = ended.batches_are ∙ finishes.count_is;
+          legal = legal;
+          synced = more_acked batches (acked left.state) end.acked played.replies (omega (arith, acked_on, ended.tells.acked_is)) played.synced;
+          lasting = played.lasting;
+          exact = limited_exactly (first_of opening) opening.base end.died (work_rounds work) batches played.replies legal;
+          limited = done.limited ∙ limits_said done.own played.replies played.answers_are;
+          visible = ended.visible_is ∙ ends.visible_is;
+          count = ended.batches_are ∙ ends.count_is;
         };
         tells = tells_work work done.kept;
         halted = ended.halted_is;

@@ -3,18 +3,9 @@ use Rattle.std.specs.Prelude.{◌≡◌, ◌++◌, ◌||◌, ℕ, Bool, false, L
 use Rattle.std.specs.List.{flat_map, list_any}
 use Rattle.session_script.specs.declared.replies.Said.{Said}
 use Rattle.session_script.specs.Replies.{reply_line}
-use Rattle.session_script.specs.Legal.{Replied, replies_text}
-use Rattle.session_script.specs.Theorems.{tells_limit, limit_told}
+use Rattle.session_script.specs.Theorems.{tells_limit}
 use Rattle.session_rounds.specs.declared.answers.Answer.{Answer}
 use Rattle.script_runner.specs.declared.transcript.Transcript.{Transcript}
-
--- whether one of these replies tells of a limit
-abbrev pub any_limit : List Replied → Bool
-any_limit replies = list_any (λ (r : Replied). tells_limit r.said) replies
-
--- the lines of some replies
-abbrev pub lines_text : List Replied → List ℕ
-lines_text replies = flat_map (λ (r : Replied). reply_line r.line.session r.said) replies
 
 -- whether one of these answers tells of a limit
 abbrev pub any_limited : List Answer → Bool
@@ -23,6 +14,13 @@ any_limited answers = list_any (λ (a : Answer). tells_limit a.said) answers
 -- the lines of some answers
 abbrev pub answers_text : List Answer → List ℕ
 answers_text answers = flat_map (λ (a : Answer). reply_line a.session a.said) answers
+
+-- the same of the answers of some rounds
+abbrev pub any_round_limited : List (List Answer) → Bool
+any_round_limited rounds = list_any any_limited rounds
+
+abbrev pub rounds_text : List (List Answer) → List ℕ
+rounds_text rounds = flat_map answers_text rounds
 
 -- a text with more lines, where it is kept
 abbrev pub with_lines : Option (List ℕ) → List ℕ → Option (List ℕ)
@@ -44,17 +42,12 @@ pub record NotesReply (session : ℕ) (said : Said) (old new : Transcript) : Typ
   pub text : new.text ≡ with_lines old.text (reply_line session said)
   pub limited : new.limited ≡ (old.limited || tells_limit said)
 
--- These replies are added to it.
-pub record NotesReplies (replies : List Replied) (old new : Transcript) : Type 0 where
-  pub text : new.text ≡ with_lines old.text (lines_text replies)
-  pub limited : new.limited ≡ (old.limited || any_limit replies)
-
--- The replies of these rounds are added to it.
-pub record NotesRounds (rounds : List (List Replied)) (old new : Transcript) : Type 0 where
-  pub text : new.text ≡ with_lines old.text (replies_text rounds)
-  pub limited : new.limited ≡ (old.limited || limit_told rounds)
-
 -- Answers are added to it, each as the reply to a line of its session.
 pub record NotesAnswers (answers : List Answer) (old new : Transcript) : Type 0 where
   pub text : new.text ≡ with_lines old.text (answers_text answers)
   pub limited : new.limited ≡ (old.limited || any_limited answers)
+
+-- The answers of these rounds are added to it.
+pub record NotesRounds (rounds : List (List Answer)) (old new : Transcript) : Type 0 where
+  pub text : new.text ≡ with_lines old.text (rounds_text rounds)
+  pub limited : new.limited ≡ (old.limited || any_round_limited rounds)

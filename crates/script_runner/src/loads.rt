@@ -1,13 +1,15 @@
 //! A load: its rounds, and the keys that have a value after them.
 
-ghost use Rattle.std.specs.Prelude.{length, IfOk};
+ghost use Rattle.std.specs.Prelude.{◌≤◌, length, IfOk, IfErr};
 ghost use Rattle.session_script.specs.Script.{NameSessions};
+ghost use Rattle.commit_pipeline.specs.Ending.{StillKeeps};
 ghost use Rattle.script_runner.specs.Works.{AnswersLoad, CountsLive};
 
-use crate::rounds::run_load_round;
 use crate::transcript::Transcript;
-use commit_pipeline::{Gate, PipeName, Pipeline, Session, Sessions};
+use commit_pipeline::{Gate, PipeName};
 use disk_face::{Disk, StallDisk};
+use failover_writer::Journal;
+use session_rounds::{Players, Readers};
 use session_script::{LOAD_KEYS, Load, load_key};
 use std::alloc::Global;
 use std::sync::Wait;
@@ -16,8 +18,9 @@ use std::thread::Threads;
 use wal_base::NoMemory;
 
 /// Plays the rounds of a load, the lines of each made once the one before has been played. Of its replies no line is kept.
-/// Answers whether one of them told a limit.
+/// Answers whether one of them told a limit. Where memory runs out `Err` gives the journal back.
 pub(crate) fn run_load<
+    'a,
     D: StallDisk + Send,
     G: Gate + Sync,
     N: PipeName + Send + Sync,
@@ -26,35 +29,37 @@ pub(crate) fn run_load<
 >(
     rt: &R,
     alloc: Global,
-    pipe: &Pipeline<'_, D, G, N, M>,
-    mut sessions: Sessions<N, M>,
+    mut players: Players<'a, D, G, N, M>,
     mut load: Load,
-) -> Result<(Sessions<N, M>, bool), NoMemory>
-    requires { NameSessions (length sessions.items) load }
-    ensures { IfOk result (λ ended. AnswersLoad N.opening sessions.items load ended.0.items ended.1) }
+) -> Result<(Players<'a, D, G, N, M>, bool), Journal<D>>
+    requires { NameSessions (length players) load }
+    ensures answered { IfOk result (λ ended. AnswersLoad N.opening load players.entry ended.0 ended.1) }
+    ensures err { IfErr result (StillKeeps D.tells D.view N.opening) }
 {
-    let mut limited = false;
+    let mut transcript = Transcript::silent();
     while let Some(round) = load.next_round() {
-        let mut transcript = Transcript::silent();
-        sessions = run_load_round(rt, alloc, pipe, sessions, round, &mut transcript)?;
-        limited = limited || transcript.limited;
+        let (ended, answers) = players.play_load_round(rt, alloc, round)?;
+        players = ended;
+        let Ok(()) = transcript.note_all(answers) else {
+            return Err(players.into_journal());
+        };
     }
-    Ok((sessions, limited))
+    Ok((players, transcript.limited))
 }
 
 /// How many of the keys of a load have a value.
 pub(crate) fn count_live<D: Disk, G: Gate, N: PipeName, M: Ledger, R: Wait>(
     rt: &R,
     alloc: Global,
-    pipe: &Pipeline<'_, D, G, N, M>,
-    session: &mut Session<N, M>,
+    readers: &mut Readers<'_, D, G, N, M>,
 ) -> Result<u32, NoMemory>
-    ensures { IfOk result (λ live. CountsLive N.opening session.old live session.new) }
+    requires some { 1 ≤ length readers.old.now }
+    ensures { IfOk result (λ live. CountsLive N.opening live readers.old readers.new) }
 {
     let mut live = 0;
     for index in 0..LOAD_KEYS {
         let key = load_key(alloc, index)?;
-        if pipe.get(rt, session, key.as_slice())?.value.is_some() {
+        if readers.get(rt, key.as_slice())?.value.is_some() {
             live += 1;
         }
     }

@@ -1,7 +1,8 @@
 //! What happens over a pipeline between its opening and its end.
 
-ghost use Rattle.std.specs.Prelude.{◌≤◌, length, IfOk};
+ghost use Rattle.std.specs.Prelude.{◌≡◌, ◌≤◌, Some, length, IfOk, IfErr, IsSome};
 ghost use Rattle.session_script.specs.Script.{NameSessions};
+ghost use Rattle.commit_pipeline.specs.Ending.{StillKeeps};
 ghost use Rattle.script_runner.specs.Rounds.{AllowsStalls};
 ghost use Rattle.script_runner.specs.Works.{work_rounds, Performs, KeepsReplies, KeepsCount, PerformsWork};
 
@@ -9,14 +10,16 @@ use crate::loads::{count_live, run_load};
 use crate::rounds::run_rounds;
 use crate::transcript::Transcript;
 use crate::work::Work;
-use commit_pipeline::{Gate, PipeName, Pipeline, Sessions};
+use commit_pipeline::{Gate, PipeName};
 use disk_face::StallDisk;
+use failover_writer::Journal;
+use session_rounds::{Players, Readers};
 use session_script::{Load, Rounds};
 use std::alloc::Global;
 use std::sync::Wait;
 use std::sync::ledger::Ledger;
 use std::thread::Threads;
-use wal_base::{Buf, NoMemory};
+use wal_base::Buf;
 
 /// What some work tells.
 #[derive(Debug, Drop)]
@@ -29,8 +32,9 @@ pub struct Told {
     pub limited: bool,
 }
 
-/// Does some work over a pipeline with its sessions.
+/// Does some work over a pipeline. Where memory runs out `Err` gives the journal back.
 pub(crate) fn perform<
+    'a,
     D: StallDisk + Send,
     G: Gate + Sync,
     N: PipeName + Send + Sync,
@@ -39,23 +43,24 @@ pub(crate) fn perform<
 >(
     rt: &R,
     alloc: Global,
-    pipe: &Pipeline<'_, D, G, N, M>,
-    sessions: Sessions<N, M>,
+    players: Players<'a, D, G, N, M>,
     work: Work,
-) -> Result<(Sessions<N, M>, Told), NoMemory>
-    requires some { 1 ≤ length sessions.items }
-    requires named { NameSessions (length sessions.items) (work_rounds work) }
+) -> Result<(Readers<'a, D, G, N, M>, Told), Journal<D>>
+    requires some { 1 ≤ length players }
+    requires named { NameSessions (length players) (work_rounds work) }
     requires may { AllowsStalls N.opening (work_rounds work) }
-    ensures { IfOk result (λ done. PerformsWork N.opening work sessions.items done.0.items done.1) }
+    ensures done { IfOk result (λ done. PerformsWork N.opening work players.entry done.0 done.1) }
+    ensures err { IfErr result (StillKeeps D.tells D.view N.opening) }
 {
     match work {
-        Work::Script(script) => perform_script(rt, alloc, pipe, sessions, script.rounds),
-        Work::Load(load) => perform_load(rt, alloc, pipe, sessions, load),
+        Work::Script(script) => perform_script(rt, alloc, players, script.rounds),
+        Work::Load(load) => perform_load(rt, alloc, players, load),
     }
 }
 
 /// Plays the rounds of a script.
 fn perform_script<
+    'a,
     D: StallDisk + Send,
     G: Gate + Sync,
     N: PipeName + Send + Sync,
@@ -64,30 +69,41 @@ fn perform_script<
 >(
     rt: &R,
     alloc: Global,
-    pipe: &Pipeline<'_, D, G, N, M>,
-    sessions: Sessions<N, M>,
+    players: Players<'a, D, G, N, M>,
     rounds: Rounds,
-) -> Result<(Sessions<N, M>, Told), NoMemory>
-    requires named { NameSessions (length sessions.items) rounds }
+) -> Result<(Readers<'a, D, G, N, M>, Told), Journal<D>>
+    requires named { NameSessions (length players) rounds }
     requires may { AllowsStalls N.opening rounds }
-    ensures { IfOk result (λ done. Performs N.opening rounds KeepsReplies sessions.items done.0.items done.1) }
+    ensures done { IfOk result (λ done. Performs N.opening rounds KeepsReplies players.entry done.0 done.1) }
+    ensures err { IfErr result (StillKeeps D.tells D.view N.opening) }
 {
-    let mut transcript = Transcript::new(alloc)?;
-    let sessions = run_rounds(rt, alloc, pipe, sessions, rounds, &mut transcript)?;
+    let Ok(mut transcript) = Transcript::new(alloc) else {
+        return Err(players.into_journal());
+    };
+    let players = run_rounds(rt, alloc, players, rounds, &mut transcript)?;
+    Ok((players.end_rounds(), told_by(transcript)))
+}
+
+/// What a transcript tells that keeps its lines.
+fn told_by(transcript: Transcript) -> Told
+    requires kept { IsSome transcript.text }
+    ensures text { transcript.text ≡ Some result.text }
+    ensures limited { result.limited ≡ transcript.limited }
+{
     let Transcript { text, limited } = transcript;
     let Some(text) = text else {
         unreachable!();
     };
-    let told = Told {
+    Told {
         text,
         live: 0,
         limited,
-    };
-    Ok((sessions, told))
+    }
 }
 
 /// Plays the rounds of a load, and counts its live keys.
 fn perform_load<
+    'a,
     D: StallDisk + Send,
     G: Gate + Sync,
     N: PipeName + Send + Sync,
@@ -96,20 +112,26 @@ fn perform_load<
 >(
     rt: &R,
     alloc: Global,
-    pipe: &Pipeline<'_, D, G, N, M>,
-    sessions: Sessions<N, M>,
+    players: Players<'a, D, G, N, M>,
     load: Load,
-) -> Result<(Sessions<N, M>, Told), NoMemory>
-    requires some { 1 ≤ length sessions.items }
-    requires named { NameSessions (length sessions.items) load }
-    ensures { IfOk result (λ done. Performs N.opening load (KeepsCount N.opening) sessions.items done.0.items done.1) }
+) -> Result<(Readers<'a, D, G, N, M>, Told), Journal<D>>
+    requires some { 1 ≤ length players }
+    requires named { NameSessions (length players) load }
+    ensures done { IfOk result (λ done. Performs N.opening load (KeepsCount N.opening) players.entry done.0 done.1) }
+    ensures err { IfErr result (StillKeeps D.tells D.view N.opening) }
 {
-    let (mut sessions, limited) = run_load(rt, alloc, pipe, sessions, load)?;
-    let live = count_live(rt, alloc, pipe, &mut sessions[0])?;
+    let (players, limited) = run_load(rt, alloc, players, load)?;
+    let mut readers = players.end_rounds();
+    let Ok(live) = count_live(rt, alloc, &mut readers) else {
+        return Err(readers.into_journal());
+    };
+    let Ok(text) = Buf::new(alloc) else {
+        return Err(readers.into_journal());
+    };
     let told = Told {
-        text: Buf::new(alloc)?,
+        text,
         live,
         limited,
     };
-    Ok((sessions, told))
+    Ok((readers, told))
 }

@@ -22,6 +22,7 @@ use batch_repr::Batches;
 use commit_pipeline::{Finished, Gate, Parts, PipeName, Pipeline};
 use disk_face::{Disk, ScriptDisk, StallDisk};
 use failover_writer::{Journal, JournalFault};
+use session_rounds::Players;
 use session_script::RunEnd;
 use std::alloc::Global;
 use std::marker::Brand;
@@ -172,19 +173,23 @@ fn over_names<
             };
         }
     };
+    let players = Players::new(pipe, sessions);
     let halted = work.halts();
-    let Ok((sessions, told)) = perform(rt, alloc, &pipe, sessions, work) else {
-        return Course {
-            outcome: Err(NoMemory),
-            journal: pipe.into_journal(),
-        };
+    let (readers, told) = match perform(rt, alloc, players, work) {
+        Ok(done) => done,
+        Err(journal) => {
+            return Course {
+                outcome: Err(NoMemory),
+                journal,
+            };
+        }
     };
     let Finished {
         mut journal,
         visible,
         batches,
         popped: _,
-    } = pipe.finish(rt, sessions);
+    } = readers.finish(rt);
     match end_journal(&mut journal, halted, visible, batches) {
         Ok(end) => Course {
             outcome: Ok(Outcome { told, end }),

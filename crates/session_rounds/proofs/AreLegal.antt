@@ -19,7 +19,7 @@ use Rattle.commit_pipeline.specs.Commits.{end_at}
 use Rattle.commit_pipeline.specs.Parts.{AreNew}
 use Rattle.commit_pipeline.specs.Ending.{owned, EachOnce, Finishes}
 use Rattle.session_rounds.specs.Playing.{PlaysRounds}
-use Rattle.session_rounds.specs.Legality.{SyncedAreAmong, WhatIsPlayedIsLegal}
+use Rattle.session_rounds.specs.Legality.{SyncedAreAmong}
 use Rattle.session_rounds.proofs.IsPrefix.{row_end}
 use Rattle.session_rounds.proofs.Follows.{End, AllWithin, before_meeting, before_rounds}
 use Rattle.session_rounds.proofs.InTurn.{store, in_store}
@@ -146,8 +146,12 @@ module _ (tells : Bool) (opening : Opening) (batches : List Batch) (last : List 
         all.synced,
       )
 
--- The law.
-pub played_legally : WhatIsPlayedIsLegal
+-- What new sessions play over a pipeline, until it ends with these batches, is legal; and each batch that is answered synced is acked.
+pub played_legally : (tells : Bool) (opening : Opening) (rounds : List Round) (replies : List (List Replied)) (ss last : List Standing)
+    (batches : List Batch) (state : State) (v : DiskView) (visible count : ℕ) (died : Bool)
+    → AreNew (length ss) ss → NameSessions (length ss) rounds → PlaysRounds opening ss rounds replies last
+    → Finishes tells opening batches last state v visible count → (state.dead ≢ None → IsTrue died)
+    → AreLegal (first_of opening) opening.base died rounds batches replies × AllByRecursion (SyncedAreAmong batches (acked state)) replies
 played_legally tells opening rounds replies ss last batches state v visible count died new some plays ends dies =
     let e = the_end tells opening batches last state v visible count died ends dies in
     legally tells opening batches last state v visible count died ends dies rounds replies

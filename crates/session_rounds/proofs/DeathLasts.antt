@@ -12,14 +12,13 @@ use Rattle.session_script.specs.declared.script.Round.{Round}
 use Rattle.session_script.specs.declared.replies.Said.{Said}
 use Rattle.session_script.specs.declared.replies.Said.TheVariants.{Committed, Unsynced, Dead, Limit, Got}
 use Rattle.session_script.specs.Legal.{Replied, replies_of_session}
-use Rattle.session_script.specs.Lasting.{shows_death, needs_life, DeathLastsInTurn, DeathLastsFrom}
+use Rattle.session_script.specs.Lasting.{shows_death, needs_life, DeathLastsInTurn, DeathLastsFrom, DeathLasts}
 use Rattle.commit_pipeline.specs.Openings.{Opening}
 use Rattle.commit_pipeline.specs.declared.standing.Standing.{Standing}
 use Rattle.commit_pipeline.specs.Standings.{KnowsDeath}
 use Rattle.commit_pipeline.specs.Meeting.{HaveMet}
 use Rattle.session_rounds.specs.Acts.{Does, DoesLines}
 use Rattle.session_rounds.specs.Playing.{PlaysRound, PlaysRounds}
-use Rattle.session_rounds.specs.Legality.{DeathsLast}
 use Rattle.session_rounds.proofs.BySessions.{no_reply}
 use Rattle.session_rounds.proofs.Follows.{Follows, lines_follow, has_some}
 
@@ -184,7 +183,9 @@ lasts_from opening dead (round ∷ rounds) (replies ∷ more) ss last some plays
           (known_after opening round.lines replies ss mid met some.0 one plays.3 dead knows),
     )
 
--- The law.
-pub deaths_lasting : DeathsLast
+-- Once a reply to what sessions play shows that the journal is dead, no later one of its session, and none of a later round, needs a
+-- journal that lives.
+pub deaths_lasting : (opening : Opening) (rounds : List Round) (replies : List (List Replied)) (ss ss' : List Standing)
+    → NameSessions (length ss) rounds → PlaysRounds opening ss rounds replies ss' → DeathLasts replies
 deaths_lasting opening rounds replies ss ss' some plays =
     lasts_from opening false rounds replies ss ss' some plays (λ is. let clash : false ≡ true = is in absurd cc)

@@ -16,7 +16,7 @@ use Rattle.commit_pipeline.specs.Parts.{AreNew}
 use Rattle.commit_pipeline.specs.Meeting.{StayOn, HaveMet}
 use Rattle.commit_pipeline.specs.Ending.{owned, EachOnce, Finishes}
 use Rattle.session_rounds.specs.Playing.{PlaysRound, PlaysRounds}
-use Rattle.session_rounds.specs.Legality.{WhatIsPlayedIsSeen}
+use Rattle.session_script.specs.Script.{NameSessions}
 use Rattle.session_rounds.proofs.IsPrefix.{prefix_then, prefix_whole}
 use Rattle.session_rounds.proofs.Follows.{Follows, End, AllWithin, has_some, stays_follows, before_meeting, before_rounds, all_before}
 use Rattle.session_rounds.proofs.AreOwned.{SeenFrom, greatest, greatest_least, greatest_all, seen_by_each, round_course, same_owned}
@@ -121,8 +121,17 @@ module _ (tells : Bool) (opening : Opening) (batches : List Batch) (mid last : L
       prefix_whole s.seen batches (finished.seen s h)
       (omega (arith, as_many_seen (length batches) high mid finished.own so, so.seen h.0 s here))
 
--- The law.
-pub played_seen : WhatIsPlayedIsSeen
+-- Sessions that have played over a pipeline, and only read since, until it ends with these batches, had each seen them all once they
+-- had met for the last time; and so the pipeline might have ended there.
+pub record HaveSeenThem (tells : Bool) (opening : Opening) (batches : List Batch) (ss : List Standing) (state : State) (v : DiskView)
+    (visible count : ℕ) : Type 0 where
+  pub seen : (s : Standing) → Contains ss s → s.seen ≡ batches
+  pub finishes : Finishes tells opening batches ss state v visible count
+
+pub played_seen : (tells : Bool) (opening : Opening) (rounds : List Round) (replies : List (List Replied)) (ss mid last : List Standing)
+    (batches : List Batch) (state : State) (v : DiskView) (visible count : ℕ)
+    → AreNew (length ss) ss → NameSessions (length ss) rounds → PlaysRounds opening ss rounds replies mid → StayOn mid last
+    → Finishes tells opening batches last state v visible count → HaveSeenThem tells opening batches mid state v visible count
 played_seen tells opening rounds replies ss mid last batches state v visible count new some plays stay ends =
     let e = the_last tells opening batches mid last state v visible count stay ends in
     let so =

@@ -15,3 +15,6 @@ mod PlaysTurn
 mod AreDealt
 mod Played
 mod EachIsLeft
+mod HavePlayed
+mod FirstReads
+mod EndsPlay

@@ -3,3 +3,4 @@ pub mod Playing
 pub mod Turns
 pub mod Legality
 pub mod Threads
+pub mod Players

@@ -2,25 +2,25 @@
 //! round do them on threads of their own, and between two rounds all sessions meet. A session
 //! without a line starts no thread, and a single session with lines plays in place.
 //!
-//! Stands on `commit_pipeline` for commits and reads, and on `session_script` for lines, replies and
-//! what is legal. The layer above uses two contracts and three laws: `play_round` tells what each session
-//! has done, and `play_load_round` tells it of a round of a load, whose lines the sessions make
-//! themselves; what is played until a pipeline ends is legal, all of it is seen by all sessions after
-//! their last meeting, and a journal that died stays dead.
+//! Stands on `commit_pipeline` for commits and reads, and on `session_script` for lines, replies and what is legal. The layer
+//! above uses the contracts of two types. `Players` holds a pipeline with all its sessions: a call plays a round, of a script or
+//! of a load, whose lines the sessions make themselves, and then has all sessions meet. `Readers` holds it after the last round:
+//! its end tells that what was played is legal, that each batch answered synced is acked, and that a journal that died stays dead.
 #![tactic(auto)]
 
 mod answers;
 mod beside;
 mod course;
+mod players;
 mod playing;
-mod theorems;
+mod readers;
 mod threads;
 mod turns;
 
 pub use answers::{Answer, Answers};
 pub use course::Course;
-pub use playing::{play_load_round, play_round};
-pub use theorems::{deaths_last, what_is_played_is_legal, what_is_played_is_seen};
+pub use players::Players;
+pub use readers::Readers;
 
 #[cfg(test)]
 mod tests;

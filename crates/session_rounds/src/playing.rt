@@ -18,10 +18,10 @@ use std::sync::ledger::Ledger;
 use std::thread::Threads;
 use wal_base::NoMemory;
 
-/// Plays a round: each session that has lines does them in their order, beside the others: where one of them asks for a sync
-/// on a thread each, and else on a few. A session without a line costs no thread. The answers stand session by session. A
-/// session that runs out of memory stops, the others go on, and then `Err` is answered.
-pub fn play_round<
+/// Plays the lines of a round: each session that has some does them in their order, beside the others: where one of them asks
+/// for a sync on a thread each, and else on a few. A session without a line costs no thread. The answers stand session by
+/// session. A session that runs out of memory stops, the others go on, and then `Err` is answered.
+pub(crate) fn play_lines<
     D: Disk + Send,
     G: Gate + Sync,
     N: PipeName + Send + Sync,
@@ -41,8 +41,8 @@ pub fn play_round<
     play_turns(rt, alloc, pipe, turns)
 }
 
-/// Plays a round of a load in the same way. Each session makes its lines itself, before it does the first one.
-pub fn play_load_round<
+/// Plays the lines of a round of a load in the same way. Each session makes its lines itself, before it does the first one.
+pub(crate) fn play_load_lines<
     D: Disk + Send,
     G: Gate + Sync,
     N: PipeName + Send + Sync,

@@ -1,17 +1,17 @@
 //! What a round comes to, by examples.
-ghost use Rattle.std.specs.Prelude.{◌≡◌, ◌+◌, ◌≤◌, IfSome};
+ghost use Rattle.std.specs.Prelude.{◌≡◌, ◌+◌, ◌≤◌, length, IfSome};
 ghost use Rattle.batch_repr.specs.declared.limits.TheConstants.{NUMBER_FIRST, SESSIONS_MAX};
 ghost use Rattle.session_script.specs.Script.{LinesAreOfSome};
 ghost use Rattle.commit_pipeline.specs.Openings.{opening_on};
 ghost use Rattle.failover_writer.specs.State.{len};
 
-use crate::{Answer, Answers, play_load_round, play_round};
+use crate::{Answer, Answers, Players};
 use batch_repr::{Batches, NUMBER_FIRST, Unwritten};
-use commit_pipeline::{NoGate, Parts, PipeName, Pipeline};
-use disk_face::Disk;
+use commit_pipeline::{Finished, Gate, NoGate, Parts, PipeName, Pipeline};
+use disk_face::{Disk, StallDisk};
 use failover_writer::Journal;
 use mem_disk::MemDisk;
-use session_script::{Act, LOAD_SESSIONS, Line, Lines, Load, LoadRound, Said};
+use session_script::{Act, LOAD_SESSIONS, Line, Lines, Load, LoadRound, Round, Said, Stalls};
 use std::alloc::Global;
 use std::marker::Brand;
 use std::process::Abort;
@@ -116,13 +116,13 @@ fn new_journal(rt: &impl Abort, alloc: Global) -> Journal<MemDisk>
     }
 }
 
-/// Plays a round of new sessions over a journal of no record.
-fn played<D: Disk + Drop + Send, R: Threads + Wait + Abort + Sync>(
+/// Plays a round of new sessions over a journal of no record. Answers how many batches were committed, too.
+fn played<D: StallDisk + Drop + Send, R: Threads + Wait + Abort + Sync>(
     rt: &R,
     alloc: Global,
     journal: Journal<D>,
     row: Row,
-) -> Answers
+) -> (Answers, u64)
     requires sessions { (1 ≤ row.sessions) × (row.sessions ≤ SESSIONS_MAX) }
     requires row { row.first + row.count ≤ row.sessions }
     requires empty { len journal.state ≡ 0 }
@@ -134,31 +134,29 @@ fn played<D: Disk + Drop + Send, R: Threads + Wait + Abort + Sync>(
 }
 
 /// The name of the table is picked.
-fn with_table<D: Disk + Drop + Send, N: PipeName + Send + Sync, R: Threads + Wait + Abort + Sync>(
-    rt: &R,
-    alloc: Global,
-    parts: Parts,
-    journal: Journal<D>,
-    row: Row,
-) -> Answers
+fn with_table<
+    D: StallDisk + Drop + Send,
+    N: PipeName + Send + Sync,
+    R: Threads + Wait + Abort + Sync,
+>(rt: &R, alloc: Global, parts: Parts, journal: Journal<D>, row: Row) -> (Answers, u64)
     requires opening { N.opening ≡ opening_on D.view parts.base journal N.opening.start.may_stall }
     requires table { parts.table ≡ N.table }
     requires queue { parts.queue ≡ N.queue }
     requires batches { (parts.batches ≡ N.name) × (parts.sessions ≡ N.parts) }
     requires empty { len journal.state ≡ 0 }
     requires next { journal.state.next ≡ parts.next }
-    requires row { (row.first + row.count ≤ row.sessions) × (row.sessions ≡ parts.sessions) }
+    requires row { (1 ≤ row.sessions) × (row.first + row.count ≤ row.sessions) × (row.sessions ≡ parts.sessions) }
 {
     with_names::<D, N, Brand, R>(rt, alloc, parts, journal, row)
 }
 
 /// All names are picked.
 fn with_names<
-    D: Disk + Drop + Send,
+    D: StallDisk + Drop + Send,
     N: PipeName + Send + Sync,
     M: Ledger + Send + Sync,
     R: Threads + Wait + Abort + Sync,
->(rt: &R, alloc: Global, parts: Parts, journal: Journal<D>, row: Row) -> Answers
+>(rt: &R, alloc: Global, parts: Parts, journal: Journal<D>, row: Row) -> (Answers, u64)
     requires opening { N.opening ≡ opening_on D.view parts.base journal N.opening.start.may_stall }
     requires table { parts.table ≡ N.table }
     requires queue { parts.queue ≡ N.queue }
@@ -166,19 +164,47 @@ fn with_names<
     requires answers { (parts.answers ≡ M.name) × (parts.sessions + parts.sessions ≡ M.parts) }
     requires empty { len journal.state ≡ 0 }
     requires next { journal.state.next ≡ parts.next }
-    requires row { (row.first + row.count ≤ row.sessions) × (row.sessions ≡ parts.sessions) }
+    requires row { (1 ≤ row.sessions) × (row.first + row.count ≤ row.sessions) × (row.sessions ≡ parts.sessions) }
 {
     let made = Pipeline::<D, NoGate, N, M>::new(journal, parts, &NoGate);
     let Ok((pipe, sessions)) = made else {
         panic!(rt; "memory");
     };
+    let players = Players::new(pipe, sessions);
     let played = match load_of(row) {
-        Some(round) => play_load_round(rt, alloc, &pipe, sessions, round),
-        None => play_round(rt, alloc, &pipe, sessions, lines_of(rt, alloc, row)),
+        Some(round) => players.play_load_round(rt, alloc, round),
+        None => {
+            let round = Round {
+                stalls: Stalls::new(alloc),
+                lines: lines_of(rt, alloc, row),
+            };
+            players.play_round(rt, alloc, round)
+        }
     };
-    let (sessions, answers) = played.expect(rt, "memory");
-    assert_eq!(rt; sessions.len(), row.sessions as usize);
-    answers
+    let Ok((players, answers)) = played else {
+        panic!(rt; "memory");
+    };
+    (answers, ended(rt, players))
+}
+
+/// Ends the rounds and the pipeline, with a read between. Answers how many batches were committed.
+fn ended<D: Disk + Drop, G: Gate, N: PipeName, M: Ledger, R: Wait + Abort>(
+    rt: &R,
+    players: Players<'_, D, G, N, M>,
+) -> u64
+    requires { 1 ≤ length players }
+{
+    let mut readers = players.end_rounds();
+    let reply = readers.get(rt, b"no such key").expect(rt, "memory");
+    assert!(rt; reply.value.is_none());
+    let Finished {
+        journal: _,
+        visible,
+        batches,
+        popped: _,
+    } = readers.finish(rt);
+    assert_eq!(rt; visible, reply.visible);
+    batches
 }
 
 /// Whether it is the reply to the commit of the session's one entry.
@@ -211,7 +237,8 @@ fn plays<R: Threads + Wait + Abort + Sync>(rt: &R, alloc: Global, row: Row)
     requires row { row.first + row.count ≤ row.sessions }
 {
     let journal = new_journal(rt, alloc);
-    let answers = played(rt, alloc, journal, row);
+    let (answers, batches) = played(rt, alloc, journal, row);
+    assert_eq!(rt; batches, u64::from(row.count));
     let mut left = answers.as_slice().iter();
     for k in 0..row.count {
         let session = row.first + k;
@@ -262,7 +289,8 @@ fn plays_load<R: Threads + Wait + Abort + Sync>(rt: &R, alloc: Global, batches: 
         batches,
     };
     let journal = new_journal(rt, alloc);
-    let answers = played(rt, alloc, journal, row);
+    let (answers, committed) = played(rt, alloc, journal, row);
+    assert_eq!(rt; committed, u64::from(batches));
     let mut left = answers.as_slice().iter();
     for session in 0..4u32 {
         for index in 0..batches {

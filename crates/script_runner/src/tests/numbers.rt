@@ -15,6 +15,7 @@ use commit_pipeline::{NoGate, Parts, PipeName, Pipeline};
 use disk_face::{Disk, StallDisk};
 use failover_writer::Journal;
 use mem_disk::MemDisk;
+use session_rounds::Players;
 use session_script::Script;
 use std::alloc::Global;
 use std::marker::Brand;
@@ -90,8 +91,10 @@ fn with_names<
     let Ok((pipe, sessions)) = made else {
         return Err(NoMemory);
     };
-    let (_, told) = perform(rt, alloc, &pipe, sessions, work)?;
-    Ok(told)
+    match perform(rt, alloc, Players::new(pipe, sessions), work) {
+        Ok((_, told)) => Ok(told),
+        Err(_) => Err(NoMemory),
+    }
 }
 
 /// What a script tells where this number is the next one.

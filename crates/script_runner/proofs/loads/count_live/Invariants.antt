@@ -3,4 +3,4 @@ use Rattle.script_runner.proofs.CountsKeys.{KeysSoFar}
 use Rattle.script_runner.proofs.loads.count_live.Given as goal
 
 abbrev pub invariant-loop-index : goal.invariant-loop-index
-invariant-loop-index g l = KeysSoFar g.N.PipeName.opening l.initial.session l.session l.index l.live
+invariant-loop-index g l = KeysSoFar g.N.PipeName.opening l.initial.readers l.readers l.index l.live

@@ -6,7 +6,7 @@ use Rattle.script_runner.proofs.rounds.run_rounds.Given as goal
 
 abbrev pub invariant-loop-round : goal.invariant-loop-round
 invariant-loop-round g l = record {
-  so : RoundsSoFar g.N.PipeName.opening l.initial.sessions.items l.fn.rounds l.left.items l.sessions.items l.initial.transcript l.transcript;
+  so : RoundsSoFar g.N.PipeName.opening l.initial.players l.fn.rounds l.left.items l.players l.initial.transcript l.transcript;
   may : AllowsStalls g.N.PipeName.opening l.left.items;
 }
 

@@ -1,36 +1,18 @@
 -- The work is done over the pipeline, and what it held is told of its journal.
-use Rattle.std.proofs.Common.{◌≡◌, ◌∙◌, Bool, IsTrue, refl, ap, sym, subst, arith, rules, length}
-use Rattle.std.specs.Vec.{vec_len}
-use Rattle.record_flow.specs.Passes.{taken_numbers}
+use Rattle.std.proofs.Common.{Bool, IsTrue, ap, sym, subst}
 use Rattle.failover_writer.specs.Outcome.{JournalOutcome}
 use Rattle.commit_pipeline.specs.Openings.{Opening}
-use Rattle.commit_pipeline.specs.Parts.{AreNew}
 use Rattle.script_runner.specs.Works.{work_rounds, halts}
 use Rattle.script_runner.specs.Runs.{EndsJournal}
 use Rattle.script_runner.proofs.AllowsStalls.{allowed}
-use Rattle.script_runner.proofs.PlaysAll.{plays_count}
-use Rattle.script_runner.proofs.HandsOnOver.{named_own, handed_further}
+use Rattle.script_runner.proofs.HandsOnOver.{handed_further}
 use Rattle.script_runner.proofs.RunsOver.{runs_over}
 use Rattle.script_runner.proofs.run.over_names.Goals as goal
-
-pub perform-requires-clause-named : goal.perform-requires-clause-named
-perform-requires-clause-named g c κs within =
-    named_own c.args.work (length c.in-Ok.made.1.items) c.requires.sessions.0 (c.in-Ok.ensures.sessions.all ∙ c.requires.sessions.1)
 
 pub perform-requires-clause-may : goal.perform-requires-clause-may
 perform-requires-clause-may g c κs within =
     allowed g.N.PipeName.opening (work_rounds c.args.work)
     (λ some. subst IsTrue (sym (ap (λ (o : Opening). o.start.may_stall) c.requires.opening)) some)
-
-pub finish-journal-requires : goal.finish-journal-requires
-finish-journal-requires g c =
-    let done = c.in-Ok-perform.ensures in
-    let made = c.in-Ok.made.1.items in
-    let items = c.in-Ok-perform.sessions.items in
-    let whole : vec_len c.in-Ok-perform.sessions ≡ length items = search rules in
-    let count : vec_len c.in-Ok-perform.sessions ≡ c.args.parts.sessions = whole ∙ done.stay.all
-    ∙ plays_count g.N.PipeName.opening (work_rounds c.args.work) done.replies made done.mid done.plays ∙ c.in-Ok.ensures.sessions.all in
-    record { all = (count ∙ c.requires.batches.1, omega (arith, count, c.requires.answers.1)) }
 
 pub returns-in-Ok-end_journal-clause-hands_on : goal.returns-in-Ok-end_journal-clause-hands_on
 returns-in-Ok-end_journal-clause-hands_on g c =
@@ -52,12 +34,9 @@ pub returns-in-Ok-end_journal-clause-ran : goal.returns-in-Ok-end_journal-clause
 returns-in-Ok-end_journal-clause-ran g c =
     let finished = c.finish-journal.result in
     let new = c.end_journal.new.journal in
-    let made = c.in-Ok.made.1.items in
-    let fresh : AreNew (length made) made = record { all = refl; each = c.in-Ok.ensures.sessions.each } in
     let ended : EndsJournal g.D.Disk.view (halts c.args.work) finished.visible finished.batches finished.journal new c.in-Ok-end_journal.end =
     subst (λ (h : Bool). EndsJournal g.D.Disk.view h finished.visible finished.batches finished.journal new c.in-Ok-end_journal.end)
     c.halts-halted.ensures c.in-Ok-end_journal.ensures.ends in
-    runs_over g.D.Disk.tells g.D.Disk.view c.args.parts.base c.args.work g.N.PipeName.opening c.args.journal finished.journal new made
-    c.in-Ok-perform.sessions.items finished.visible finished.batches (taken_numbers finished.popped) c.in-Ok-perform.told c.in-Ok-end_journal.end c.requires.opening fresh
-    (named_own c.args.work (length made) c.requires.sessions.0 (c.in-Ok.ensures.sessions.all ∙ c.requires.sessions.1))
-    c.in-Ok-perform.ensures c.finish-journal.ensures c.end_journal.ensures.goes_on ended
+    runs_over g.D.Disk.tells g.D.Disk.view c.args.parts.base c.args.work g.N.PipeName.opening c.args.journal finished.journal new
+    c.new-players.result c.in-Ok-perform.done.0 finished.visible finished.batches c.in-Ok-perform.done.1 c.in-Ok-end_journal.end c.requires.opening
+    c.new-players.ensures.played c.in-Ok-perform.ensures.done c.finish-journal.ensures c.end_journal.ensures.goes_on ended

@@ -1,14 +1,10 @@
--- There are as many sessions as the script has, and the opening allows stalls.
-use Rattle.std.proofs.Common.{IsTrue, length, refl, ap, sym, subst, ◌∙◌}
+-- The opening allows stalls.
+use Rattle.std.proofs.Common.{IsTrue, refl, ap, sym, subst}
 use Rattle.commit_pipeline.specs.Openings.{Opening}
 use Rattle.script_runner.specs.Works.{work_rounds}
 use Rattle.script_runner.proofs.AllowsStalls.{allowed}
 use Rattle.script_runner.proofs.HandsOnOver.{named_own}
 use Rattle.script_runner.proofs.tests.numbers.with_names.Goals as goal
-
-pub perform-requires-clause-named : goal.perform-requires-clause-named
-perform-requires-clause-named g c κs within =
-    named_own c.args.work (length c.in-Ok.sessions.items) c.requires.sessions.0 (c.in-Ok.ensures.sessions.all ∙ c.requires.sessions.1)
 
 pub perform-requires-clause-may : goal.perform-requires-clause-may
 perform-requires-clause-may g c κs within =
