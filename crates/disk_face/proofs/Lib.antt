@@ -6,6 +6,7 @@ mod Images
 mod Spelling
 mod Polled
 mod PassedOn
+mod LastStart
 mod Asked
 mod Fieldless
 mod Limits

@@ -29,9 +29,9 @@ NotesListing side result = Notes (was_listed side (answered result))
 abbrev pub AsksFor : Side → SegName → List ℕ → DiskView → DiskView → Type 0
 AsksFor side name buffer = Notes (was_read side name (length buffer))
 
--- a start is noted where it was not refused
-abbrev pub NotesStart : {E : Type 0} → Result OpId E → DiskView → DiskView → Type 0
-NotesStart result old new = IfOk result (λ id. Notes (was_started id) old new)
+-- a start of this operation is noted where it was not refused
+abbrev pub NotesStart : {E : Type 0} → DiskOp → Result OpId E → DiskView → DiskView → Type 0
+NotesStart op result old new = IfOk result (λ id. Notes (was_started id (flight_of op)) old new)
 
 -- the answer is a listing of the files of that side, where the disk tells them
 abbrev pub ListsFiles : Bool → Side → Result (List Listed) DiskErr → DiskView → Type 0

@@ -52,8 +52,8 @@ pub data Call : Type 0 where
   was_listed : Side → List Listed → Call
   -- so many bytes of a segment were asked for
   was_read : Side → SegName → ℕ → Call
-  -- an operation was put in flight
-  was_started : OpId → Call
+  -- an operation was put in flight: which file it is on, and what it does to it
+  was_started : OpId → Flight → Call
   -- it was asked how an operation stands, and gave this answer
   was_polled : OpId → Progress → Call
 

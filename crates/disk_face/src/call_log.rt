@@ -4,8 +4,9 @@ ghost use Rattle.std.specs.Prelude.{◌≡◌, List, [], ◌∷◌};
 ghost use Rattle.std.specs.Borrow.{ftrue};
 ghost use Rattle.disk_face.specs.View.{Call, was_listed, was_read, was_started, was_polled};
 ghost use Rattle.disk_face.specs.Asked.{answered};
+ghost use Rattle.disk_face.specs.Calls.{flight_of};
 
-use crate::{Disk, DiskErr, Names, OpId, Progress, SegName, Side};
+use crate::{Disk, DiskErr, DiskOp, Names, OpId, Progress, SegName, Side};
 use std::fmt;
 use std::marker::Model;
 
@@ -51,11 +52,11 @@ impl CallLog {
         *self = self.made(&side, &(name, len));
     }
 
-    /// An operation was put in flight.
-    pub fn note_start(&mut self, id: OpId)
-        ensures { self.new.calls ≡ was_started id ∷ self.old.calls }
+    /// This operation was put in flight.
+    pub fn note_start(&mut self, id: OpId, op: DiskOp<'_>)
+        ensures { self.new.calls ≡ was_started id (flight_of op.entry) ∷ self.old.calls }
     {
-        *self = self.made(&id, &());
+        *self = self.made(&id, &op);
     }
 
     /// It was asked how an operation stands, and gave this answer.

@@ -55,7 +55,7 @@ pub trait Disk {
         ensures starts { IsStarted op.entry result (view self.old) (view self.new) }
         ensures file { SendsIfStarted tells op.entry result (view self.old) (view self.new) }
         ensures stalls { StallsStay (view self.old) (view self.new) }
-        ensures noted { NotesStart result (view self.old) (view self.new) }
+        ensures noted { NotesStart op.entry result (view self.old) (view self.new) }
         ensures err { OnErr result (view self.new ≡ view self.old) };
 
     /// Asks how an operation in flight stands. `Done` and `Failed` end it; `Failed` comes only where its side

@@ -138,16 +138,16 @@ impl<D: Disk> Disk for ScriptDisk<D> {
         ensures starts { IsStarted op.entry result (outer D.view self.old) (outer D.view self.new) }
         ensures file { OuterSends D.view D.tells op.entry result self.old self.new }
         ensures stalls { StallsStay (outer D.view self.old) (outer D.view self.new) }
-        ensures noted { NotesStart result (outer D.view self.old) (outer D.view self.new) }
+        ensures noted { NotesStart op.entry result (outer D.view self.old) (outer D.view self.new) }
         ensures err { OnErr result (outer D.view self.new ≡ outer D.view self.old) }
 
         // The polls that this disk answers itself stay, and the disk within is asked once.
         ensures own { OwnPollsStay self.old self.new }
-        ensures once { NotesStart result (within D.view self.old) (within D.view self.new) }
+        ensures once { NotesStart op.entry result (within D.view self.old) (within D.view self.new) }
         ensures refused { OnErr result (within D.view self.new ≡ within D.view self.old) }
     {
         let id = self.inner.start(op)?;
-        self.log.note_start(id);
+        self.log.note_start(id, op);
         Ok(id)
     }
 

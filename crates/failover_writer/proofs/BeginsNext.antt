@@ -6,7 +6,7 @@ use Rattle.std.proofs.lemmas.List.Elements.{Contains-append_left, Contains-push}
 use Rattle.disk_face.specs.declared.OpId.{OpId}
 use Rattle.disk_face.specs.declared.Side.{Side}
 use Rattle.disk_face.specs.declared.SegName.{SegName}
-use Rattle.disk_face.specs.View.{Place, segment, creating, Act, Flight, Files, DiskView, files, IsFree}
+use Rattle.disk_face.specs.View.{Place, segment, creating, Act, Flight, Files, DiskView, files, IsFree, was_started, Makes}
 use Rattle.disk_face.specs.Calls.{GoesOn, Starts}
 use Rattle.disk_face.proofs.Laws.{same_id}
 use Rattle.batch_repr.specs.declared.batch.Batch.{Batch}
@@ -17,11 +17,13 @@ use Rattle.log_writer.specs.declared.phase.Operation.TheVariants.{Create}
 use Rattle.log_writer.specs.declared.phase.Phase.{Phase}
 use Rattle.log_writer.specs.declared.phase.Phase.TheVariants.{New, InFlight}
 use Rattle.log_writer.specs.Writer.{Writer}
-use Rattle.log_writer.specs.Fits.{Fits, IsUnsent, SameFile, place_of_writer}
+use Rattle.log_writer.specs.declared.phase.Operation.{Operation}
+use Rattle.log_writer.specs.Fits.{Fits, HasFlight, IsUnsent, SameFile, act_of, flight_on, place_of_writer}
 use Rattle.failover_writer.specs.State.{State, acked, is_broken}
 use Rattle.failover_writer.specs.Ranges.{side_at, IsSegmentAt, StandsFor}
 use Rattle.failover_writer.specs.Inside.{IsInOrder}
-use Rattle.failover_writer.specs.Stepping.{IsBehind, begun, left_behind, NoneBusy}
+use Rattle.failover_writer.specs.Stepping.{IsBehind, begun, left_behind, NoneBusy, NoneFlies}
+use Rattle.failover_writer.proofs.Lists.{all_then}
 use Rattle.failover_writer.specs.Keeping.{OthersStay, Passes}
 use Rattle.failover_writer.proofs.Accounted.{accounted_push}
 use Rattle.failover_writer.proofs.IsSoundJournal.{sound_with}
@@ -58,7 +60,7 @@ pub begins_first : (state : State) (side : Side) (name : SegName) (log from len 
     → name ≡ record { wal = state.wal; index = length state.segments } → from ≡ acked state → w ≡ unstarted side name log from
     → BeginsJust (next_operation w.phase w.written goal) len started w new before after
     → (id : OpId) × begun state id new × Starts (record { place = place_of_writer new; act = creating }) side id before after
-    × (place_of_writer new ≡ place_of_writer w)
+    × (place_of_writer new ≡ place_of_writer w) × Makes (was_started id (flight_on creating new) ∷ []) before after
 begins_first state side name log from len goal started w new before after side_is name_is from_is made begins =
     let begins_new = (subst (λ (u : Writer). BeginsJust (next_operation u.phase u.written goal) len started u new before after) made begins).1 in
     let moved = begins_new.moved in
@@ -76,7 +78,23 @@ begins_first state side name log from len goal started w new before after side_i
       ),
       subst (λ (p : Place). Starts (record { place = p; act = creating }) side begins_new.id before after) (sym place) begins_new.starts,
       place ∙ sym (ap place_of_writer made),
+      subst (λ (p : Place). Makes (was_started begins_new.id (record { place = p; act = creating }) ∷ []) before after) (sym place) begins_new.noted,
     )
+
+-- An id that no operation in flight has is none of a segment's.
+flies_in : (tells : Bool) (records : List Batch) (v : DiskView) (id : OpId) → v.in_flight id ≡ None → (w : Writer) → Fits tells records w v
+    → (operation : Operation) → w.phase ≡ InFlight operation id → ⊥
+flies_in tells records v id none w fits operation phase =
+    let flies : HasFlight (InFlight operation id) (place_of_writer w) v =
+    subst (λ (p : Phase). HasFlight p (place_of_writer w) v) phase fits.flight in
+    let clash : None ≡ Some (flight_on (act_of operation) w) = sym none ∙ flies.here in
+    cc
+
+pub none_flies : (tells : Bool) (records : List Batch) (state : State) (v : DiskView) (id : OpId) → v.in_flight id ≡ None
+    → StandsFor tells records state v → NoneFlies id state.segments
+none_flies tells records state v id none stands =
+    all_then (λ (w : Writer). Fits tells records w v) (λ (w : Writer). (operation : Operation) → w.phase ≡ InFlight operation id → ⊥)
+    (flies_in tells records v id none) state.segments stands.fit
 
 -- Where one operation more is in flight, on this file, each is on theirs or on it.
 pub alone_with : (flight : Flight) (side : Side) (id : OpId) (old new : DiskView) (theirs : List Place) → Starts flight side id old new

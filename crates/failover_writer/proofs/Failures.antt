@@ -53,7 +53,7 @@ fails_then (idle lives rests none) = omega arith
 fails_then (dies one other polled new side count up polls end) = omega (arith, polls_fail polls, ap (λ (s : State). broken_count s) end.new_is)
 fails_then (goes one other polled started new up polls went released) =
     omega (arith, polls_fail polls, (goes_whole went).0, ap (λ (s : State). broken_count s) released.new_is)
-fails_then (short one other polled up polls) = polls_fail polls
+fails_then (short one other polled up polls lives) = polls_fail polls
 
 -- Faults that covered all failures since a moment cover them still.
 pub covers_of : (old new : State) (before after : DiskView) (answer : Result Step JournalFault) → StepsBy old new before after answer
@@ -118,8 +118,8 @@ begins_still polled new begins none still = subst (λ (s : State). IsUnstalled s
 goes_still : {polled started : State} → ActsAfterPolls polled started → 1 ≤ polled.threshold → IsUnstalled polled → IsUnstalled started
 goes_still {polled} (first new none behind begins) least still = begins_still polled new begins (ap left_behind none) still
 goes_still (none_to_begin none rests) least still = still
-goes_still {polled} (switches new verdict begins) least still = begins_still polled new begins (leaves_none polled least still verdict) still
-goes_still {polled} (starts new verdict behind next) least still = subst (λ (s : State). IsUnstalled s) (sym next.new_is) (record {
+goes_still {polled} (switches new verdict begins fresh) least still = begins_still polled new begins (leaves_none polled least still verdict) still
+goes_still {polled} (starts new verdict behind next fresh) least still = subst (λ (s : State). IsUnstalled s) (sym next.new_is) (record {
   left = still.left;
   waiting = still_put next.earlier next.current (current_then polled new next) []
       (subst (λ (ws : List Writer). AllByRecursion HasNotWaited ws) next.segments_are still.waiting) refl;
@@ -143,7 +143,7 @@ still_then before after (goes one other polled started new up polls went release
           inl (subst (λ (s : State). IsUnstalled s) (sym released.new_is) (record { left = gone.left; waiting = gone.waiting }))
       | inr fell ↦ inr fell
     ]
-still_then before after (short one other polled up polls) one_told other_told least still = polls_still before after polls one_told other_told still
+still_then before after (short one other polled up polls lives) one_told other_told least still = polls_still before after polls one_told other_told still
 
 -- None is left by a stall, but where a poll of the step was pending.
 pub unstalled_of : (old new : State) (before after : DiskView) (answer : Result Step JournalFault) → StepsBy old new before after answer

@@ -283,8 +283,8 @@ goes_lower : (polled new : State) → polled.want ≤ len polled → length poll
     → (work new < work polled) ⊎ ((new ≡ polled) × (HasWork polled → NoneBusy polled.segments → ⊥))
 goes_lower polled new within few (first _ none behind begins) = inl (begins_lowers polled new (omega (arith, ap length none)) begins)
 goes_lower polled new within few (none_to_begin none not_behind) = inr (refl, λ more _. not_behind more.0)
-goes_lower polled new within few (switches _ verdict begins) = inl (begins_lowers polled new verdict.says.0 begins)
-goes_lower polled new within few (starts _ verdict behind is) = inl (starts_lowers polled new is)
+goes_lower polled new within few (switches _ verdict begins fresh) = inl (begins_lowers polled new verdict.says.0 begins)
+goes_lower polled new within few (starts _ verdict behind is fresh) = inl (starts_lowers polled new is)
 goes_lower polled new within few (stays verdict none) = inr (refl, λ more rests. stays_none polled within few verdict (none more.0) more rests)
 
 -- ---- the step
@@ -348,4 +348,4 @@ falls old new before after answer within few goes_on by = go by.rule by.one_told
     go (dies one other polled left side count up polls died) told also = tt
     go (goes one other polled started left up polls went releases) told also = λ busy. gone_falls old polled started left before after one
         other within few goes_on up polls went releases told also
-    go (short one other polled up polls) told also = tt
+    go (short one other polled up polls lives) told also = tt

@@ -91,8 +91,8 @@ goes_held : {polled started : State} → ActsAfterPolls polled started → held 
 goes_held {polled} (first new none behind begins) = begins_held polled new begins
     (subst (λ (ws : List Writer). left_behind ws * polled.threshold ≤ waited_on_current ws) (sym none) (omega arith))
 goes_held (none_to_begin none rests) = omega arith
-goes_held {polled} (switches new verdict begins) = begins_held polled new begins (leaves_waited polled verdict)
-goes_held {polled} (starts new verdict behind next) = subst (λ (s : State). held s ≤ held polled) (sym next.new_is)
+goes_held {polled} (switches new verdict begins fresh) = begins_held polled new begins (leaves_waited polled verdict)
+goes_held {polled} (starts new verdict behind next fresh) = subst (λ (s : State). held s ≤ held polled) (sym next.new_is)
     (omega (arith, waited_last next.earlier (current_then polled new next)))
 goes_held (stays verdict rests) = omega arith
 
@@ -105,7 +105,7 @@ holds_then (idle lives rests none) = omega arith
 holds_then (dies one other polled new side count up polls end) = omega (arith, polls_hold polls, ap (λ (s : State). held s) end.new_is)
 holds_then (goes one other polled started new up polls went released) =
     omega (arith, polls_hold polls, goes_held went, ap (λ (s : State). held s) released.new_is)
-holds_then (short one other polled up polls) = polls_hold polls
+holds_then (short one other polled up polls lives) = polls_hold polls
 
 -- Each pending answer took one of the polls left.
 pub hangs_of : (old new : State) (before after : DiskView) (answer : Result Step JournalFault) → StepsBy old new before after answer

@@ -77,8 +77,8 @@ goal_polled {old = old} {polled = polled} polls = goal_beside old polled polled.
 goal_went : (polled new : State) → stepping.ActsAfterPolls polled new → KeepsGoal polled new
 goal_went polled new (first _ none behind begins) = goal_begun polled new _ _ begins.new_is
 goal_went polled new (none_to_begin none not_behind) = goal_still polled polled refl
-goal_went polled new (switches _ verdict begins) = goal_begun polled new _ _ begins.new_is
-goal_went polled new (starts _ verdict behind is) = goal_beside polled new _ is.new_is
+goal_went polled new (switches _ verdict begins fresh) = goal_begun polled new _ _ begins.new_is
+goal_went polled new (starts _ verdict behind is fresh) = goal_beside polled new _ is.new_is
 goal_went polled new (stays verdict none) = goal_still polled polled refl
 
 goal_died : (polled new : State) (side : Side) (count : ℕ) → Dies polled new side count → KeepsGoal polled new
@@ -112,7 +112,7 @@ goal_kept {old = old} (dies one other polled new side count up polls died) = goa
     (goal_died polled new side count died)
 goal_kept {old = old} (goes one other polled started new up polls went releases) =
     goal_further old polled new (goal_polled polls) (goal_further polled started new (goal_went polled started went) (goal_released started new releases))
-goal_kept (short one other polled up polls) = goal_polled polls
+goal_kept (short one other polled up polls lives) = goal_polled polls
 
 -- ---- steps one after another
 

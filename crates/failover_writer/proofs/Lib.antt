@@ -21,6 +21,7 @@ mod Survives
 mod StepRule
 mod Failures
 mod Hangs
+mod ByCalls
 mod IsSoundJournal
 mod Accounted
 mod Covers

@@ -8,7 +8,7 @@ use Rattle.disk_face.specs.declared.OpId.{OpId}
 use Rattle.disk_face.specs.declared.Progress.{Progress}
 use Rattle.disk_face.specs.declared.Progress.TheVariants.{Pending, Done, Failed}
 use Rattle.disk_face.specs.Calls.{GoesOn, Polled}
-use Rattle.disk_face.specs.View.{DiskView}
+use Rattle.disk_face.specs.View.{Call, was_polled, Makes, DiskView}
 use Rattle.disk_face.proofs.Laws.{rose_later, goes_on_from}
 use Rattle.log_writer.specs.declared.phase.Operation.{Operation}
 use Rattle.log_writer.specs.declared.phase.Phase.TheVariants.{InFlight}
@@ -16,10 +16,10 @@ use Rattle.log_writer.specs.Writer.{Writer}
 use Rattle.log_writer.specs.Fits.{IsBusy}
 use Rattle.log_writer.specs.Steps.{after_answer}
 use Rattle.failover_writer.specs.Remaining.{polls_left}
-use Rattle.failover_writer.specs.Answered.{AsksToPoll, pending_count, failed_polls, failed_count, RoseBy}
+use Rattle.failover_writer.specs.Answered.{pending_count, failed_polls, failed_count, RoseBy}
 use Rattle.failover_writer.specs.State.{State, JournalView}
 use Rattle.failover_writer.specs.Keeping.{Passes}
-use Rattle.failover_writer.specs.Stepping.{NoneBusy, PollsFirst, Polls}
+use Rattle.failover_writer.specs.Stepping.{NoneBusy, PollsFirst, Polls, calls_of_poll, calls_of_polls}
 use Rattle.failover_writer.specs.Stepping as stepping
 use Rattle.failover_writer.specs.Answered.{IsTold}
 use Rattle.failover_writer.specs.Moves.{IsFirstBusy, PollsAt, PollsAll, was_pending}
@@ -34,6 +34,8 @@ pub record IsPolledEarly (state mid : State) (one : Option Progress) : Type 0 wh
   pub current : Writer
   pub were : state.segments ≡ earlier ++ current ∷ []
   pub first : PollsFirst earlier one polled
+  pub calls : List Call
+  pub calls_are : calls_of_poll first ≡ calls
   pub now : mid ≡ record state { segments = polled ++ current ∷ [] }
 
 pub none_early : (state : State) (current : Writer) → slice_get state.segments (length state.segments - 1) ≡ Some current
@@ -44,6 +46,8 @@ none_early state current is none = record {
   current = current;
   were = last_split state.segments current is;
   first = stepping.none (take (length state.segments - 1) state.segments) none;
+  calls = [];
+  calls_are = refl;
   now = ap (λ (ws : List Writer). record state { segments = ws }) (last_split state.segments current is);
 }
 
@@ -55,11 +59,13 @@ in_front (v ∷ front) w (suc index) x below is = in_front front w index x (omeg
 
 first_at : (writers : List Writer) (index : ℕ) (w : Writer) (operation : Operation) (id : OpId) (answer : Progress)
     → NoneBusy (take index writers) → slice_get writers index ≡ Some w → w.phase ≡ InFlight operation id
-    → PollsFirst writers (Some answer) (take index writers ++ after_answer operation answer w ∷ drop (suc index) writers)
+    → (polls : PollsFirst writers (Some answer) (take index writers ++ after_answer operation answer w ∷ drop (suc index) writers))
+    × (calls_of_poll polls ≡ was_polled id answer ∷ [])
 first_at writers index w operation id answer none is phase =
-    subst (λ (ws : List Writer). PollsFirst ws (Some answer) (take index writers ++ after_answer operation answer w ∷ drop
-    (suc index) writers)) (sym (split_at writers index w is))
-    (stepping.polled (take index writers) w (drop (suc index) writers) operation id answer none phase)
+    let left : List Writer = take index writers ++ after_answer operation answer w ∷ drop (suc index) writers in
+    subst (λ (ws : List Writer). (polls : PollsFirst ws (Some answer) left) × (calls_of_poll polls ≡ was_polled id answer ∷ []))
+    (sym (split_at writers index w is))
+    (stepping.polled (take index writers) w (drop (suc index) writers) operation id answer none phase, refl)
 
 spliced : (front : List Writer) (last : Writer) (index : ℕ) (x : Writer) → index < length front
     → take index (front ++ last ∷ []) ++ x ∷ drop (index + 1) (front ++ last ∷ []) ≡ (take index front ++ x ∷ drop (suc index) front) ++
@@ -79,17 +85,20 @@ one_early tells state mid before after index pending current is below none polls
     let were : state.segments ≡ take (length state.segments - 1) state.segments ++ current ∷ [] = last_split state.segments current is in
     let long : length (take (length state.segments - 1) state.segments) ≡ length state.segments - 1 = omega
     (arith, length-take (length state.segments - 1) state.segments) in
+    let first =
+    first_at front index polls.writer polls.operation polls.id polls.answer
+    (subst (λ (ws : List Writer). NoneBusy ws) (ap (λ (ws : List Writer). take index ws) were
+    ∙ take-append-le index front (current ∷ []) (omega (arith, below, long))) none)
+    (in_front front current index polls.writer (omega (arith, below, long))
+    (subst (λ (ws : List Writer). slice_get ws index ≡ Some polls.writer) were polls.stood)) polls.phase in
     record {
       earlier = front;
       polled = take index front ++ after_answer polls.operation polls.answer polls.writer ∷ drop (suc index) front;
       current = current;
       were = were;
-      first =
-          first_at front index polls.writer polls.operation polls.id polls.answer
-          (subst (λ (ws : List Writer). NoneBusy ws) (ap (λ (ws : List Writer). take index ws) were
-          ∙ take-append-le index front (current ∷ []) (omega (arith, below, long))) none)
-          (in_front front current index polls.writer (omega (arith, below, long))
-          (subst (λ (ws : List Writer). slice_get ws index ≡ Some polls.writer) were polls.stood)) polls.phase;
+      first = first.0;
+      calls = was_polled polls.id polls.answer ∷ [];
+      calls_are = first.1;
       now =
           polls.new_is ∙ ap (λ (ws : List Writer). record state { segments = ws })
           (ap (λ (ws : List Writer). take index ws ++ after_answer polls.operation polls.answer polls.writer ∷ drop (index + 1) ws) were
@@ -105,20 +114,24 @@ last_at front w = at_length front w (length (front ++ w ∷ []) - 1) (omega (ari
 
 -- The current segment is at rest, and is not polled.
 pub none_late : (state mid : State) (one : Option Progress) (current : Writer) → (early : IsPolledEarly state mid one)
-    → slice_get mid.segments (length mid.segments - 1) ≡ Some current → (IsBusy current.phase → ⊥) → Polls state one None mid
+    → slice_get mid.segments (length mid.segments - 1) ≡ Some current → (IsBusy current.phase → ⊥)
+    → (polls : Polls state one None mid) × (calls_of_polls polls ≡ early.calls)
 none_late state mid one current early is rests =
     let seen : slice_get (early.polled ++ early.current ∷ []) (length (early.polled ++ early.current ∷ []) - 1) ≡ Some current = subst
     (λ (s : State). slice_get s.segments (length s.segments - 1) ≡ Some current) early.now is in
     let here : Some current ≡ Some early.current = sym seen ∙ last_at early.polled early.current in
     let same : current ≡ early.current = cc in
-    subst (λ (s : State). Polls state one None s) (sym early.now)
-    (stepping.asked early.earlier early.current one None early.polled early.current early.were early.first
-    (stepping.none (early.current ∷ []) (subst (λ (w : Writer). IsBusy w.phase → ⊥) same rests, tt)))
+    subst (λ (s : State). (polls : Polls state one None s) × (calls_of_polls polls ≡ early.calls)) (sym early.now) (
+      stepping.asked early.earlier early.current one None early.polled early.current early.were early.first
+          (stepping.none (early.current ∷ []) (subst (λ (w : Writer). IsBusy w.phase → ⊥) same rests, tt)),
+      early.calls_are,
+    )
 
 -- The current segment is polled.
 pub one_late : (tells : Bool) (state mid new : State) (before after : DiskView) (one : Option Progress) (index : ℕ) (pending : Bool)
     → (early : IsPolledEarly state mid one) → index ≡ length mid.segments - 1
-    → (polls : PollsAt tells index mid new before after pending) → Polls state one (Some polls.answer) new
+    → (polls : PollsAt tells index mid new before after pending)
+    → (all : Polls state one (Some polls.answer) new) × (calls_of_polls all ≡ was_polled polls.id polls.answer ∷ early.calls)
 one_late tells state mid new before after one index pending early at polls =
     let stood : slice_get mid.segments (length mid.segments - 1) ≡ Some polls.writer = subst
     (λ (n : ℕ). slice_get mid.segments n ≡ Some polls.writer) at polls.stood in
@@ -151,10 +164,13 @@ one_late tells state mid new before after one index pending early at polls =
     (take_at early.polled (early.current ∷ []) index (sym place))
     ∙ ap (λ (ws : List Writer). record state { segments = early.polled ++ after_answer polls.operation polls.answer early.current ∷ ws })
     (drop_all (index + 1) (early.polled ++ early.current ∷ []) behind) in
-    subst (λ (s : State). Polls state one (Some polls.answer) s) (sym becomes)
-    (stepping.asked early.earlier early.current one (Some polls.answer) early.polled left early.were early.first
-    (stepping.polled [] early.current [] polls.operation polls.id polls.answer tt
-    (subst (λ (w : Writer). w.phase ≡ InFlight polls.operation polls.id) same polls.phase)))
+    subst (λ (s : State). (all : Polls state one (Some polls.answer) s) × (calls_of_polls all ≡ was_polled polls.id polls.answer ∷ early.calls))
+    (sym becomes) (
+      stepping.asked early.earlier early.current one (Some polls.answer) early.polled left early.were early.first
+          (stepping.polled [] early.current [] polls.operation polls.id polls.answer tt
+          (subst (λ (w : Writer). w.phase ≡ InFlight polls.operation polls.id) same polls.phase)),
+      ap (λ (calls : List Call). was_polled polls.id polls.answer ∷ calls) early.calls_are,
+    )
 
 -- ---- what the polls tell
 
@@ -186,11 +202,12 @@ told_later before between after (Some Failed) goes told = (
 -- What the first of the two polls did, where a segment is begun, and whether it was pending.
 pub record PollsEarly (state mid : State) (before between : DiskView) (pending : Bool) : Type 0 where
   pub one : Option Progress
-  pub early : ((state.segments ≡ []) × (mid ≡ state) × (one ≡ None)) ⊎ IsPolledEarly state mid one
+  pub calls : List Call
+  pub early : ((state.segments ≡ []) × (mid ≡ state) × (one ≡ None) × (calls ≡ [])) ⊎ ((polls : IsPolledEarly state mid one) × (polls.calls ≡ calls))
   pub told : IsTold before between one
   pub taken : polls_left between + pending_count one ≡ polls_left before
   pub counted : RoseBy (failed_count one) before between
-  pub asks : AsksToPoll one before between
+  pub asks : Makes calls before between
   pub pending_is : pending ≡ was_pending one
 
 parted : (ws : List Writer) → (ws ≡ []) ⊎ ((w : Writer) × (slice_get ws (length ws - 1) ≡ Some w))
@@ -198,29 +215,34 @@ parted [] = inl refl
 parted (w ∷ ws) = inr (get_or (w ∷ ws) (length (w ∷ ws) - 1) w, slice_get-get_or (w ∷ ws) (length (w ∷ ws) - 1) w (omega arith))
 
 pub early_none : (state : State) (v : DiskView) → NoneBusy (take (length state.segments - 1) state.segments) → PollsEarly state state v v false
-early_none state v none = record { one = None; early = go (parted state.segments); told = tt; taken = omega arith; counted = rose_by_none v v (goes_on_from v); asks = refl; pending_is = refl }
+unfolding none_early
+early_none state v none = record { one = None; calls = []; early = go (parted state.segments); told = tt; taken = omega arith; counted = rose_by_none v v (goes_on_from v); asks = refl; pending_is = refl }
   where
     go : (state.segments ≡ []) ⊎ ((w : Writer) × (slice_get state.segments (length state.segments - 1) ≡ Some w))
-        → ((state.segments ≡ []) × (state ≡ state) × (◌≡◌ {A = Option Progress} None None)) ⊎ IsPolledEarly state state None
-    go (inl empty) = inl (empty, refl, refl)
-    go (inr (w, is)) = inr (none_early state w is none)
+        → ((state.segments ≡ []) × (state ≡ state) × (◌≡◌ {A = Option Progress} None None) × (◌≡◌ {A = List Call} [] []))
+        ⊎ ((polls : IsPolledEarly state state None) × (polls.calls ≡ []))
+    go (inl empty) = inl (empty, refl, refl, refl)
+    go (inr (w, is)) = inr (none_early state w is none, refl)
 
 pub early_one : (tells : Bool) (state mid : State) (before between : DiskView) (index : ℕ) (pending : Bool) → IsFirstBusy index state
     → PollsAt tells index state mid before between pending → PollsEarly state mid before between pending
+unfolding one_early
 early_one tells state mid before between index pending first polls = record {
   one = Some polls.answer;
+  calls = was_polled polls.id polls.answer ∷ [];
   early = go (parted state.segments);
   told = told_at tells polls.id polls.answer before between polls.polled;
   taken = polls.taken;
   counted = polls.counted;
-  asks = (polls.id, polls.asks);
+  asks = polls.asks;
   pending_is = polls.pending_is;
 }
   where
     go : (state.segments ≡ []) ⊎ ((w : Writer) × (slice_get state.segments (length state.segments - 1) ≡ Some w))
-        → ((state.segments ≡ []) × (mid ≡ state) × (Some polls.answer ≡ None)) ⊎ IsPolledEarly state mid (Some polls.answer)
+        → ((state.segments ≡ []) × (mid ≡ state) × (Some polls.answer ≡ None) × (was_polled polls.id polls.answer ∷ [] ≡ []))
+        ⊎ ((early : IsPolledEarly state mid (Some polls.answer)) × (early.calls ≡ was_polled polls.id polls.answer ∷ []))
     go (inl empty) = absurd (omega (arith, first.before_current, ap (λ (ws : List Writer). length ws) empty))
-    go (inr (w, is)) = inr (one_early tells state mid before between index pending w is first.before_current first.first polls)
+    go (inr (w, is)) = inr (one_early tells state mid before between index pending w is first.before_current first.first polls, refl)
 
 -- The current segment is at rest, and is not polled.
 pub all_none : (state mid : State) (before between : DiskView) (pending : Bool) → PollsEarly state mid before between pending
@@ -228,29 +250,33 @@ pub all_none : (state mid : State) (before between : DiskView) (pending : Bool) 
 all_none state mid before between pending early none = record {
   one = early.one;
   other = None;
-  polls = go early.one early.early;
+  polls = (go early.one early.calls early.early).0;
   one_told = early.told;
   other_told = tt;
   taken = omega (arith, early.taken);
   counted = rose_by_as (failed_count early.one) (failed_count early.one + 0) before between (omega arith) early.counted;
-  between = between;
-  first = early.asks;
-  second = refl;
+  asks = subst (λ (calls : List Call). Makes calls before between) (sym (go early.one early.calls early.early).1) early.asks;
   pending_is = ap (λ (b : Bool). b || false) early.pending_is;
 }
   where
-    go : (one : Option Progress) → ((state.segments ≡ []) × (mid ≡ state) × (one ≡ None)) ⊎ IsPolledEarly state mid one → Polls state one None mid
-    go one (inl (empty, same, is)) = subst (λ (s : State). Polls state one None s) (sym same)
-        (subst (λ (o : Option Progress). Polls state o None state) (sym is) (stepping.nothing_begun empty))
-    go one (inr polled) =
+    go : (one : Option Progress) (calls : List Call)
+        → ((state.segments ≡ []) × (mid ≡ state) × (one ≡ None) × (calls ≡ [])) ⊎ ((polls : IsPolledEarly state mid one) × (polls.calls ≡ calls))
+        → (polls : Polls state one None mid) × (calls_of_polls polls ≡ calls)
+    go one calls (inl (empty, same, is, no_calls)) =
+        subst (λ (s : State). (polls : Polls state one None s) × (calls_of_polls polls ≡ calls)) (sym same)
+        (subst (λ (o : Option Progress). (polls : Polls state o None state) × (calls_of_polls polls ≡ calls)) (sym is)
+        (stepping.nothing_begun empty, sym no_calls))
+    go one calls (inr (polled, calls_are)) =
         let segments : mid.segments ≡ polled.polled ++ polled.current ∷ [] = ap (λ (s : State). s.segments) polled.now in
         let place : length polled.polled ≡ length (polled.polled ++ polled.current ∷ []) - 1 = omega
         (arith, length-append polled.polled (polled.current ∷ [])) in
         let rests = subst (λ (ws : List Writer). NoneBusy (drop (length ws - 1) ws)) segments none in
+        let late =
         none_late state mid one polled.current polled (subst (λ (ws : List Writer). slice_get ws (length ws - 1) ≡ Some polled.current)
         (sym segments) (last_at polled.polled polled.current))
         (subst (λ (ws : List Writer). NoneBusy ws) (drop_at polled.polled (polled.current ∷ [])
-        (length (polled.polled ++ polled.current ∷ []) - 1) place) rests).0
+        (length (polled.polled ++ polled.current ∷ []) - 1) place) rests).0 in
+        (late.0, late.1 ∙ calls_are)
 
 -- The current segment is polled.
 pub all_one : (tells : Bool) (state mid new : State) (before between after : DiskView) (index : ℕ) (pending pending_now : Bool)
@@ -260,21 +286,24 @@ pub all_one : (tells : Bool) (state mid new : State) (before between after : Dis
 all_one tells state mid new before between after index pending pending_now early at polls goes goes_later = record {
   one = early.one;
   other = Some polls.answer;
-  polls = go early.one early.early;
+  polls = (go early.one early.calls early.early).0;
   one_told = told_earlier before between after early.one goes_later early.told;
   other_told = told_later before between after (Some polls.answer) goes (told_at tells polls.id polls.answer between after polls.polled);
   taken = omega (arith, early.taken, polls.taken);
   counted = rose_by_more (failed_count early.one) (failed_polls polls.answer) before between after early.counted polls.counted goes_later;
-  between = between;
-  first = early.asks;
-  second = (polls.id, polls.asks);
+  asks = subst (λ (calls : List Call). Makes calls before after) (sym (go early.one early.calls early.early).1)
+      (polls.asks ∙ ap (λ (calls : List Call). was_polled polls.id polls.answer ∷ calls) early.asks);
   pending_is = ap (λ (b : Bool). b || pending_now) early.pending_is ∙ ap (λ (b : Bool). was_pending early.one || b) polls.pending_is;
 }
   where
-    go : (one : Option Progress) → ((state.segments ≡ []) × (mid ≡ state) × (one ≡ None)) ⊎ IsPolledEarly state mid one
-        → Polls state one (Some polls.answer) new
-    go one (inl (empty, same, is)) = absurd (omega (arith, at, ap (λ (s : State). length s.segments) same, ap (λ (ws : List Writer). length ws) empty))
-    go one (inr polled) = one_late tells state mid new between after one index pending_now polled (omega (arith, at)) polls
+    go : (one : Option Progress) (calls : List Call)
+        → ((state.segments ≡ []) × (mid ≡ state) × (one ≡ None) × (calls ≡ [])) ⊎ ((early : IsPolledEarly state mid one) × (early.calls ≡ calls))
+        → (all : Polls state one (Some polls.answer) new) × (calls_of_polls all ≡ was_polled polls.id polls.answer ∷ calls)
+    go one calls (inl (empty, same, is, no_calls)) =
+        absurd (omega (arith, at, ap (λ (s : State). length s.segments) same, ap (λ (ws : List Writer). length ws) empty))
+    go one calls (inr (polled, calls_are)) =
+        let all = one_late tells state mid new between after one index pending_now polled (omega (arith, at)) polls in
+        (all.0, all.1 ∙ ap (λ (calls : List Call). was_polled polls.id polls.answer ∷ calls) calls_are)
 
 -- ---- a journal with its disk
 

@@ -27,7 +27,7 @@ use Rattle.failover_writer.specs.Sound.{AreAccounted}
 use Rattle.failover_writer.proofs.Accounted.{accounted_last}
 use Rattle.failover_writer.proofs.IsSoundJournal.{sound_with, some_records}
 use Rattle.failover_writer.proofs.Segments.{place_at, index_in, index_is, apart_from_last, all_push, all_front, all_last, joined_front, joined_push, last_is, fit_beside, most_synced_push, sent_to_last, count_push}
-use Rattle.failover_writer.proofs.BeginsNext.{alone_with}
+use Rattle.failover_writer.proofs.BeginsNext.{alone_with, none_flies}
 use Rattle.failover_writer.proofs.Passes.{passes_once}
 use Rattle.failover_writer.proofs.PassesOnce.{first_or_last}
 
@@ -66,8 +66,8 @@ set_at_last ws earlier current w last is at =
 
 -- ---- where nothing starts
 
-pub none_starts : (state : State) → NoneRests state.segments → MayStartNext state state
-none_starts state none = nothing (λ _ new starts. go starts starts.current.phase refl starts.next)
+pub none_starts : (state : State) (v : DiskView) → NoneRests state.segments → MayStartNext state v v state
+none_starts state v none = nothing (λ _ new starts. go starts starts.current.phase refl starts.next) refl
   where
     go : {new : State} (starts : StartsNext state new) (phase : Phase) → starts.current.phase ≡ phase
         → next_operation phase starts.current.written (record { len = len state; want = state.want; acked = acked state }) ≡ Some starts.operation → ⊥
@@ -76,8 +76,8 @@ none_starts state none = nothing (λ _ new starts. go starts starts.current.phas
     go starts Idle is next = let clash : Idle ≡ Broken = sym is ∙ none starts.earlier starts.current starts.segments_are (λ busy. subst IsBusy is busy) in cc
     go starts Broken is next = cc
 
-pub not_behind : (state : State) → (IsBehind state → ⊥) → MayStartNext state state
-not_behind state none = nothing (λ behind new starts. none behind)
+pub not_behind : (state : State) (v : DiskView) → (IsBehind state → ⊥) → MayStartNext state v v state
+not_behind state v none = nothing (λ behind new starts. none behind) refl
 
 -- ---- a writer at rest, and what it starts
 
@@ -239,18 +239,18 @@ module _ (tells : Bool) (state : State) (old new : DiskView) (earlier : List Wri
     abbrev coming : Option Operation
     coming = next_operation current.phase current.written goal
 
-    pub may_start : IsBehind state → MayStartNext state after
-    may_start behind = go coming refl begins
+    pub may_start : Stands tells state old → IsBehind state → MayStartNext state old new after
+    may_start held behind = go coming refl begins
       where
-        go : (o : Option Operation) → coming ≡ o → BeginsJust o goal.len was current next old new → MayStartNext state after
+        go : (o : Option Operation) → coming ≡ o → BeginsJust o goal.len was current next old new → MayStartNext state old new after
         go None none begins =
             let same : state ≡ after = ap (λ (l : List Writer). record state { segments = l }) (is ∙ ap (λ (w : Writer). earlier ++ w ∷ []) (sym begins.1)) in
-            subst (MayStartNext state) same (nothing (λ _ other starts.
+            subst (MayStartNext state old new) same (nothing (λ _ other starts.
             let current_is : current ≡ starts.current = last_same earlier starts.earlier current starts.current (sym is ∙ starts.segments_are) in
             let clash : None ≡ Some starts.operation =
             sym none ∙ ap (λ (w : Writer). next_operation w.phase w.written goal) current_is
             ∙ ap (next_operation starts.current.phase starts.current.written) goal_is ∙ starts.next in
-            cc))
+            cc) (ap (λ (v : DiskView). v.calls) begins.2))
         go (Some o) some begins = started after behind (record {
           earlier = earlier;
           current = current;
@@ -266,7 +266,7 @@ module _ (tells : Bool) (state : State) (old new : DiskView) (earlier : List Wri
                 waiting = 0;
                 phase = InFlight o begins.1.id;
               }) (ap (λ (g : Goal). g.len) goal_is));
-        })
+        }) (none_flies tells held.0 state old begins.1.id begins.1.starts.fresh held.1) begins.1.noted
 
     module _ (whole : current.phase ≢ Broken) (others : (place : Place) → place ≢ place_of_writer current → SameFile tells place old new) where
       keeps : (records : List Batch) → StandsFor tells records state old → KeepsPlace

@@ -56,7 +56,7 @@ idle_then (was_dead side count dead) e = absurd (cc)
 idle_then (idle lives rests none) e = record { lives = lives; rests = rests; no_work = none }
 idle_then (dies one other polled new side count up polls end) e = absurd (cc)
 idle_then (goes one other polled started new up polls went released) e = absurd (never_idle one other (cc))
-idle_then (short one other polled up polls) e = absurd (cc)
+idle_then (short one other polled up polls lives) e = absurd (cc)
 
 -- An idle journal is answered so, and stays as it is.
 idle_stays : {old new : State} {one other : Option Progress} {answer : Result Step JournalFault} → StepRule old one other new answer
@@ -65,7 +65,7 @@ idle_stays (was_dead side count dead) rests = absurd (cc)
 idle_stays (idle lives none no_work) rests = (refl, refl)
 idle_stays (dies one other polled new side count up polls end) rests = absurd (rests.no_work (up.wants rests.rests))
 idle_stays (goes one other polled started new up polls went released) rests = absurd (rests.no_work (up.wants rests.rests))
-idle_stays (short one other polled up polls) rests = absurd (rests.no_work (up.wants rests.rests))
+idle_stays (short one other polled up polls lives) rests = absurd (rests.no_work (up.wants rests.rests))
 
 -- A step is idle where there is nothing to do, and there alone.
 pub idle_of : (old new : State) (before after : DiskView) (answer : Result Step JournalFault) → StepsBy old new before after answer
@@ -87,7 +87,7 @@ waited_then (goes one other polled started new up polls went released) e = elim 
   | inl (pending, is) ↦ pending
   | inr is ↦ absurd (cc)
 ]
-waited_then (short one other polled up polls) e = absurd (cc)
+waited_then (short one other polled up polls lives) e = absurd (cc)
 
 -- A step has waited only where polls left to stall fell.
 pub waited_of : (old new : State) (before after : DiskView) (answer : Result Step JournalFault) → StepsBy old new before after answer
@@ -103,7 +103,7 @@ marked_then (was_dead side count dead) = dead
 marked_then (idle lives rests none) = tt
 marked_then (dies one other polled new side count up polls end) = ap (λ (s : State). s.dead) end.new_is
 marked_then (goes one other polled started new up polls went released) = tt
-marked_then (short one other polled up polls) = tt
+marked_then (short one other polled up polls lives) = tt
 
 -- A step that ends with a mark leaves the journal with it.
 pub dead_of : (old new : State) (before after : DiskView) (answer : Result Step JournalFault) → StepsBy old new before after answer
@@ -116,7 +116,7 @@ dead_stays (was_dead side count dead) marked = refl
 dead_stays (idle lives none no_work) marked = refl
 dead_stays (dies one other polled new side count up polls end) marked = absurd (marked up.lives)
 dead_stays (goes one other polled started new up polls went released) marked = absurd (marked up.lives)
-dead_stays (short one other polled up polls) marked = absurd (marked up.lives)
+dead_stays (short one other polled up polls lives) marked = absurd (marked up.lives)
 
 -- A dead or idle journal stays as it is.
 pub still_of : (old new : State) (before after : DiskView) (answer : Result Step JournalFault) → StepsBy old new before after answer
@@ -211,8 +211,8 @@ starts_whole old new next = (less, ap (λ (s : State). s.dead) next.new_is)
 pub goes_whole : {polled started : State} → ActsAfterPolls polled started → (broken_count started ≤ broken_count polled) × (started.dead ≡ polled.dead)
 goes_whole {polled} (first new none behind begins) = begins_whole polled new begins
 goes_whole (none_to_begin none rests) = (omega arith, refl)
-goes_whole {polled} (switches new verdict begins) = begins_whole polled new begins
-goes_whole {polled} (starts new verdict behind next) = starts_whole polled new next
+goes_whole {polled} (switches new verdict begins fresh) = begins_whole polled new begins
+goes_whole {polled} (starts new verdict behind next fresh) = starts_whole polled new next
 goes_whole (stays verdict rests) = (omega arith, refl)
 
 pub polls_alive : {old polled : State} {one other : Option Progress} → Polls old one other polled → (polled.dead ≡ old.dead) × (polled.threshold ≡ old.threshold)
@@ -243,7 +243,7 @@ harmed_then {old} before after (goes one other polled started new up polls went 
   | inr broken ↦ broken_before old polled one other before after polls one_told other_told
       (omega (arith, broken, (goes_whole went).0, ap (λ (s : State). broken_count s) released.new_is))
 ]
-harmed_then {old} before after (short one other polled up polls) one_told other_told harmed = elim harmed [
+harmed_then {old} before after (short one other polled up polls lives) one_told other_told harmed = elim harmed [
   | inl marked ↦ absurd (marked ((polls_alive polls).0 ∙ up.lives))
   | inr broken ↦ broken_before old polled one other before after polls one_told other_told broken
 ]
@@ -341,8 +341,8 @@ goes_smooth {polled} (first new none behind begins) least smooth =
           (flight_smooth begins.writer Create begins.id begins.fresh.6 begins.fresh.7, tt);
     })
 goes_smooth (none_to_begin none rests) least smooth = smooth
-goes_smooth {polled} (switches new verdict begins) least smooth = absurd (never_switches polled least smooth verdict)
-goes_smooth {polled} (starts new verdict behind next) least smooth =
+goes_smooth {polled} (switches new verdict begins fresh) least smooth = absurd (never_switches polled least smooth verdict)
+goes_smooth {polled} (starts new verdict behind next fresh) least smooth =
     let then = current_then polled new next in
     subst (λ (s : State). IsSmooth s) (sym next.new_is) (record {
       lives = smooth.lives;
@@ -371,7 +371,7 @@ smooth_then before after (goes one other polled started new up polls went releas
       | inl polled_smooth ↦ inl (released_smooth started new released (goes_smooth went (omega (arith, least, (polls_alive polls).1)) polled_smooth))
       | inr rough ↦ inr rough
     ]
-smooth_then before after (short one other polled up polls) one_told other_told least smooth = polls_smooth before after polls one_told other_told smooth
+smooth_then before after (short one other polled up polls lives) one_told other_told least smooth = polls_smooth before after polls one_told other_told smooth
 
 -- A smooth journal stays so, but where a poll of the step was pending or has failed.
 pub smooth_of : (old new : State) (before after : DiskView) (answer : Result Step JournalFault) → StepsBy old new before after answer

@@ -1,5 +1,5 @@
 -- What the monitor says of the current segment, and so what a step does by the rule of the step.
-use Rattle.std.proofs.Common.{◌≡◌, ℕ, ◌+◌, ◌-◌, Bool, List, [], ◌∷◌, length, take, get_or, Option, Some, None, Result, Ok, Err, ap, sym, subst, ◌∙◌, refl, arith, cond}
+use Rattle.std.proofs.Common.{◌≡◌, ℕ, ◌+◌, ◌-◌, Bool, List, [], ◌∷◌, length, take, get_or, Option, Some, None, Result, Ok, Err, ap, sym, subst, ◌∙◌, ◌++◌, refl, arith, cond, append_assoc}
 use Rattle.std.specs.Prelude.{◌↔◌, ◌||◌, slice_get}
 use Rattle.std.proofs.lemmas.List.{length-append}
 use Rattle.std.proofs.lemmas.Option.{slice_get-get_or}
@@ -9,7 +9,7 @@ use Rattle.failover_writer.proofs.Lists.{last_split}
 use Rattle.disk_face.specs.declared.Side.{Side}
 use Rattle.disk_face.specs.declared.Progress.{Progress}
 use Rattle.disk_face.specs.declared.Progress.TheVariants.{Pending, Done, Failed}
-use Rattle.disk_face.specs.View.{DiskView}
+use Rattle.disk_face.specs.View.{Call, Makes, DiskView}
 use Rattle.disk_face.specs.Calls as calls
 use Rattle.batch_repr.specs.declared.batch.Batch.{Batch}
 use Rattle.stall_monitor.specs.declared.verdict.MonitorView.{MonitorView}
@@ -23,11 +23,13 @@ use Rattle.failover_writer.specs.declared.fault.Step.{Step}
 use Rattle.failover_writer.specs.declared.fault.Step.TheVariants as steps
 use Rattle.failover_writer.specs.State.{State, broken_count}
 use Rattle.failover_writer.specs.Ranges.{side_at, AreJoined, StandsFor}
-use Rattle.failover_writer.specs.Stepping.{shown_to_monitor, Verdict, IsToStay, ActsAfterPolls, starts, stays, Dies, IsUp, Releases, StepRule, dies, goes, short, moved_or_waited}
-use Rattle.failover_writer.specs.Answered.{StartsAtMostOne, IsTold, StepsBy}
+use Rattle.failover_writer.specs.Stepping.{shown_to_monitor, Verdict, IsToStay, starts, stays, Dies, IsUp, Releases, StepRule, dies, goes, short, moved_or_waited}
+use Rattle.failover_writer.specs.Stepping.{calls_of_polls, calls_of_act, calls_of}
+use Rattle.failover_writer.specs.Answered.{IsTold, StepsBy}
 use Rattle.failover_writer.specs.Remaining.{polls_left}
-use Rattle.failover_writer.specs.Moves.{MayStartNext, started, nothing, PollsAll, was_pending, EndsGoing}
+use Rattle.failover_writer.specs.Moves.{MayStartNext, started, nothing, ActsOnDisk, PollsAll, was_pending, EndsGoing}
 use Rattle.failover_writer.proofs.Segments.{last_is}
+use Rattle.failover_writer.proofs.StartsNext.{last_same}
 
 pub empty_from : (ws : List Writer) → slice_get ws (length ws - 1) ≡ None → ws ≡ []
 empty_from [] e = refl
@@ -53,9 +55,25 @@ stays_where said view dead switch is = (
   λ leave. let clash : verdicts.Stay ≡ verdicts.Switch = sym is ∙ switch.1 leave in cc,
 )
 
-pub went_on : (state new : State) → Verdict IsToStay state → MayStartNext state new → ActsAfterPolls state new
-went_on state new verdict (started then behind is) = starts then verdict behind is
-went_on state new verdict (nothing none) = stays verdict none
+pub went_on : (state new : State) (before after : DiskView) → Verdict IsToStay state → MayStartNext state before after new
+    → ActsOnDisk state new before after
+went_on state new before after verdict (started then behind next fresh asks) =
+    record { acts = starts then verdict behind next fresh; asks = asks }
+went_on state new before after verdict (nothing none asks) = record { acts = stays verdict none; asks = asks }
+
+-- Where the monitor does not say so of the current segment, the journal is not to die; and where there is none, it is not.
+pub not_to_die : (state : State) (view : MonitorView) (current : Writer) → slice_get state.segments (length state.segments - 1) ≡ Some current
+    → view ≡ shown_to_monitor state current → (IsToDie view → ⊥) → Verdict IsToDie state → ⊥
+not_to_die state view current at is lives verdict =
+    let same : verdict.current ≡ current =
+    last_same verdict.earlier (take (length state.segments - 1) state.segments) verdict.current current
+    (sym verdict.segments_are ∙ last_split state.segments current at) in
+    lives (subst IsToDie (sym is) (subst (λ (w : Writer). IsToDie (shown_to_monitor state w)) same verdict.says))
+
+pub none_to_die : (state : State) → state.segments ≡ [] → Verdict IsToDie state → ⊥
+none_to_die state empty verdict =
+    let none : [] ≡ verdict.earlier ++ verdict.current ∷ [] = sym empty ∙ verdict.segments_are in
+    omega (arith, ap (λ (ws : List Writer). length ws) none, length-append verdict.earlier (verdict.current ∷ []))
 
 pub dies_now : (tells : Bool) (records : List Batch) (state : State) (v : DiskView) (side : Side) (count : ℕ)
     → StandsFor tells records state v → (verdict : Verdict IsToDie state)
@@ -84,10 +102,10 @@ told_later before between after (Some Failed) onward told = (told.0, omega (arit
 
 -- A step whose polls were told is one by its rule.
 steps_by : (old polled new : State) (before between after : DiskView) (waited : Bool) (answer : Result Step JournalFault)
-    → calls.GoesOn between after → polls_left after ≡ polls_left between → StartsAtMostOne between after
+    → calls.GoesOn between after → polls_left after ≡ polls_left between
     → (polls : PollsAll old polled before between waited)
-    → StepRule old polls.one polls.other new answer → StepsBy old new before after answer
-steps_by old polled new before between after waited answer onward stalls asks polls rule = record {
+    → (rule : StepRule old polls.one polls.other new answer) → Makes (calls_of rule) before after → StepsBy old new before after answer
+steps_by old polled new before between after waited answer onward stalls polls rule asks = record {
   one = polls.one;
   other = polls.other;
   rule = rule;
@@ -98,19 +116,22 @@ steps_by old polled new before between after waited answer onward stalls asks po
       let count = failed_count polls.one + failed_count polls.other in
       rose_by_as (count + 0) count before after (omega arith)
       (rose_by_more count 0 before between after polls.counted (rose_by_none between after onward) onward);
-  asks = record { first_polled = polls.between; both_polled = between; first = polls.first; second = polls.second; start = asks };
+  asks = asks;
 }
 
 pub rule_ended : (old polled new : State) (before between after : DiskView) (waited : Bool) (fault : JournalFault) → IsUp old
-    → calls.GoesOn between after → polls_left after ≡ polls_left between → StartsAtMostOne between after
+    → calls.GoesOn between after → polls_left after ≡ polls_left between → Makes [] between after
     → PollsAll old polled before between waited → EndsGoing polled new fault
     → StepsBy old new before after (Err fault)
-rule_ended old polled new before between after waited (faults.Dead side count) up onward stalls asks polls ends =
-    steps_by old polled new before between after waited (Err (faults.Dead side count)) onward stalls asks polls
-    (dies polls.one polls.other polled new side count up polls.polls ends)
-rule_ended old polled new before between after waited faults.NoMemory up onward stalls asks polls ends =
-    steps_by old polled new before between after waited (Err faults.NoMemory) onward stalls asks polls
-    (subst (λ (s : State). StepRule old polls.one polls.other s (Err faults.NoMemory)) (sym ends) (short polls.one polls.other polled up polls.polls))
+rule_ended old polled new before between after waited (faults.Dead side count) up onward stalls quiet polls ends =
+    steps_by old polled new before between after waited (Err (faults.Dead side count)) onward stalls polls
+    (dies polls.one polls.other polled new side count up polls.polls ends) (quiet ∙ polls.asks)
+rule_ended old polled new before between after waited faults.NoMemory up onward stalls quiet polls (same, lives) =
+    let rule =
+    subst (λ (s : State). (rule : StepRule old polls.one polls.other s (Err faults.NoMemory)) × (calls_of rule ≡ calls_of_polls polls.polls)) (sym same)
+    (short polls.one polls.other polled up polls.polls lives, refl) in
+    steps_by old polled new before between after waited (Err faults.NoMemory) onward stalls polls rule.0
+    (subst (λ (made : List Call). Makes made before after) (sym rule.1) (quiet ∙ polls.asks))
 
 answered : (one other : Option Progress) (waited : Bool) → waited ≡ (was_pending one || was_pending other)
     → moved_or_waited one other ≡ cond waited steps.Waited steps.Moved
@@ -133,12 +154,18 @@ answered one other waited is = go one other ∙ ap (λ (b : Bool). cond b steps.
 
 -- The release at the end of a step leaves the disk as it is.
 pub rule_went : (old polled going new : State) (before between after last : DiskView) (waited : Bool) → IsUp old
-    → calls.GoesOn between after → polls_left after ≡ polls_left between → StartsAtMostOne between after → last ≡ after
-    → PollsAll old polled before between waited → ActsAfterPolls polled going → Releases going new
+    → calls.GoesOn between after → polls_left after ≡ polls_left between → last ≡ after
+    → PollsAll old polled before between waited → ActsOnDisk polled going between after → Releases going new
     → StepsBy old new before last (Ok (cond waited steps.Waited steps.Moved))
-rule_went old polled going new before between after last waited up onward stalls asks still polls went releases =
+rule_went old polled going new before between after last waited up onward stalls still polls went releases =
+    let made : List Call = calls_of_act went.acts ++ calls_of_polls polls.polls in
+    let rule =
+    subst (λ (s : Step). (rule : StepRule old polls.one polls.other new (Ok s)) × (calls_of rule ≡ made))
+    (answered polls.one polls.other waited polls.pending_is)
+    (goes polls.one polls.other polled going new up polls.polls went.acts releases, refl) in
+    let makes : Makes made before last =
+    ap (λ (v : DiskView). v.calls) still ∙ went.asks ∙ ap (λ (l : List Call). calls_of_act went.acts ++ l) polls.asks
+    ∙ sym (append_assoc (calls_of_act went.acts) (calls_of_polls polls.polls) before.calls) in
     steps_by old polled new before between last waited (Ok (cond waited steps.Waited steps.Moved))
-    (subst (calls.GoesOn between) (sym still) onward) (ap polls_left still ∙ stalls) (subst (StartsAtMostOne between) (sym still) asks)
-    polls
-    (subst (λ (s : Step). StepRule old polls.one polls.other new (Ok s)) (answered polls.one polls.other waited polls.pending_is)
-    (goes polls.one polls.other polled going new up polls.polls went releases))
+    (subst (calls.GoesOn between) (sym still) onward) (ap polls_left still ∙ stalls) polls rule.0
+    (subst (λ (l : List Call). Makes l before last) (sym rule.1) makes)

@@ -1,23 +1,22 @@
 -- What a step and a closing answer, and what their polls tell of the disk (docs/formats/journal.md, "The step of a journal").
-use Rattle.std.specs.Prelude.{◌≡◌, ◌≢◌, ◌⊎◌, ℕ, ◌+◌, ◌<◌, ◌≤◌, Bool, [], ◌∷◌, length, Option, Some, None, Result, Ok, Err}
+use Rattle.std.specs.Prelude.{◌≡◌, ◌≢◌, ◌⊎◌, ℕ, ◌+◌, ◌<◌, ◌≤◌, length, Option, Some, None, Result, Ok, Err}
 use Rattle.std.specs.List.{AllByRecursion}
 use Rattle.wal_base.specs.Faults.{Rose, COUNT_END}
 use Rattle.disk_face.specs.declared.Side.{Side}
 use Rattle.disk_face.specs.declared.Side.TheVariants.{Primary, Secondary}
-use Rattle.disk_face.specs.declared.OpId.{OpId}
 use Rattle.disk_face.specs.declared.Progress.{Progress}
 use Rattle.disk_face.specs.declared.Progress.TheVariants.{Pending, Done, Failed}
-use Rattle.disk_face.specs.View.{was_polled, Makes, DiskView}
+use Rattle.disk_face.specs.View.{Makes, DiskView}
 use Rattle.log_writer.specs.declared.phase.Phase.TheVariants.{Broken}
 use Rattle.log_writer.specs.Writer.{Writer}
 use Rattle.failover_writer.specs.declared.fault.JournalFault.{JournalFault}
 use Rattle.failover_writer.specs.declared.fault.JournalFault.TheVariants as faults
 use Rattle.failover_writer.specs.declared.fault.Step.{Step}
 use Rattle.failover_writer.specs.declared.fault.Step.TheVariants as steps
-use Rattle.log_writer.specs.Steps.{pending_polls, AsksToStart}
+use Rattle.log_writer.specs.Steps.{pending_polls}
 use Rattle.failover_writer.specs.State.{State, len, broken_count}
 use Rattle.failover_writer.specs.Remaining.{polls_left}
-use Rattle.failover_writer.specs.Stepping.{NoneBusy, HasWork, StepRule}
+use Rattle.failover_writer.specs.Stepping.{NoneBusy, HasWork, StepRule, calls_of}
 
 -- the count of faults of some side rose
 abbrev pub FaultsRose : DiskView → DiskView → Type 0
@@ -57,25 +56,8 @@ faults_of v = v.faults Primary + v.faults Secondary
 abbrev pub RoseBy : ℕ → DiskView → DiskView → Type 0
 RoseBy count before after = (faults_of before + count ≤ faults_of after) ⊎ ((side : Side) × (COUNT_END ≤ after.faults side))
 
--- The disk was polled once, or asked for nothing.
-abbrev pub AsksToPoll : Option Progress → DiskView → DiskView → Type 0
-AsksToPoll None before after = Makes [] before after
-AsksToPoll (Some answer) before after = (id : OpId) × Makes (was_polled id answer ∷ []) before after
-
--- It was asked once to start an operation, or for nothing.
-abbrev pub StartsAtMostOne : DiskView → DiskView → Type 0
-StartsAtMostOne before after = (started : Bool) × AsksToStart started before after
-
--- What a step asks of the disk, in this order: its polls, each once, and then an operation at most. Nothing else.
-pub record AsksInTurn (one other : Option Progress) (before after : DiskView) : Type 0 where
-  pub first_polled : DiskView
-  pub both_polled : DiskView
-  pub first : AsksToPoll one before first_polled
-  pub second : AsksToPoll other first_polled both_polled
-  pub start : StartsAtMostOne both_polled after
-
 -- A step by its rule, of which the polls were answered as the disk tells. Each pending answer took one of the polls left, and
--- nothing else took any: so no segment was polled twice while it was pending.
+-- nothing else took any: so no segment was polled twice while it was pending. The disk was asked for just what the rule asks for.
 pub record StepsBy (old new : State) (before after : DiskView) (answer : Result Step JournalFault) : Type 0 where
   pub one : Option Progress
   pub other : Option Progress
@@ -84,7 +66,7 @@ pub record StepsBy (old new : State) (before after : DiskView) (answer : Result 
   pub other_told : IsTold before after other
   pub taken : polls_left after + (pending_count one + pending_count other) ≡ polls_left before
   pub counted : RoseBy (failed_count one + failed_count other) before after
-  pub asks : AsksInTurn one other before after
+  pub asks : Makes (calls_of rule) before after
 
 -- It is not dead, nothing is in flight, and there is no work.
 pub record IsIdle (state : State) : Type 0 where

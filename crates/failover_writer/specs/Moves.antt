@@ -15,8 +15,10 @@ use Rattle.log_writer.specs.Steps.{after_answer, pending_polls}
 use Rattle.failover_writer.specs.declared.fault.JournalFault.{JournalFault}
 use Rattle.failover_writer.specs.declared.fault.JournalFault.TheVariants as faults
 use Rattle.failover_writer.specs.State.{State, len}
-use Rattle.failover_writer.specs.Stepping.{IsBehind, NoneBusy, StartsNext, Dies, Polls}
-use Rattle.failover_writer.specs.Answered.{AsksToPoll, IsTold, pending_count, failed_polls, failed_count, RoseBy}
+use Rattle.stall_monitor.specs.Verdicts.{IsToDie}
+use Rattle.failover_writer.specs.Stepping.{IsBehind, NoneBusy, Verdict, BeginsNext, StartsNext, NoneFlies, ActsAfterPolls, Dies, Polls}
+use Rattle.failover_writer.specs.Stepping.{calls_of_polls, creation_of, start_of, calls_of_act}
+use Rattle.failover_writer.specs.Answered.{IsTold, pending_count, failed_polls, failed_count, RoseBy}
 use Rattle.failover_writer.specs.Remaining.{polls_left}
 
 abbrev pub is_pending : Progress → Bool
@@ -57,9 +59,7 @@ pub record PollsAll (old new : State) (before after : DiskView) (pending : Bool)
   pub other_told : IsTold before after other
   pub taken : polls_left after + (pending_count one + pending_count other) ≡ polls_left before
   pub counted : RoseBy (failed_count one + failed_count other) before after
-  pub between : DiskView
-  pub first : AsksToPoll one before between
-  pub second : AsksToPoll other between after
+  pub asks : Makes (calls_of_polls polls) before after
   pub pending_is : pending ≡ (was_pending one || was_pending other)
 
 -- The first busy segment before the current one stands at this place.
@@ -68,10 +68,23 @@ pub record IsFirstBusy (index : ℕ) (state : State) : Type 0 where
   pub busy : IsBusyAt index state
   pub first : NoneBusy (take index state.segments)
 
--- The next operation of the current segment is started, where it is at rest and the journal is behind and has one.
-pub data MayStartNext (old : State) : State → Type 0 where
-  started : (new : State) → IsBehind old → StartsNext old new → MayStartNext old new
-  nothing : (IsBehind old → (new : State) → StartsNext old new → ⊥) → MayStartNext old old
+-- The next segment was begun, and the disk asked for its creation, and for nothing else.
+pub record BeginsOnDisk (old new : State) (before after : DiskView) : Type 0 where
+  pub begins : BeginsNext old new
+  pub fresh : NoneFlies begins.id old.segments
+  pub asks : Makes (creation_of begins ∷ []) before after
+
+-- The next operation of the current segment is started, where it is at rest and the journal is behind and has one. The disk is asked
+-- for that, and for nothing else.
+pub data MayStartNext (old : State) (before after : DiskView) : State → Type 0 where
+  started : (new : State) → IsBehind old → (next : StartsNext old new) → NoneFlies next.id old.segments → Makes (start_of next ∷ []) before after
+      → MayStartNext old before after new
+  nothing : (IsBehind old → (new : State) → StartsNext old new → ⊥) → Makes [] before after → MayStartNext old before after old
+
+-- What a step does after its polls, and what it asks of the disk for that.
+pub record ActsOnDisk (old new : State) (before after : DiskView) : Type 0 where
+  pub acts : ActsAfterPolls old new
+  pub asks : Makes (calls_of_act acts) before after
 
 -- The current segment is the one at this index, and it is at rest: no operation of it is in flight, and none has failed.
 pub record IsRestingAt (index : ℕ) (segments : List Writer) : Type 0 where
@@ -86,10 +99,10 @@ pub record IsRestingAt (index : ℕ) (segments : List Writer) : Type 0 where
 abbrev pub NoneRests : List Writer → Type 0
 NoneRests segments = (earlier : List Writer) (current : Writer) → segments ≡ earlier ++ current ∷ [] → (IsBusy current.phase → ⊥) → current.phase ≡ Broken
 
--- Why nothing goes on: the journal gives up, or memory ran out.
+-- Why nothing goes on: the journal gives up, or memory ran out and it was not to give up.
 abbrev pub EndsGoing : State → State → JournalFault → Type 0
 EndsGoing old new (faults.Dead side count) = Dies old new side count
-EndsGoing old new faults.NoMemory = new ≡ old
+EndsGoing old new faults.NoMemory = (new ≡ old) × (Verdict IsToDie old → ⊥)
 
 -- The record is added after the others; with `sync` all of them are to be synced.
 pub record Pushes (added : Batch) (sync : Bool) (old new : State) : Type 0 where

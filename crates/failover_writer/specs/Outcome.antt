@@ -1,14 +1,12 @@
 -- What became of a journal since it was started (docs/formats/journal.md, "What became of a journal").
-use Rattle.std.specs.Prelude.{◌≡◌, ◌⊎◌, ℕ, ◌≤◌, Bool, false, List, [], length, None, is_some, IsTrue, Result}
+use Rattle.std.specs.Prelude.{◌≡◌, ◌⊎◌, ℕ, ◌≤◌, Bool, false, List, [], None, IsTrue, Result}
 use Rattle.batch_repr.specs.declared.batch.Batch.{Batch}
 use Rattle.disk_face.specs.declared.Side.{Side}
 use Rattle.disk_face.specs.View.{Files, DiskView, files}
 use Rattle.disk_face.specs.Calls.{WentOn, Stalls}
-use Rattle.disk_face.specs.Script.{TellsOf, BeginsOver}
-use Rattle.failover_writer.specs.declared.fault.JournalEnd.{JournalEnd}
 use Rattle.failover_writer.specs.declared.fault.JournalFault.{JournalFault}
 use Rattle.failover_writer.specs.declared.fault.Step.{Step}
-use Rattle.failover_writer.specs.State.{State, JournalView, len, acked, broken_count, unbegun}
+use Rattle.failover_writer.specs.State.{State, JournalView, len, broken_count}
 use Rattle.failover_writer.specs.Ranges.{StandsFor}
 use Rattle.failover_writer.specs.Answered.{StepsBy, FaultsRose, IsHarmed, IsSmooth, IsUnstalled, RoseBy}
 use Rattle.failover_writer.specs.Moves.{Pushes}
@@ -71,18 +69,3 @@ pub record JournalOutcome (tells : Bool) (start : JournalStart) (batches : List 
   pub hangs : start.may_stall ≡ false → pending_in_all state v ≤ polls_left start.disk
   pub kept : (base : List Batch) → KeepsBase tells base start.state start.disk → KeepsBase tells base state v
   pub others : IsTrue tells → (at_start : Files) → OthersStay at_start start.state (files start.disk) → OthersStay at_start state (files v)
-
--- The journal of a run: it was started in this WAL, after the numbers below `first`, with this threshold, over a disk that is made over
--- the run's and may stall polls by itself. It took these batches, and these are its numbers and its mark as it stands at the end.
-pub record EndsOf (threshold : ℕ) (tells : Bool) (wal first : ℕ) (batches : List Batch) (end : JournalEnd) (old new : DiskView) : Type 0 where
-  pub start : JournalStart
-  pub started_as : start.state ≡ unbegun wal first threshold start.state.queue
-  pub empty : IsUnbegun tells start
-  pub over_old : BeginsOver old start.disk
-  pub state : State
-  pub disk : DiskView
-  pub outcome : JournalOutcome tells start batches state disk
-  pub over_new : TellsOf new disk
-  pub acked_is : end.acked ≡ acked state
-  pub segments_is : end.segments ≡ length state.segments
-  pub died_is : end.died ≡ is_some state.dead

@@ -5,13 +5,14 @@ use Rattle.disk_face.specs.declared.Side.{Side}
 use Rattle.disk_face.specs.declared.OpId.{OpId}
 use Rattle.disk_face.specs.declared.Progress.{Progress}
 use Rattle.disk_face.specs.declared.Progress.TheVariants.{Pending}
+use Rattle.disk_face.specs.View.{creating, Call, was_started, was_polled}
 use Rattle.stall_monitor.specs.declared.verdict.MonitorView.{MonitorView}
 use Rattle.stall_monitor.specs.Verdicts.{IsToDie, IsToSwitch}
 use Rattle.log_writer.specs.declared.phase.Operation.{Operation}
 use Rattle.log_writer.specs.declared.phase.Operation.TheVariants.{Create}
 use Rattle.log_writer.specs.declared.phase.Phase.TheVariants.{InFlight, Broken}
 use Rattle.log_writer.specs.Writer.{Writer}
-use Rattle.log_writer.specs.Fits.{IsBusy}
+use Rattle.log_writer.specs.Fits.{IsBusy, act_of, flight_on}
 use Rattle.log_writer.specs.Steps.{next_operation, sent_with, after_answer}
 use Rattle.failover_writer.specs.declared.fault.JournalFault.{JournalFault}
 use Rattle.failover_writer.specs.declared.fault.JournalFault.TheVariants as faults
@@ -130,13 +131,20 @@ moved_or_waited (Some Pending) other = steps.Waited
 moved_or_waited one (Some Pending) = steps.Waited
 moved_or_waited one other = steps.Moved
 
+-- No segment has an operation of that id in flight.
+abbrev pub NoneFlies : OpId → List Writer → Type 0
+NoneFlies id writers = AllByRecursion (λ (w : Writer). (operation : Operation) → w.phase ≡ InFlight operation id → ⊥) writers
+
 -- After its polls a step begins the next segment where the monitor says so, or segment 0 where there is none and the journal is
 -- behind; else it starts what comes next on the current segment, where that is at rest and the journal is behind, if anything does.
+-- What it starts has an id that no operation in flight has.
 pub data ActsAfterPolls (polled : State) : State → Type 0 where
   first : (new : State) → polled.segments ≡ [] → IsBehind polled → BeginsNext polled new → ActsAfterPolls polled new
   none_to_begin : polled.segments ≡ [] → (IsBehind polled → ⊥) → ActsAfterPolls polled polled
-  switches : (new : State) → Verdict IsToSwitch polled → BeginsNext polled new → ActsAfterPolls polled new
-  starts : (new : State) → Verdict IsToStay polled → IsBehind polled → StartsNext polled new → ActsAfterPolls polled new
+  switches : (new : State) → Verdict IsToSwitch polled → (begins : BeginsNext polled new) → NoneFlies begins.id polled.segments
+      → ActsAfterPolls polled new
+  starts : (new : State) → Verdict IsToStay polled → IsBehind polled → (next : StartsNext polled new) → NoneFlies next.id polled.segments
+      → ActsAfterPolls polled new
   stays : Verdict IsToStay polled → (IsBehind polled → (new : State) → StartsNext polled new → ⊥) → ActsAfterPolls polled polled
 
 -- It is not dead, and has something in flight or work.
@@ -159,4 +167,39 @@ pub data StepRule (old : State) : Option Progress → Option Progress → State 
       → Dies polled new side count → StepRule old one other new (Err (faults.Dead side count))
   goes : (one other : Option Progress) (polled started new : State) → IsUp old → Polls old one other polled → ActsAfterPolls polled started
       → Releases started new → StepRule old one other new (Ok (moved_or_waited one other))
-  short : (one other : Option Progress) (polled : State) → IsUp old → Polls old one other polled → StepRule old one other polled (Err faults.NoMemory)
+  short : (one other : Option Progress) (polled : State) → IsUp old → Polls old one other polled → (Verdict IsToDie polled → ⊥)
+      → StepRule old one other polled (Err faults.NoMemory)
+
+-- ---- what a step asks of the disk, the last call first
+
+abbrev pub calls_of_poll : {writers : List Writer} {answer : Option Progress} {polled : List Writer} → PollsFirst writers answer polled → List Call
+calls_of_poll (none writers rest) = []
+calls_of_poll (polled front w back operation id answer rest phase) = was_polled id answer ∷ []
+
+abbrev pub calls_of_polls : {state : State} {one other : Option Progress} {polled : State} → Polls state one other polled → List Call
+calls_of_polls (nothing_begun empty) = []
+calls_of_polls (asked earlier current one other earlier' current' are early late) = calls_of_poll late ++ calls_of_poll early
+
+-- the creation of a segment that is begun
+abbrev pub creation_of : {old new : State} → BeginsNext old new → Call
+creation_of begins = was_started begins.id (flight_on creating begins.writer)
+
+-- the operation that is started on the current segment
+abbrev pub start_of : {old new : State} → StartsNext old new → Call
+start_of next = was_started next.id (flight_on (act_of next.operation) next.current)
+
+abbrev pub calls_of_act : {polled started : State} → ActsAfterPolls polled started → List Call
+calls_of_act (first new empty behind begins) = creation_of begins ∷ []
+calls_of_act (none_to_begin empty rests) = []
+calls_of_act (switches new verdict begins fresh) = creation_of begins ∷ []
+calls_of_act (starts new verdict behind next fresh) = start_of next ∷ []
+calls_of_act (stays verdict rests) = []
+
+-- its polls, each once, and then an operation at most: nothing else
+abbrev pub calls_of : {old : State} {one other : Option Progress} {new : State} {answer : Result Step JournalFault}
+    → StepRule old one other new answer → List Call
+calls_of (was_dead side count is) = []
+calls_of (idle lives rests no_work) = []
+calls_of (dies one other done new side count up polls dying) = calls_of_polls polls
+calls_of (goes one other done started new up polls acts releases) = calls_of_act acts ++ calls_of_polls polls
+calls_of (short one other done up polls lives) = calls_of_polls polls

@@ -1,16 +1,16 @@
 //! How a journal drives its segments: polls them, begins the next one, and starts what comes next on the current one.
 
-ghost use Rattle.std.specs.Prelude.{◌≡◌, ◌<◌, ◌-◌, suc, length, take, drop, None, MatchBool, IfSome, OnOk, OnErr};
+ghost use Rattle.std.specs.Prelude.{◌≡◌, ◌<◌, ◌-◌, suc, [], length, take, drop, None, MatchBool, IfSome, OnOk, OnErr};
+ghost use Rattle.disk_face.specs.View.{Makes};
 ghost use Rattle.disk_face.specs.Calls.{GoesOn};
 ghost use Rattle.stall_monitor.specs.declared.verdict.TheConstants.{SEGMENTS_MAX};
 ghost use Rattle.failover_writer.specs.State.{len, acked};
 ghost use Rattle.failover_writer.specs.Ranges as ranges;
 ghost use Rattle.failover_writer.specs.Ranges.{KeepsRecords};
-ghost use Rattle.failover_writer.specs.Stepping.{IsBehind, NoneBusy, BeginsNext, left_behind};
+ghost use Rattle.failover_writer.specs.Stepping.{IsBehind, NoneBusy, left_behind};
 ghost use Rattle.failover_writer.specs.Remaining.{polls_left};
-ghost use Rattle.failover_writer.specs.Answered.{StartsAtMostOne};
 ghost use Rattle.failover_writer.specs.Keeping.{Passes};
-ghost use Rattle.failover_writer.specs.Moves.{IsBusyAt, IsFirstBusy, PollsAt, PollsAll, MayStartNext, IsRestingAt, NoneRests};
+ghost use Rattle.failover_writer.specs.Moves.{IsBusyAt, IsFirstBusy, PollsAt, PollsAll, BeginsOnDisk, MayStartNext, IsRestingAt, NoneRests};
 
 use crate::journal::Journal;
 use disk_face::{Disk, Progress, SegName, Side};
@@ -134,13 +134,13 @@ impl<D: Disk> Journal<D> {
         requires lives { self.old.state.dead ≡ None }
         requires behind { IsBehind self.old.state }
         requires few { length self.old.state.segments < SEGMENTS_MAX }
-        ensures begun { OnOk result (BeginsNext self.old.state self.new.state) }
+        ensures begun { OnOk result (BeginsOnDisk self.old.state self.new.state (D.view self.old.disk) (D.view self.new.disk)) }
         ensures err { OnErr result (self.new.state ≡ self.old.state) }
+        ensures quiet { OnErr result (Makes [] (D.view self.old.disk) (D.view self.new.disk)) }
         ensures keeps { KeepsRecords D.tells D.view self.old self.new }
         ensures passes { Passes D.tells self.old.state self.new.state (D.view self.old.disk) (D.view self.new.disk) }
         ensures goes_on { GoesOn (D.view self.old.disk) (D.view self.new.disk) }
         ensures stalls { polls_left (D.view self.new.disk) ≡ polls_left (D.view self.old.disk) }
-        ensures asks { StartsAtMostOne (D.view self.old.disk) (D.view self.new.disk) }
     {
         let index = self.writers.len();
         let name = SegName {
@@ -179,13 +179,13 @@ impl<D: Disk> Journal<D> {
     /// Starts what comes next on the current segment.
     pub(crate) fn start_next(&mut self) -> Result<(), NoMemory>
         requires lives { self.old.state.dead ≡ None }
-        ensures started { OnOk result (MayStartNext self.old.state self.new.state) }
+        ensures started { OnOk result (MayStartNext self.old.state (D.view self.old.disk) (D.view self.new.disk) self.new.state) }
         ensures err { OnErr result (self.new.state ≡ self.old.state) }
+        ensures quiet { OnErr result (Makes [] (D.view self.old.disk) (D.view self.new.disk)) }
         ensures keeps { KeepsRecords D.tells D.view self.old self.new }
         ensures passes { Passes D.tells self.old.state self.new.state (D.view self.old.disk) (D.view self.new.disk) }
         ensures goes_on { GoesOn (D.view self.old.disk) (D.view self.new.disk) }
         ensures stalls { polls_left (D.view self.new.disk) ≡ polls_left (D.view self.old.disk) }
-        ensures asks { StartsAtMostOne (D.view self.old.disk) (D.view self.new.disk) }
     {
         let goal = self.goal();
         let Some(last) = self.resting() else {

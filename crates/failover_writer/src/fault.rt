@@ -43,14 +43,3 @@ pub enum Step {
     /// Nothing was in flight, and there was no work. No disk call was made.
     Idle,
 }
-
-/// How the journal of a run ended.
-#[derive(Clone, Copy, Debug, PartialEq, Eq)]
-pub struct JournalEnd {
-    /// How many of its batches a sync covers.
-    pub acked: u64,
-    /// How many segments it began.
-    pub segments: u32,
-    /// Whether it died. Otherwise it was closed, or left where a script halts.
-    pub died: bool,
-}

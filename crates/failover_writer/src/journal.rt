@@ -1,27 +1,26 @@
 //! The journal and its step.
 
 ghost use Rattle.disk_face.specs.declared.names.TheConstants.{WAL_MAX};
-ghost use Rattle.std.specs.Prelude.{◌≡◌, ◌≢◌, ◌↔◌, ◌⊎◌, ◌≤◌, ◌<◌, List, [], length, None, Some, Ok, MatchBool, IfOk, IfErr, IfSome, OnOk, IsTrue};
+ghost use Rattle.std.specs.Prelude.{◌≡◌, ◌≢◌, ◌↔◌, ◌⊎◌, ◌≤◌, ◌<◌, List, [], length, None, Some, Ok, MatchBool, IfOk, IfErr, IfSome, OnOk, OnErr, IsTrue};
 ghost use Rattle.batch_repr.specs.declared.batch.Batch.{Batch};
 ghost use Rattle.batch_repr.specs.declared.limits.TheConstants.{BATCHES_MAX};
 ghost use Rattle.record_queue.specs.Nodes.{IsFilledNode};
 ghost use Rattle.record_queue.specs.declared.node.Filled.{Filled};
-ghost use Rattle.disk_face.specs.View.{files, NothingInFlight};
+ghost use Rattle.disk_face.specs.View.{files, Makes, NothingInFlight};
 ghost use Rattle.disk_face.specs.Calls.{GoesOn, Stalls};
 ghost use Rattle.stall_monitor.specs.declared.verdict.TheConstants.{THRESHOLD_MAX};
 ghost use Rattle.failover_writer.specs.State.{len, acked, broken_count, unbegun, with_room};
 ghost use Rattle.failover_writer.specs.Ranges.{AreUnsent, StandsFor, Stands, KeepsRecords, AddsRecord};
-ghost use Rattle.failover_writer.specs.Stepping as stepping;
 ghost use Rattle.failover_writer.specs.Stepping.{IsBehind, HasWork, IsActive, IsAtRest, shown_to_monitor, Releases, IsUp};
 ghost use Rattle.failover_writer.specs.declared.fault.Step.TheVariants as steps;
 ghost use Rattle.failover_writer.specs.Setting.{KeepsGoal, KeepsSegments};
 ghost use Rattle.failover_writer.specs.Remaining.{polls_left, Falls};
 ghost use Rattle.failover_writer.specs.Sound.{HasGivenUp, IsSoundJournal, CountsLeaveFew};
-ghost use Rattle.failover_writer.specs.Answered.{StartsAtMostOne, StepsBy, Settles, IsIdle, IsMarked, PollsFell, ClosesBy};
+ghost use Rattle.failover_writer.specs.Answered.{StepsBy, Settles, IsIdle, IsMarked, PollsFell, ClosesBy};
 ghost use Rattle.failover_writer.specs.Keeping.{OthersStay, IsOpening, KeepsBase, KeepsBases, Passes};
 ghost use Rattle.failover_writer.specs.Lasting.{Lasts, Survives};
 ghost use Rattle.failover_writer.specs.Closing.{Drains, Moves};
-ghost use Rattle.failover_writer.specs.Moves.{EndsGoing, Pushes};
+ghost use Rattle.failover_writer.specs.Moves.{ActsOnDisk, EndsGoing, Pushes};
 
 use crate::driving::side_at;
 use crate::fault::{DeadMark, JournalFault, Step};
@@ -375,34 +374,21 @@ impl<D: Disk> Journal<D> {
         self.records.settle()
     }
 
-    /// Begins the next segment, starts the next operation, or gives up.
+    /// Begins the next segment, starts the next operation, or gives up. What is started may need the records that still stand in
+    /// nodes; to give up takes no memory.
     fn go_on(&mut self) -> Result<(), JournalFault>
         requires lives { self.old.state.dead ≡ None }
-        ensures went { OnOk result (stepping.ActsAfterPolls self.old.state self.new.state) }
+        ensures went { OnOk result (ActsOnDisk self.old.state self.new.state (D.view self.old.disk) (D.view self.new.disk)) }
         ensures ended { IfErr result (EndsGoing self.old.state self.new.state) }
+        ensures quiet { OnErr result (Makes [] (D.view self.old.disk) (D.view self.new.disk)) }
         ensures keeps { KeepsRecords D.tells D.view self.old self.new }
         ensures passes { Passes D.tells self.old.state self.new.state (D.view self.old.disk) (D.view self.new.disk) }
         ensures goes_on { GoesOn (D.view self.old.disk) (D.view self.new.disk) }
         ensures stalls { polls_left (D.view self.new.disk) ≡ polls_left (D.view self.old.disk) }
-        ensures asks { StartsAtMostOne (D.view self.old.disk) (D.view self.new.disk) }
-    {
-        self.gather()?;
-        self.go_on_ready()
-    }
-
-    /// The same, where no record stands in a node.
-    fn go_on_ready(&mut self) -> Result<(), JournalFault>
-        requires lives { self.old.state.dead ≡ None }
-        ensures went { OnOk result (stepping.ActsAfterPolls self.old.state self.new.state) }
-        ensures ended { IfErr result (EndsGoing self.old.state self.new.state) }
-        ensures keeps { KeepsRecords D.tells D.view self.old self.new }
-        ensures passes { Passes D.tells self.old.state self.new.state (D.view self.old.disk) (D.view self.new.disk) }
-        ensures goes_on { GoesOn (D.view self.old.disk) (D.view self.new.disk) }
-        ensures stalls { polls_left (D.view self.new.disk) ≡ polls_left (D.view self.old.disk) }
-        ensures asks { StartsAtMostOne (D.view self.old.disk) (D.view self.new.disk) }
     {
         let Some(current) = self.writers.last() else {
             if self.is_behind() {
+                self.gather()?;
                 self.begin_next()?;
             }
             return Ok(());
@@ -419,8 +405,14 @@ impl<D: Disk> Journal<D> {
                     faults: mark.faults,
                 })
             }
-            Verdict::Switch => Ok(self.begin_next()?),
-            Verdict::Stay => Ok(self.start_next()?),
+            Verdict::Switch => {
+                self.gather()?;
+                Ok(self.begin_next()?)
+            }
+            Verdict::Stay => {
+                self.gather()?;
+                Ok(self.start_next()?)
+            }
         }
     }
 

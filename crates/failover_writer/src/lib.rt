@@ -18,7 +18,7 @@ mod journal;
 mod tests;
 mod theorems;
 
-pub use fault::{DeadMark, JournalEnd, JournalFault, Step};
+pub use fault::{DeadMark, JournalFault, Step};
 pub use journal::Journal;
 pub use theorems::{
     a_journal_at_hand, a_journal_keeps_its_base, a_journal_keeps_its_run,

@@ -184,7 +184,7 @@ impl<R: LockFiles + AllocGlobal + Clone + Drop> Disk for FileDisk<R> {
             Side::Secondary => self.secondary.begin(op)?,
         };
         let id = OpId { side, number };
-        self.log.note_start(id);
+        self.log.note_start(id, op);
         Ok(id)
     }
 

@@ -23,6 +23,10 @@ act_of Create = creating
 act_of Write = writing
 act_of Sync = syncing
 
+-- the operation with that act on the writer's file, once it is in flight
+abbrev pub flight_on : Act → Writer → Flight
+flight_on act w = record { place = place_of_writer w; act = act }
+
 -- an operation is in flight
 abbrev pub IsBusy : Phase → Type 0
 IsBusy New = ⊥

@@ -4,7 +4,7 @@ use Rattle.disk_face.specs.declared.Side.{Side}
 use Rattle.disk_face.specs.declared.SegName.{SegName}
 use Rattle.disk_face.specs.declared.OpId.{OpId}
 use Rattle.disk_face.specs.declared.Progress.{Progress}
-use Rattle.disk_face.specs.View.{Place, segment, Act, Files, DiskView, files, was_polled, Makes, IsFree, AtEachMoment}
+use Rattle.disk_face.specs.View.{Place, segment, Act, Files, DiskView, files, was_started, was_polled, Makes, IsFree, AtEachMoment}
 use Rattle.disk_face.specs.Calls.{MayStart, Starts, ChangesFile, Polled, after_start}
 use Rattle.batch_repr.specs.declared.batch.Batch.{Batch}
 use Rattle.record_queue.specs.Queue.{Queue}
@@ -13,7 +13,7 @@ use Rattle.log_writer.specs.declared.phase.Operation.{Operation}
 use Rattle.log_writer.specs.declared.phase.Phase.{Phase}
 use Rattle.log_writer.specs.declared.phase.Phase.TheVariants.{New, InFlight}
 use Rattle.log_writer.specs.Writer.{Writer}
-use Rattle.log_writer.specs.Fits.{place_of_writer, IsUnsent, Fits, SameFile}
+use Rattle.log_writer.specs.Fits.{place_of_writer, flight_on, IsUnsent, Fits, SameFile}
 use Rattle.log_writer.specs.Kept.{SegmentKept}
 use Rattle.log_writer.specs.Steps.{IsQueueOf, next_operation, BeginsJust, TakesPoll, after_answer}
 use Rattle.log_writer.specs.Sending.{frames_of}
@@ -95,7 +95,11 @@ MayStartOwn tells act w v = IsTrue tells → MayStart act (files v (place_of_wri
 
 -- One operation more is in flight, with this act on the writer's file.
 abbrev pub StartsOn : Act → Writer → DiskView → DiskView → OpId → Type 0
-StartsOn act w before after id = Starts (record { place = place_of_writer w; act = act }) w.side id before after
+StartsOn act w before after id = Starts (flight_on act w) w.side id before after
+
+-- The disk was asked to start it, and for nothing else.
+abbrev pub AsksToStart : Act → Writer → DiskView → DiskView → OpId → Type 0
+AsksToStart act w before after id = Makes (was_started id (flight_on act w) ∷ []) before after
 
 -- The writer's file changes as this act is started, with the frames of all records up to `len` where it is a write.
 abbrev pub SendsUpTo : Bool → Act → Queue → ℕ → Writer → DiskView → DiskView → Type 0

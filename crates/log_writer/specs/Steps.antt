@@ -15,7 +15,7 @@ use Rattle.log_writer.specs.declared.phase.Operation.TheVariants.{Create, Write,
 use Rattle.log_writer.specs.declared.phase.Phase.{Phase}
 use Rattle.log_writer.specs.declared.phase.Phase.TheVariants.{New, InFlight, Idle, Broken}
 use Rattle.log_writer.specs.Writer.{Writer}
-use Rattle.log_writer.specs.Fits.{place_of_writer, act_of}
+use Rattle.log_writer.specs.Fits.{act_of, flight_on}
 
 -- The queue holds the records of a run from its start on.
 pub record IsQueueOf (records : List Batch) (queue : Queue) : Type 0 where
@@ -45,11 +45,12 @@ sent_with Create len sent = sent
 sent_with Write len sent = len
 sent_with Sync len sent = sent
 
--- One operation more is in flight, on the writer's file, and it is the writer's.
+-- One operation more is in flight, on the writer's file, and it is the writer's. The disk was asked for nothing else.
 pub record Begins (operation : Operation) (len : ℕ) (old new : Writer) (before after : DiskView) : Type 0 where
   pub id : OpId
   pub place : ℕ
-  pub starts : Starts (record { place = place_of_writer old; act = act_of operation }) old.side id before after
+  pub starts : Starts (flight_on (act_of operation) old) old.side id before after
+  pub noted : Makes (was_started id (flight_on (act_of operation) old) ∷ []) before after
   pub moved : new ≡ record old { sent = sent_with operation len old.sent; place = place; waiting = 0; phase = InFlight operation id }
 
 -- The operation was started, and nothing where there is none.
@@ -85,8 +86,3 @@ pending_polls Failed = 0
 pub record TakesPoll (id : OpId) (answer : Progress) (before after : DiskView) : Type 0 where
   pub its : after.polls_left id.side + pending_polls answer ≡ before.polls_left id.side
   pub others : (side : Side) → side ≢ id.side → after.polls_left side ≡ before.polls_left side
-
--- The disk was asked once to start an operation, and for nothing else, or for nothing at all.
-abbrev pub AsksToStart : Bool → DiskView → DiskView → Type 0
-AsksToStart true before after = (id : OpId) × Makes (was_started id ∷ []) before after
-AsksToStart false before after = Makes [] before after

@@ -1,16 +1,16 @@
 //! How a writer starts its next operation.
 
 ghost use Rattle.crc_chunk.specs.declared.chunk.TheConstants.{BLOCK};
-ghost use Rattle.std.specs.Prelude.{◌≡◌, ◌≢◌, ◌<◌, ◌≤◌, ◌++◌, suc, [], ◌∷◌, IsTrue, IfOk, OnOk, OnErr};
-ghost use Rattle.disk_face.specs.View.{writing, was_started, Makes, IsFree};
+ghost use Rattle.std.specs.Prelude.{◌≡◌, ◌≢◌, ◌<◌, ◌≤◌, ◌++◌, suc, IsTrue, IfOk, OnOk, OnErr};
+ghost use Rattle.disk_face.specs.View.{writing, IsFree};
 ghost use Rattle.disk_face.specs.Calls.{GoesOn};
 ghost use Rattle.block_record.specs.Framing.{standing_after};
 ghost use Rattle.log_writer.specs.declared.phase.Operation.TheVariants.{Write};
 ghost use Rattle.log_writer.specs.declared.phase.Phase.TheVariants.{Broken};
 ghost use Rattle.log_writer.specs.Fits.{IsBusy, place_of_writer, act_of};
-ghost use Rattle.log_writer.specs.Steps.{HoldsPart, next_operation, AsksToStart};
+ghost use Rattle.log_writer.specs.Steps.{HoldsPart, next_operation};
 ghost use Rattle.log_writer.specs.Sending.{frames_at, sending};
-ghost use Rattle.log_writer.specs.Promises.{MayStartOwn, StartsOn, SendsUpTo, StartsForGoal};
+ghost use Rattle.log_writer.specs.Promises.{MayStartOwn, StartsOn, AsksToStart, SendsUpTo, StartsForGoal};
 ghost use Rattle.log_writer.specs.Promises.{FitsQueue, StaysFittingQueue, QueueKept};
 ghost use Rattle.log_writer.specs.Promises.{SameElsewhere, RestUntouched};
 
@@ -88,7 +88,7 @@ impl LogWriter {
         requires in_block { self.old.place < BLOCK }
         ensures goes_on { GoesOn (D.view disk.old) (D.view disk.new) }
         ensures stalls { (D.view disk.new).polls_left ≡ (D.view disk.old).polls_left }
-        ensures asks { IfOk result (λ id. Makes (was_started id ∷ []) (D.view disk.old) (D.view disk.new)) }
+        ensures asks { IfOk result (AsksToStart writing self.old (D.view disk.old) (D.view disk.new)) }
         ensures starts { IfOk result (StartsOn writing self.old (D.view disk.old) (D.view disk.new)) }
         ensures file { OnOk result (SendsUpTo D.tells writing queue.now len self.old (D.view disk.old) (D.view disk.new)) }
         ensures sent { OnOk result (self.new ≡ sending Write queue.now len self.old) }
@@ -121,7 +121,7 @@ impl LogWriter {
         requires in_block { self.old.place < BLOCK }
         ensures goes_on { GoesOn (D.view disk.old) (D.view disk.new) }
         ensures stalls { (D.view disk.new).polls_left ≡ (D.view disk.old).polls_left }
-        ensures asks { IfOk result (λ id. Makes (was_started id ∷ []) (D.view disk.old) (D.view disk.new)) }
+        ensures asks { IfOk result (AsksToStart (act_of operation) self.old (D.view disk.old) (D.view disk.new)) }
         ensures starts { IfOk result (StartsOn (act_of operation) self.old (D.view disk.old) (D.view disk.new)) }
         ensures file { OnOk result (SendsUpTo D.tells (act_of operation) queue.now len self.old (D.view disk.old) (D.view disk.new)) }
         ensures sent { OnOk result (self.new ≡ sending operation queue.now len self.old) }
@@ -152,7 +152,6 @@ impl LogWriter {
         requires fits { FitsQueue D.tells queue.now self.old (D.view disk.old) }
         ensures goes_on { GoesOn (D.view disk.old) (D.view disk.new) }
         ensures stalls { (D.view disk.new).polls_left ≡ (D.view disk.old).polls_left }
-        ensures asks { IfOk result (λ started. AsksToStart started (D.view disk.old) (D.view disk.new)) }
         ensures starts { IfOk result (StartsForGoal goal.now self.old self.new (D.view disk.old) (D.view disk.new)) }
         ensures err { OnErr result ((self.new ≡ self.old) × (D.view disk.new ≡ D.view disk.old)) }
         ensures fits { StaysFittingQueue D.tells queue.now self.old self.new (D.view disk.old) (D.view disk.new) }

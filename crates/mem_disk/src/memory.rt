@@ -268,7 +268,7 @@ impl Disk for MemDisk {
         ensures starts { IsStarted op.entry result (seen self.old) (seen self.new) }
         ensures file { OnOk result (SendsTo op.entry (seen self.old) (seen self.new)) }
         ensures err { OnErr result (seen self.new ≡ seen self.old) }
-        ensures noted { NotesStart result (seen self.old) (seen self.new) }
+        ensures noted { NotesStart op.entry result (seen self.old) (seen self.new) }
 
         // The operations are numbered as they are started.
         ensures number { IfOk result (λ id. id.number ≡ (plan_of self.old).starts) }
@@ -290,7 +290,7 @@ impl Disk for MemDisk {
             side: made.side,
             number,
         };
-        self.log.note_start(id);
+        self.log.note_start(id, op);
         Ok(id)
     }
 

@@ -1,12 +1,13 @@
 -- What the journal of a run came to, by what became of it since its start.
 use Rattle.std.proofs.Common.{◌≡◌, ◌≢◌, ◌⊎◌, inl, inr, ℕ, suc, ◌+◌, ◌*◌, ◌<◌, ◌≤◌, ◌-◌, Bool, true, false, List, [], ◌∷◌, length, map, Option, Some, None, IsTrue, ap, sym, subst, ◌∙◌, refl, arith}
-use Rattle.std.specs.Prelude.{is_some, max, Contains}
+use Rattle.std.specs.Prelude.{◌↔◌, is_some, max, Contains}
 use Rattle.std.specs.List.{AllByRecursion}
 use Rattle.std.proofs.lemmas.List.{nil_from_length}
 use native.Mathlib.Decide.{dec_le}
 use Rattle.batch_repr.specs.declared.batch.Batch.{Batch}
 use Rattle.disk_face.specs.declared.SegName.{SegName}
 use Rattle.disk_face.specs.View.{Place, DiskView, files}
+use Rattle.disk_face.specs.Asked.{creations, LastHasFailed}
 use Rattle.log_writer.specs.Writer.{Writer}
 use Rattle.log_writer.specs.Fits.{place_of_writer}
 use Rattle.stall_monitor.specs.declared.verdict.TheConstants.{SEGMENTS_MAX}
@@ -18,7 +19,7 @@ use Rattle.failover_writer.specs.Keeping.{IsElsewhere, OthersStay, IsOpening, Ke
 use Rattle.failover_writer.specs.Remaining.{polls_left}
 use Rattle.failover_writer.specs.Running.{PollsLeft, OthersSame}
 use Rattle.failover_writer.specs.Sound.{CountsLeaveFew}
-use Rattle.failover_writer.proofs.Laws.{counts_leave_few, rose_by_less, len_is, synced_within, not_theirs, outcome_recovers, reads_as_image}
+use Rattle.failover_writer.proofs.Laws.{TellCalls, tell_calls, given_up_told, gives_up_told, counts_leave_few, rose_by_less, len_is, synced_within, not_theirs, outcome_recovers, reads_as_image}
 use Rattle.session_script.specs.declared.replies.RunEnd.{RunEnd}
 use Rattle.session_script.specs.declared.script.Round.{Round}
 use Rattle.failover_writer.specs.Outcome.{JournalStart, IsUnbegun, MayStall, JournalOutcome}
@@ -147,6 +148,20 @@ module _ (threshold : ℕ) (tells : Bool) (start : JournalStart) (wal first : �
       pending = pending start.may_stall refl;
     }
 
+    -- what the calls of its disk tell
+    calls : TellCalls start.disk.calls state v.calls
+    calls = tell_calls r.comes started.empty.none_begun started.empty.lives
+
+    marked : (o : Option DeadMark) → o ≢ None → is_some o ≡ true
+    marked None some = absurd (some refl)
+    marked (Some mark) some = refl
+
+    gave_up : IsTrue end.died ↔ ((end.segments ≡ SEGMENTS_MAX) × LastHasFailed v.calls)
+    gave_up = (
+      λ d. let told = given_up_told start.disk.calls state v.calls calls (dead d) in (told_end.segments_is ∙ told.0, told.1),
+      λ p. told_end.died_is ∙ marked state.dead (gives_up_told start.disk.calls state v.calls calls (sym told_end.segments_is ∙ p.0) p.1),
+    )
+
     ends : EndsRunAs threshold rounds (length own) end start.disk v
     ends = record {
       within = omega (arith, told_end.acked_is, synced_within tells own v 0 state.segments (omega arith) r.stands.fit);
@@ -160,6 +175,8 @@ module _ (threshold : ℕ) (tells : Bool) (start : JournalStart) (wal first : �
       each_fault = faults_or r.unstalled (end.segments - 1) (λ still. omega (arith, few.segments, still.left, told_end.segments_is));
       ten_faults = λ d. faults_or r.unstalled SEGMENTS_MAX (λ still. omega (arith, few.dead (dead d), still.left));
       causes = causes;
+      created = calls.created ∙ ap (λ (n : ℕ). creations start.disk.calls + n) (sym told_end.segments_is);
+      gave_up = gave_up;
     }
 
     not_broken : (FaultsRose start.disk v → ⊥) → broken_count state ≡ 0

@@ -1,11 +1,11 @@
 -- What a run over a journal came to, and what the same run came to over the disk within.
-use Rattle.std.proofs.Common.{◌≡◌, ℕ, Bool, List, [], ◌∷◌, length, ◌∙◌, subst}
+use Rattle.std.proofs.Common.{◌≡◌, ℕ, Bool, List, [], ◌∷◌, ◌∙◌, subst}
 use Rattle.batch_repr.specs.declared.batch.Batch.{Batch}
 use Rattle.batch_repr.specs.declared.limits.TheConstants.{NUMBER_FIRST}
 use Rattle.batch_repr.specs.Batches.{IsContiguous, end_after}
 use Rattle.disk_face.specs.View.{DiskView}
 use Rattle.disk_face.specs.Script.{TellsOf, BeginsOver}
-use Rattle.failover_writer.specs.State.{JournalView, unbegun}
+use Rattle.failover_writer.specs.State.{JournalView}
 use Rattle.session_script.specs.declared.replies.RunEnd.{RunEnd}
 use Rattle.failover_writer.specs.Outcome.{JournalStart, JournalOutcome}
 use Rattle.commit_pipeline.specs.Openings.{Opening, first_number, first_of}
@@ -54,19 +54,6 @@ runs_work threshold tells view wal next base work journal left old new outcome r
     record {
       batches = ran.batches;
       says = subst (λ (n : ℕ). SaysRun n base work ran.batches outcome) (first_is NUMBER_FIRST journal.state.next base row (from ∙ next_is)) ran.says;
-      of = record {
-        start = start;
-        started_as = subst (λ (n : ℕ). journal.state ≡ unbegun wal n threshold journal.state.queue) next_is started.started_as;
-        empty = started.empty;
-        over_old = before;
-        state = left.state;
-        disk = view left.disk;
-        outcome = ran.journal;
-        over_new = after;
-        acked_is = ran.tells_end.acked_is;
-        segments_is = ran.tells_end.segments_is;
-        died_is = ran.tells_end.died_is;
-      };
       ended =
           subst (λ (n : ℕ). HasRun threshold tells old wal n (work_rounds work) ran.batches outcome.end new) next_is
           (run_told old (view journal.disk) (view left.disk) new before.tells before.polls after threshold tells wal next (work_rounds work) ran.batches outcome.end

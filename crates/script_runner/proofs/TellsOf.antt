@@ -7,7 +7,9 @@ use Rattle.stall_monitor.specs.declared.verdict.TheConstants.{SEGMENTS_MAX}
 use Rattle.disk_face.specs.declared.OpId.{OpId}
 use Rattle.disk_face.specs.View.{DiskView, Files, Flight, files, NothingInFlight}
 use Rattle.disk_face.specs.Image.{IsRested}
+use Rattle.disk_face.specs.Asked.{creations}
 use Rattle.disk_face.specs.Script.{TellsOf}
+use Rattle.disk_face.proofs.Laws.{same_creations, failed_within, failed_over}
 use Rattle.failover_writer.specs.Answered.{FaultsRose, RoseBy}
 use Rattle.failover_writer.specs.Keeping.{IsOpening, RecoversTo}
 use Rattle.failover_writer.specs.Remaining.{polls_left}
@@ -65,6 +67,9 @@ module _ (old start v new : DiskView) (before : TellsOf old start) (polls : (sid
     pending = pending_told rounds (c.stalls * threshold) c.pending;
   }
 
+  created_told : (n : ℕ) → creations v.calls ≡ creations start.calls + n → creations new.calls ≡ creations old.calls + n
+  created_told n is = omega (arith, is, same_creations old.calls start.calls before.calls, same_creations new.calls v.calls after.calls)
+
   ends_told : (threshold : ℕ) (rounds : List Round) (n : ℕ) (end : RunEnd) → EndsRunAs threshold rounds n end start v
       → EndsRunAs threshold rounds n end old new
   ends_told threshold rounds n end e = record {
@@ -79,6 +84,8 @@ module _ (old start v new : DiskView) (before : TellsOf old start) (polls : (sid
     each_fault = by_told rounds (end.segments - 1) e.each_fault;
     ten_faults = λ died. by_told rounds SEGMENTS_MAX (e.ten_faults died);
     causes = causes_told threshold rounds end e.causes;
+    created = created_told end.segments e.created;
+    gave_up = (λ d. let up = e.gave_up.0 d in (up.0, failed_within new.calls v.calls after.calls up.1), λ p. e.gave_up.1 (p.0, failed_over new.calls v.calls after.calls p.1));
   }
 
   was_files : files start ≡ files old

@@ -1,21 +1,21 @@
 -- What a whole run over a disk comes to (docs/formats/program.md, "The run of a script" and "The generated load").
-use Rattle.std.specs.Prelude.{◌≡◌, ◌≢◌, ◌⊎◌, ◌++◌, ◌+◌, ◌-◌, ◌*◌, ℕ, ◌<◌, ◌≤◌, Bool, true, false, List, [], ◌∷◌, length, Contains, None, IsTrue, is_some}
+use Rattle.std.specs.Prelude.{◌≡◌, ◌≢◌, ◌↔◌, ◌⊎◌, ◌++◌, ◌+◌, ◌-◌, ◌*◌, ℕ, ◌<◌, ◌≤◌, Bool, true, false, List, [], ◌∷◌, length, Contains, None, IsTrue, is_some}
 use Rattle.std.specs.List.{AllByRecursion, list_any}
 use Rattle.batch_repr.specs.declared.batch.Batch.{Batch}
 use Rattle.batch_repr.specs.declared.limits.TheConstants.{NUMBER_FIRST}
 use Rattle.batch_repr.specs.Batches.{end_after}
 use Rattle.disk_face.specs.declared.Side.{Side}
 use Rattle.disk_face.specs.View.{Place, DiskView, files, NothingInFlight}
+use Rattle.disk_face.specs.Asked.{creations, LastHasFailed}
 use Rattle.disk_face.specs.Image.{IsRested}
 use Rattle.stall_monitor.specs.declared.verdict.TheConstants.{SEGMENTS_MAX}
-use Rattle.failover_writer.specs.declared.fault.JournalEnd.{JournalEnd}
 use Rattle.failover_writer.specs.State.{State, JournalView, len, acked}
 use Rattle.failover_writer.specs.Answered.{FaultsRose, RoseBy}
 use Rattle.failover_writer.specs.Remaining.{polls_left}
 use Rattle.failover_writer.specs.Keeping.{RecoversTo, IsOpening}
 use Rattle.failover_writer.specs.Sound.{IsSoundJournal}
 use Rattle.failover_writer.specs.Running.{PollsLeft, OthersSame, ReadsAsImage}
-use Rattle.failover_writer.specs.Outcome.{JournalStart, start_on, JournalOutcome, EndsOf}
+use Rattle.failover_writer.specs.Outcome.{JournalStart, start_on, JournalOutcome}
 use Rattle.session_script.specs.declared.replies.RunEnd.{RunEnd}
 use Rattle.session_script.specs.declared.script.Round.{Round}
 use Rattle.session_script.specs.declared.script.StallLine.{StallLine}
@@ -80,10 +80,9 @@ pub record EndsRunAs (threshold : ℕ) (rounds : List Round) (batches : ℕ) (en
   pub ten_faults : IsTrue end.died → RoseBy SEGMENTS_MAX old new ⊎ (PollsLeft old ⊎ StallsSome rounds)
   -- and where polls may be, each takes a fault, or as many pending polls as the threshold says
   pub causes : HasCauses threshold rounds end old new
-
--- what the end of a run says of its journal
-abbrev pub journal_end : RunEnd → JournalEnd
-journal_end end = record { acked = end.acked; segments = end.segments; died = end.died }
+  -- as many creations were started; and it died just where no further segment may be begun and the operation started last has failed
+  pub created : creations new.calls ≡ creations old.calls + end.segments
+  pub gave_up : IsTrue end.died ↔ ((end.segments ≡ SEGMENTS_MAX) × LastHasFailed new.calls)
 
 -- The journal of a run was closed, or died, or was left as it was, with these numbers, over the disk as it is now.
 pub record HasRun (threshold : ℕ) (tells : Bool) (start : DiskView) (wal first : ℕ) (rounds : List Round) (own : List Batch) (end : RunEnd)
@@ -124,7 +123,6 @@ pub record SaysRun (from : ℕ) (base : List Batch) (work : Work) (batches : Lis
 pub record RunsWork (base : List Batch) (work : Work) (wal threshold : ℕ) (tells : Bool) (old new : DiskView) (outcome : Outcome) : Type 0 where
   pub batches : List Batch
   pub says : SaysRun NUMBER_FIRST base work batches outcome
-  pub of : EndsOf threshold tells wal (end_after NUMBER_FIRST base) batches (journal_end outcome.end) old new
   pub ended : HasRun threshold tells old wal (end_after NUMBER_FIRST base) (work_rounds work) batches outcome.end new
 
 -- ---- inside

@@ -10,9 +10,9 @@ use Rattle.disk_face.specs.declared.SegName.{SegName}
 use Rattle.disk_face.specs.declared.OpId.{OpId}
 use Rattle.disk_face.specs.declared.Progress.{Progress}
 use Rattle.disk_face.specs.declared.Listed.{Listed}
-use Rattle.disk_face.specs.View.{was_listed, was_read, was_started, was_polled, DiskView, Makes, side_eq}
-use Rattle.disk_face.specs.Asked.{name_eq, listings, bytes_asked, length_listed, length_among}
-use Rattle.disk_face.proofs.Laws.{makes_none, makes_further, listings-append, bytes_asked-append, length_listed-append}
+use Rattle.disk_face.specs.View.{was_listed, was_read, was_started, was_polled, Flight, DiskView, Makes, side_eq}
+use Rattle.disk_face.specs.Asked.{name_eq, listings, bytes_asked, length_listed, length_among, creates}
+use Rattle.disk_face.proofs.Laws.{creations_further, makes_none, makes_further, listings-append, bytes_asked-append, length_listed-append}
 use Rattle.wal_recovery.specs.declared.listing.Found.{Found}
 use Rattle.wal_recovery.specs.declared.wals.FoundWal.{FoundWal}
 use Rattle.wal_recovery.specs.Rows.{item_of, Takes, Weaves, Groups}
@@ -30,7 +30,7 @@ bytes_append side name front back = sum_by-append (bytes_here side name) front b
 -- ---- calls that list nothing
 
 pub reads_none : (row : List Found) (v : DiskView) → ReadsOnly row v v
-reads_none row v = record { made = []; makes = makes_none v; lists = λ side. refl; listed = λ side name. refl; asked = λ side name. omega arith }
+reads_none row v = record { made = []; makes = makes_none v; lists = λ side. refl; listed = λ side name. refl; asked = λ side name. omega arith; creates = refl }
 
 pub reads_more : (front back : List Found) (old mid new : DiskView) → ReadsOnly front old mid → ReadsOnly back mid new → ReadsOnly (front ++ back) old new
 reads_more front back old mid new a b = record {
@@ -39,6 +39,7 @@ reads_more front back old mid new a b = record {
   lists = λ side. omega (arith, listings-append side b.made a.made, a.lists side, b.lists side);
   listed = λ side name. omega (arith, length_listed-append side name b.made a.made, a.listed side name, b.listed side name);
   asked = λ side name. omega (arith, bytes_asked-append side name b.made a.made, bytes_append side name front back, a.asked side name, b.asked side name);
+  creates = creations_further b.made a.made ∙ omega (arith, a.creates, b.creates);
 }
 
 -- the row may go on after what was read
@@ -49,6 +50,7 @@ reads_wider front back old new a = record {
   lists = a.lists;
   listed = a.listed;
   asked = λ side name. omega (arith, bytes_append side name front back, a.asked side name);
+  creates = a.creates;
 }
 
 -- a segment of which nothing is asked stands after
@@ -71,13 +73,23 @@ reads_one f len old new is le = record {
   listed = λ side name. refl;
   asked = λ side name. sum_less (if side_eq side f.side && name_eq name f.name then len else 0) (bytes_here side name f)
       (if_less (side_eq side f.side && name_eq name f.name) len f.len le);
+  creates = refl;
 }
 
-pub starts_one : (id : OpId) (old new : DiskView) → new.calls ≡ was_started id ∷ old.calls → ReadsOnly [] old new
-starts_one id old new is = record { made = was_started id ∷ []; makes = is; lists = λ side. refl; listed = λ side name. refl; asked = λ side name. omega arith }
+-- one operation, of a segment that is there
+pub starts_one : (id : OpId) (flight : Flight) (old new : DiskView) → creates flight.act ≡ 0 → new.calls ≡ was_started id flight ∷ old.calls
+    → ReadsOnly [] old new
+starts_one id flight old new none is = record {
+  made = was_started id flight ∷ [];
+  makes = is;
+  lists = λ side. refl;
+  listed = λ side name. refl;
+  asked = λ side name. omega arith;
+  creates = omega (arith, none);
+}
 
 pub polls_one : (id : OpId) (answer : Progress) (old new : DiskView) → new.calls ≡ was_polled id answer ∷ old.calls → ReadsOnly [] old new
-polls_one id answer old new is = record { made = was_polled id answer ∷ []; makes = is; lists = λ side. refl; listed = λ side name. refl; asked = λ side name. omega arith }
+polls_one id answer old new is = record { made = was_polled id answer ∷ []; makes = is; lists = λ side. refl; listed = λ side name. refl; asked = λ side name. omega arith; creates = refl }
 
 -- ---- the listings
 
@@ -153,10 +165,11 @@ lists_two ones others old mid new a b = record {
   makes = makes_further (was_listed Primary ones ∷ []) (was_listed Secondary others ∷ []) old mid new a b;
   lists = λ side. omega (arith, each_once ones others side);
   reads = λ side name. omega arith;
+  creates = refl;
 }
 
 pub lists_one : (ones : List Listed) (old new : DiskView) → Makes (was_listed Primary ones ∷ []) old new → AsksOnce old new
-lists_one ones old new a = record { made = was_listed Primary ones ∷ []; makes = a; lists = once; reads = λ side name. omega arith }
+lists_one ones old new a = record { made = was_listed Primary ones ∷ []; makes = a; lists = once; reads = λ side name. omega arith; creates = refl }
   where
     once : (side : Side) → listings side (was_listed Primary ones ∷ []) ≤ 1
     once Primary = omega arith
@@ -178,6 +191,7 @@ asks_once row old mid new a b = record {
     b.asked side name,
     b.listed side name,
   );
+  creates = creations_further b.made (both_listed a.ones a.others) ∙ omega (arith, b.creates);
 }
 
 pub lists_in_turn : (row : List Found) (old mid new : DiskView) → ListsRow row old mid → ReadsOnly row mid new → ListsInTurn old new

@@ -6,17 +6,19 @@ use Rattle.disk_face.specs.declared.Side.TheVariants.{Primary, Secondary}
 use Rattle.disk_face.specs.declared.SegName.{SegName}
 use Rattle.disk_face.specs.declared.Listed.{Listed}
 use Rattle.disk_face.specs.View.{Call, was_listed, DiskView, Makes, side_eq}
-use Rattle.disk_face.specs.Asked.{name_eq, listings, bytes_asked, length_listed, ListsOnce, ReadsAtMostListed}
+use Rattle.disk_face.specs.Asked.{name_eq, listings, bytes_asked, length_listed, ListsOnce, ReadsAtMostListed, creations}
 use Rattle.wal_recovery.specs.declared.fault.RecoverFault.{RecoverFault}
 use Rattle.wal_recovery.specs.declared.listing.Found.{Found}
 use Rattle.wal_recovery.specs.declared.wals.FoundWal.{FoundWal}
 
--- In the calls made since, each side is listed at most once, and of each segment no more bytes are asked for than it was listed with.
+-- In the calls made since, each side is listed at most once, of each segment no more bytes are asked for than it was listed with, and
+-- no segment is created.
 pub record AsksOnce (old new : DiskView) : Type 0 where
   pub made : List Call
   pub makes : Makes made old new
   pub lists : ListsOnce made
   pub reads : ReadsAtMostListed made
+  pub creates : creations made ≡ 0
 
 -- a listing of the primary side, and then one of the secondary side, the last one first
 abbrev pub both_listed : List Listed → List Listed → List Call
@@ -36,13 +38,14 @@ pub record ListsInTurn (old new : DiskView) : Type 0 where
 abbrev pub length_in_row : Side → SegName → List Found → ℕ
 length_in_row side name row = sum_by (λ (f : Found). if side_eq side f.side && name_eq name f.name then f.len else 0) row
 
--- The calls made since list no side, and ask for no more bytes of each segment than the row was listed with.
+-- The calls made since list no side, ask for no more bytes of each segment than the row was listed with, and create none.
 pub record ReadsOnly (row : List Found) (old new : DiskView) : Type 0 where
   pub made : List Call
   pub makes : Makes made old new
   pub lists : (side : Side) → listings side made ≡ 0
   pub listed : (side : Side) (name : SegName) → length_listed side name made ≡ 0
   pub asked : (side : Side) (name : SegName) → bytes_asked side name made ≤ length_in_row side name row
+  pub creates : creations made ≡ 0
 
 -- The calls made since are the listings of both sides, and the row has of each segment as many bytes as it was listed with.
 pub record ListsRow (row : List Found) (old new : DiskView) : Type 0 where

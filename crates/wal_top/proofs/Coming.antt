@@ -7,7 +7,8 @@ use Rattle.stall_monitor.specs.declared.verdict.TheConstants.{SEGMENTS_MAX}
 use Rattle.disk_face.specs.View.{Place, segment, DiskView, File, Files, files}
 use Rattle.disk_face.specs.Image.{IsSound, IsRested, as_read, dirs_as_read, directories}
 use Rattle.disk_face.specs.Calls.{GoesOn, WentOn}
-use Rattle.disk_face.proofs.Laws.{goes_went, rose_later, went_further}
+use Rattle.disk_face.specs.Asked.{creations}
+use Rattle.disk_face.proofs.Laws.{goes_went, rose_later, went_further, creations_further}
 use Rattle.log_writer.specs.Fits.{IsUnsent}
 use Rattle.failover_writer.specs.Ranges.{side_at, AreUnsent}
 use Rattle.failover_writer.specs.Answered.{FaultsRose, RoseBy}
@@ -15,6 +16,7 @@ use Rattle.failover_writer.specs.Keeping.{RecoversTo}
 use Rattle.failover_writer.specs.Remaining.{polls_left}
 use Rattle.failover_writer.proofs.Laws.{read_synced, rested_synced, recovered_opens}
 use Rattle.wal_recovery.specs.Listing.{Stored, StandsIn, name_in, IsNextWal}
+use Rattle.wal_recovery.specs.Asking.{AsksOnce}
 use Rattle.wal_recovery.specs.Recovering.{Recovers}
 use Rattle.wal_recovery.specs.Resting.{AreSegmentsStable, IsAsOrSynced, OnlySynced}
 use Rattle.disk_face.specs.declared.names.TheConstants.{WAL_MAX}
@@ -23,7 +25,7 @@ use Rattle.script_runner.specs.declared.run.Outcome.{Outcome}
 use Rattle.script_runner.specs.declared.work.Work.{Work}
 use Rattle.script_runner.specs.Works.{work_rounds}
 use Rattle.script_runner.specs.Runs.{PollsNeverRise, StallsSome, HasCauses, EndsRunAs, RunsWork}
-use Rattle.wal_top.specs.Outcomes.{WasRecovered, RunsOverDisk}
+use Rattle.wal_top.specs.Outcomes.{RunsOverDisk}
 
 -- ---- nothing was sent to a segment of the next WAL
 
@@ -73,7 +75,7 @@ module _ (old mid new : DiskView) (wal : ℕ) (tells : Bool) (only : IsTrue tell
   pub others_stay : (IsTrue tells → OthersSame wal (files mid) (files new)) → IsTrue tells → OthersOnlySynced wal (files old) (files new)
   others_stay same told p elsewhere = subst (IsAsOrSynced (files old p)) (sym (same told p elsewhere)) (only told p)
 
-  module _ (threshold : ℕ) (base' : List Batch) (work : Work) (ran : Outcome) (goes : GoesOn old mid) (was : WasRecovered tells old mid)
+  module _ (threshold : ℕ) (base' : List Batch) (work : Work) (ran : Outcome) (goes : GoesOn old mid) (asks : AsksOnce old mid)
       (r : RunsWork base' work wal threshold tells mid new ran) where
     rose_since : FaultsRose mid new → FaultsRose old new
     rose_since (side, rose) = (side, rose_later (old.faults side) (mid.faults side) (new.faults side) (goes.faults side) rose)
@@ -124,6 +126,8 @@ module _ (old mid new : DiskView) (wal : ℕ) (tells : Bool) (only : IsTrue tell
           each_fault = by_since (ran.end.segments - 1) e.each_fault;
           ten_faults = λ died. by_since SEGMENTS_MAX (e.ten_faults died);
           causes = causes_since;
+          created = omega (arith, e.created, ap creations asks.makes, creations_further asks.made old.calls, asks.creates);
+          gave_up = e.gave_up;
         }
 
     module _ (stable : IsTrue tells → IsRested (files old) → AreSegmentsStable (files mid)) (within : wal ≤ WAL_MAX)
@@ -154,11 +158,6 @@ module _ (old mid new : DiskView) (wal : ℕ) (tells : Bool) (only : IsTrue tell
         batches = r.batches;
         says = r.says;
         ends = ends_since;
-        wal = wal;
-        next = next;
-        recovered = mid;
-        was_recovered = was;
-        of = r.of;
         logs = logs_since;
       }
 

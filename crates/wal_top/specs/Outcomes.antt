@@ -7,7 +7,7 @@ use Rattle.batch_repr.specs.Batches.{end_after}
 use Rattle.disk_face.specs.declared.Side.{Side}
 use Rattle.disk_face.specs.View.{DiskView, files, NothingInFlight}
 use Rattle.disk_face.specs.Image.{IsRested, directories}
-use Rattle.disk_face.specs.Calls.{GoesOn, SameDisk}
+use Rattle.disk_face.specs.Calls.{SameDisk}
 use Rattle.text_lines.specs.Store.{IsStoreText}
 use Rattle.text_lines.specs.Lines.{recovered_end}
 use Rattle.wal_recovery.specs.declared.reports.Mode.{Mode}
@@ -17,8 +17,7 @@ use Rattle.wal_recovery.specs.Listing.{IsNextWal}
 use Rattle.wal_recovery.specs.Recovering.{Recovers, RecoversLenient}
 use Rattle.wal_recovery.specs.Reports.{AreReports}
 use Rattle.wal_recovery.specs.Resting.{OnlySynced, AreSegmentsStable}
-use Rattle.wal_recovery.specs.Answers.{IsRefusedBy, IsRefusal, NoFaultRose}
-use Rattle.wal_recovery.specs.Asking.{ListsInTurn}
+use Rattle.wal_recovery.specs.Answers.{IsRefusedBy, IsRefusal}
 use Rattle.wal_top.specs.declared.status.Status.{Status}
 use Rattle.wal_top.specs.declared.status.Status.TheVariants.{Done, Usage, Read, Write, Disk, Refused, NoMemory, Limit}
 use Rattle.wal_top.specs.declared.status.Status.TheVariants as statuses
@@ -32,13 +31,12 @@ use Rattle.script_runner.specs.declared.run.Outcome.{Outcome}
 use Rattle.script_runner.specs.declared.work.Work.{Work}
 use Rattle.script_runner.specs.declared.work.Work.TheVariants as works
 use Rattle.script_runner.specs.Works.{work_rounds}
-use Rattle.script_runner.specs.Runs.{EndsRunAs, journal_end, SaysRun}
+use Rattle.script_runner.specs.Runs.{EndsRunAs, SaysRun}
 use Rattle.disk_face.specs.declared.names.TheConstants.{WAL_MAX}
 use Rattle.wal_top.specs.Call.{Change, Invocation, Stays, Rises}
 use Rattle.wal_top.specs.Words.{IsCommand, RecoversIn, ReadsSource}
 use Rattle.wal_top.specs.Printing.{usage_text, read_fault_text, too_long_text, bad_line_text, disk_fault_text, refusal_text, limit_wal_text, segments_text, run_text}
 use Rattle.failover_writer.specs.Running.{LogsBatches}
-use Rattle.failover_writer.specs.Outcome.{EndsOf}
 use Rattle.wal_top.specs.Reading.{ReadsScript, ReadsTooMuch, ReadsBadLine}
 
 -- A script of the source was refused with this text: for its length, or for its first bad line.
@@ -60,27 +58,14 @@ pub data GivesWork (left : Change (Option (List ℕ))) : Command → Work → �
       → GivesWork left (commands.Replay threshold) (works.Script script) threshold
   loads : (seed batches : ℕ) → Stays left → GivesWork left (commands.Load seed batches) (works.Load (load_rounds seed batches)) THRESHOLD_DEFAULT
 
--- The directories were recovered: each was listed in turn, no side failed, and no file changed but by a sync.
-pub record WasRecovered (tells : Bool) (old new : DiskView) : Type 0 where
-  pub went_on : GoesOn old new
-  pub calm : NoFaultRose old new
-  pub lists : ListsInTurn old new
-  pub idle : NothingInFlight new
-  pub only_synced : IsTrue tells → OnlySynced (files old) (files new)
-
--- The work was done over what the directories recover to: these are its batches, this is what is said of it, how its journal went from
--- the disk as recovery left it, and what the journal left.
+-- The work was done over what the directories recover to: these are its batches, this is what is said of it, and this is what its
+-- journal left.
 pub record RunsOverDisk (work : Work) (threshold : ℕ) (tells : Bool) (old new : DiskView) (outcome : Outcome) : Type 0 where
   pub base : List Batch
   pub recovers : IsTrue tells → Recovers (directories old) base
   pub batches : List Batch
   pub says : SaysRun NUMBER_FIRST base work batches outcome
   pub ends : EndsRunAs threshold (work_rounds work) (length batches) outcome.end old new
-  pub wal : ℕ
-  pub next : IsTrue tells → IsNextWal (directories old) wal
-  pub recovered : DiskView
-  pub was_recovered : WasRecovered tells old recovered
-  pub of : EndsOf threshold tells wal (end_after NUMBER_FIRST base) batches (journal_end outcome.end) recovered new
   pub logs : LogsBatches tells base batches outcome.end.acked old new
 
 -- The words are a command that does some work.

@@ -217,7 +217,7 @@ impl<D: Disk> Disk for Late<D> {
 
     fn start(&mut self, op: DiskOp<'_>) -> Result<OpId, NoMemory> {
         let id = self.inner.start(op)?;
-        self.log.note_start(id);
+        self.log.note_start(id, op);
         Ok(id)
     }
 

@@ -28,10 +28,10 @@ pub returns-then-wait-clause-asks : goal.returns-then-wait-clause-asks
 returns-then-wait-clause-asks g c =
     let old = g.D.Disk.view c.args.disk.now in
     let mid = g.D.Disk.view c.start.new.self in
-    reads_nothing old mid (g.D.Disk.view c.wait.new.disk) (starts_one c.in-Ok.id old mid c.in-Ok.ensures.noted) c.if-wait.ensures.asks
+    reads_nothing old mid (g.D.Disk.view c.wait.new.disk) (starts_one c.in-Ok.id _ old mid refl c.in-Ok.ensures.noted) c.if-wait.ensures.asks
 
 pub returns-else-wait-clause-asks : goal.returns-else-wait-clause-asks
 returns-else-wait-clause-asks g c =
     let old = g.D.Disk.view c.args.disk.now in
     let mid = g.D.Disk.view c.start.new.self in
-    reads_nothing old mid (g.D.Disk.view c.wait.new.disk) (starts_one c.in-Ok.id old mid c.in-Ok.ensures.noted) c.if-wait.ensures.asks
+    reads_nothing old mid (g.D.Disk.view c.wait.new.disk) (starts_one c.in-Ok.id _ old mid refl c.in-Ok.ensures.noted) c.if-wait.ensures.asks

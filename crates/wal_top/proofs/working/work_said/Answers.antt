@@ -71,5 +71,5 @@ returns-else-found-gt-WAL_MAX-clause-says g c =
     let asks : Commands call = record { command = c.args.command; words = is; work = c.args.work; threshold = c.args.threshold; works_on = works } in
     says_worked call asks ran.0 said.status said.text
     (runs_since v mid new c.in-Ok.found.next_wal g.D.Disk.tells e.files c.args.threshold c.in-Ok.found.batches c.args.work ran.0 e.goes_on
-    (record { went_on = e.goes_on; calm = e.calm; lists = e.lists; idle = e.idle; only_synced = e.files }) ran.1
+    e.asks ran.1
     (λ told. e.stable told refl) c.if-found-gt-WAL_MAX.false e.next_wal e.recovered) ran.2.0 ran.2.1)

@@ -17,7 +17,7 @@ returns-in_err-go_on-clause-rule g c =
     (g.D.Disk.view c.go_on.new.self.disk) r) (sym answers)
     (rule_ended c.args.self.now.state c.poll_all-waited.new.self.state c.go_on.new.self.state (g.D.Disk.view c.args.self.now.disk)
     (g.D.Disk.view c.poll_all-waited.new.self.disk) (g.D.Disk.view c.go_on.new.self.disk)
-    c.poll_all-waited.result fault c.requires.up c.in_err-go_on.ensures.goes_on c.in_err-go_on.ensures.stalls c.in_err-go_on.ensures.asks
+    c.poll_all-waited.result fault c.requires.up c.in_err-go_on.ensures.goes_on c.in_err-go_on.ensures.stalls c.in_err-go_on.ensures.quiet
     c.poll_all-waited.ensures.polled c.in_err-go_on.ensures.ended)
 
 pub returns-in_err-go_on-clause-passes : goal.returns-in_err-go_on-clause-passes
@@ -34,7 +34,7 @@ returns-then-waited-clause-rule g c =
     (rule_went c.args.self.now.state c.poll_all-waited.new.self.state c.go_on.new.self.state c.release.new.self.state
     (g.D.Disk.view c.args.self.now.disk) (g.D.Disk.view c.poll_all-waited.new.self.disk)
     (g.D.Disk.view c.go_on.new.self.disk) (g.D.Disk.view c.release.new.self.disk) c.poll_all-waited.result c.requires.up
-    c.in_ok-go_on.ensures.goes_on c.in_ok-go_on.ensures.stalls c.in_ok-go_on.ensures.asks (ap g.D.Disk.view c.release.ensures.disk)
+    c.in_ok-go_on.ensures.goes_on c.in_ok-go_on.ensures.stalls (ap g.D.Disk.view c.release.ensures.disk)
     c.poll_all-waited.ensures.polled c.in_ok-go_on.ensures.went c.release.ensures.released)
 
 pub returns-then-waited-clause-passes : goal.returns-then-waited-clause-passes
@@ -52,7 +52,7 @@ returns-else-waited-clause-rule g c =
     (rule_went c.args.self.now.state c.poll_all-waited.new.self.state c.go_on.new.self.state c.release.new.self.state
     (g.D.Disk.view c.args.self.now.disk) (g.D.Disk.view c.poll_all-waited.new.self.disk)
     (g.D.Disk.view c.go_on.new.self.disk) (g.D.Disk.view c.release.new.self.disk) c.poll_all-waited.result c.requires.up
-    c.in_ok-go_on.ensures.goes_on c.in_ok-go_on.ensures.stalls c.in_ok-go_on.ensures.asks (ap g.D.Disk.view c.release.ensures.disk)
+    c.in_ok-go_on.ensures.goes_on c.in_ok-go_on.ensures.stalls (ap g.D.Disk.view c.release.ensures.disk)
     c.poll_all-waited.ensures.polled c.in_ok-go_on.ensures.went c.release.ensures.released)
 
 pub returns-else-waited-clause-passes : goal.returns-else-waited-clause-passes

@@ -1,11 +1,11 @@
 -- The next segment is begun on a file to which nothing was sent, and where no operation is in flight.
-use Rattle.std.proofs.Common.{rules, ◌≡◌, ◌≢◌, ◌<◌, List, [], ◌∷◌, ◌++◌, length, ap, sym, subst, ◌∙◌, arith, rules}
+use Rattle.std.proofs.Common.{rules, ◌≡◌, ◌≢◌, ◌<◌, List, [], ◌∷◌, ◌++◌, length, ap, sym, subst, ◌∙◌, refl, arith, rules}
 use Rattle.disk_face.specs.declared.OpId.{OpId}
-use Rattle.disk_face.specs.View.{Place, creating}
+use Rattle.disk_face.specs.View.{Place, creating, was_started, Makes}
 use Rattle.disk_face.specs.Calls.{Starts}
 use Rattle.batch_repr.specs.declared.batch.Batch.{Batch}
 use Rattle.log_writer.specs.Writer.{Writer}
-use Rattle.log_writer.specs.Fits.{SameFile, place_of_writer, Fits}
+use Rattle.log_writer.specs.Fits.{SameFile, flight_on, place_of_writer, Fits}
 use Rattle.failover_writer.specs.State.{State, JournalView}
 use Rattle.failover_writer.specs.Ranges.{StandsFor}
 use Rattle.std.proofs.Common.{ℕ, ◌+◌}
@@ -14,7 +14,8 @@ use Rattle.failover_writer.specs.Keeping.{Passes}
 use Rattle.failover_writer.specs.Inside.{IsInOrder}
 use Rattle.failover_writer.proofs.Accounted.{left_few}
 use Rattle.failover_writer.proofs.Passes.{passes_same}
-use Rattle.failover_writer.proofs.BeginsNext.{next_fits, begins_first, begun_stands, begun_in_order, begun_passes}
+use Rattle.failover_writer.specs.Moves.{BeginsOnDisk}
+use Rattle.failover_writer.proofs.BeginsNext.{none_flies, next_fits, begins_first, begun_stands, begun_in_order, begun_passes}
 use Rattle.failover_writer.proofs.journal.Journal.begin_next.Goals as goal
 
 pub begin-requires-clause-fits : goal.begin-requires-clause-fits
@@ -39,6 +40,7 @@ pushed g c = search rules
 
 begins : (g : _) (c : goal.After-self-1 g) → (id : OpId) × begun (state_then g c) id c.begin.new.self × Starts (record { place = place_of_writer c.begin.new.self; act = creating }) c.side_at.result id (g.D.Disk.view c.self.inside.disk) (g.D.Disk.view c.begin.new.disk)
     × (place_of_writer c.begin.new.self ≡ place_of_writer c.in_ok-writer.writer)
+    × Makes (was_started id (flight_on creating c.begin.new.self) ∷ []) (g.D.Disk.view c.self.inside.disk) (g.D.Disk.view c.begin.new.disk)
 begins g c =
     begins_first (state_then g c) c.side_at.result (record { wal = c.self.inside.wal; index = c.len-index.result }) _ c.self.inside.acked _ _ c.in_ok-begin.field-0 c.in_ok-writer.writer c.begin.new.self
     (g.D.Disk.view c.self.inside.disk) (g.D.Disk.view c.begin.new.disk) (grind (arith, c.side_at.ensures, c.len-index.ensures)) (grind (arith, c.len-index.ensures)) c.self.invariant.acked
@@ -99,6 +101,19 @@ invariant_of-self-in-Ok g c =
     subst (λ (p : List Writer × ℕ). IsInOrder g.D.Disk.tells (with_both g c p) new c.self.inside.acked c.self.inside.first_busy c.self.inside.failed) (both_are g c)
     (begun_in_order g.D.Disk.tells (state_then g c) v new first.0 c.begin.new.self c.side_at.result creating (few_then g c) first.1 first.2 (others_same g c) c.self.inside.acked c.self.inside.first_busy
     c.self.inside.failed (ap (λ (h : JournalView _). h.state.dead) c.self.view_is ∙ c.requires.lives) (subst (λ (h : JournalView _). IsBehind h.state) (sym c.self.view_is) c.requires.behind) (fits_after g c) c.self.invariant)
+
+pub returns-clause-begun : goal.returns-clause-begun
+returns-clause-begun g c =
+    let first = begins g c in
+    let held = c.self.invariant.stands in
+    let v = g.D.Disk.view c.self.inside.disk in
+    let new = g.D.Disk.view c.begin.new.disk in
+    subst (λ (h : JournalView _). BeginsOnDisk h.state (with_both g c (now_both g c)) (g.D.Disk.view h.disk) new) c.self.view_is
+    (subst (λ (p : List Writer × ℕ). BeginsOnDisk (state_then g c) (with_both g c p) v new) (both_are g c) (record {
+      begins = record { id = first.0; writer = c.begin.new.self; fresh = first.1; new_is = refl };
+      fresh = none_flies g.D.Disk.tells held.0 (state_then g c) v first.0 first.2.fresh held.1;
+      asks = first.4;
+    }))
 
 pub returns-clause-keeps : goal.returns-clause-keeps
 returns-clause-keeps g c records stands =

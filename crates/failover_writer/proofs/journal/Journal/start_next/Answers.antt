@@ -18,11 +18,11 @@ use Rattle.failover_writer.proofs.StartsNext.{element_is, set_at_last, none_star
 use Rattle.failover_writer.proofs.journal.Journal.start_next.Goals as goal
 
 pub returns-in_default-clause-started : goal.returns-in_default-clause-started
-returns-in_default-clause-started g c = none_starts c.args.self.now.state (c.resting.ensures.none c.in_default.is)
+returns-in_default-clause-started g c = none_starts c.args.self.now.state (g.D.Disk.view c.args.self.now.disk) (c.resting.ensures.none c.in_default.is)
 
 pub returns-then-not-is_behind-clause-started : goal.returns-then-not-is_behind-clause-started
 returns-then-not-is_behind-clause-started g c =
-    not_behind c.args.self.now.state (λ behind. both_ways c.is_behind.result c.if-not-is_behind.true (c.is_behind.ensures.1 behind))
+    not_behind c.args.self.now.state (g.D.Disk.view c.args.self.now.disk) (λ behind. both_ways c.is_behind.result c.if-not-is_behind.true (c.is_behind.ensures.1 behind))
 
 pub begin-requires-clause-held : goal.begin-requires-clause-held
 begin-requires-clause-held g c =
@@ -136,11 +136,11 @@ returns-clause-started g c =
     let new = g.D.Disk.view c.begin.new.disk in
     let behind : IsBehind (state_then g c) = subst (λ (h : JournalView _). IsBehind h.state) (sym c.self.view_is)
     (c.is_behind.ensures.0 c.if-not-is_behind.false) in
-    subst (λ (h : JournalView _). MayStartNext h.state (record (state_then g c)
+    subst (λ (h : JournalView _). MayStartNext h.state (g.D.Disk.view h.disk) new (record (state_then g c)
     { segments = slice_set c.self.inside.writers.items c.in-Some.last c.begin.new.self })) c.self.view_is
-    (subst (λ (l : List Writer). MayStartNext (state_then g c) (record (state_then g c) { segments = l })) (sym (set_is g c))
+    (subst (λ (l : List Writer). MayStartNext (state_then g c) v new (record (state_then g c) { segments = l })) (sym (set_is g c))
     (may_start g.D.Disk.tells (state_then g c) v new (found_then g c).earlier c.index_mut.result.now c.begin.new.self
-    (ends g c) c.goal-goal.result c.in_ok-begin.field-0 (goal_then g c) c.in_ok-begin.ensures.starts behind))
+    (ends g c) c.goal-goal.result c.in_ok-begin.field-0 (goal_then g c) c.in_ok-begin.ensures.starts c.self.invariant.stands behind))
 
 pub returns-clause-keeps : goal.returns-clause-keeps
 returns-clause-keeps g c records stands =

@@ -1,12 +1,11 @@
 -- A dead journal and an idle one stay as they are, and every other one does what its rule says.
-use Rattle.std.proofs.Common.{◌≡◌, false, Some, None, Ok, ap, sym, subst, refl, arith}
-use Rattle.disk_face.specs.View.{DiskView}
+use Rattle.std.proofs.Common.{◌≡◌, Some, None, Ok, ap, sym, subst, refl, arith}
 use Rattle.disk_face.specs.Calls.{GoesOn}
 use Rattle.failover_writer.specs.declared.fault.Step.TheVariants as steps
 use Rattle.failover_writer.specs.State.{JournalView}
 use Rattle.failover_writer.specs.Ranges.{Stands, KeepsRecords}
 use Rattle.failover_writer.specs.Stepping.{was_dead, idle}
-use Rattle.failover_writer.specs.Answered.{AsksInTurn, StepsBy}
+use Rattle.failover_writer.specs.Answered.{StepsBy}
 use Rattle.failover_writer.specs.Keeping.{Passes}
 use Rattle.failover_writer.specs.Lasting.{Lasts, Survives}
 use Rattle.failover_writer.specs.Outcome.{at_start, stepped}
@@ -23,10 +22,6 @@ use Rattle.failover_writer.proofs.Falls.{falls}
 use Rattle.failover_writer.proofs.Lasts.{goal_kept, lasts_none, records_are}
 use Rattle.failover_writer.proofs.journal.Journal.step.Goals as goal
 
--- Nothing is asked.
-no_calls : (v : DiskView) → AsksInTurn None None v v
-no_calls v = record { first_polled = v; both_polled = v; first = refl; second = refl; start = (false, refl) }
-
 pub returns-in-Some-clause-rule : goal.returns-in-Some-clause-rule
 returns-in-Some-clause-rule g c = record {
   one = None;
@@ -37,7 +32,7 @@ returns-in-Some-clause-rule g c = record {
   other_told = tt;
   taken = omega arith;
   counted = rose_by_none (g.D.Disk.view c.args.self.now.disk) (g.D.Disk.view c.args.self.now.disk) (goes_on_from (g.D.Disk.view c.args.self.now.disk));
-  asks = no_calls (g.D.Disk.view c.args.self.now.disk);
+  asks = refl;
 }
 
 pub returns-then-not-is_up-clause-rule : goal.returns-then-not-is_up-clause-rule
@@ -52,7 +47,7 @@ returns-then-not-is_up-clause-rule g c =
       other_told = tt;
       taken = omega arith;
       counted = rose_by_none (g.D.Disk.view c.args.self.now.disk) (g.D.Disk.view c.args.self.now.disk) (goes_on_from (g.D.Disk.view c.args.self.now.disk));
-      asks = no_calls (g.D.Disk.view c.args.self.now.disk);
+      asks = refl;
     })
 
 -- the step that `advance` did

@@ -32,6 +32,3 @@ pub returns-clause-each_moment : goal.returns-clause-each_moment
 returns-clause-each_moment g c records fits queue told =
     begun_moments g.D.Disk.tells c.args.self.now c.args.queue.now c.args.goal.now (g.D.Disk.view c.args.disk.now) (g.D.Disk.view c.start.new.disk) c.in_ok-id.id records fits queue c.requires.held
     c.in-Some.operation c.start.ensures.goes_on (sym c.next.ensures ∙ c.in-Some.is) c.in_ok-id.ensures.starts c.in_ok-id.ensures.file told
-
-pub returns-clause-asks : goal.returns-clause-asks
-returns-clause-asks g c = (c.in_ok-id.id, c.in_ok-id.ensures.asks)
