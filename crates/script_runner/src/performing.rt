@@ -1,19 +1,19 @@
 //! What happens over a pipeline between its opening and its end.
 
-ghost use Rattle.std.specs.Prelude.{◌≡◌, ◌≤◌, Some, length, IfOk, IfErr, IsSome};
+ghost use Rattle.std.specs.Prelude.{◌≡◌, ◌+◌, ◌≤◌, Some, length, IfOk, IfErr, IsSome};
 ghost use Rattle.session_script.specs.Script.{NameSessions};
 ghost use Rattle.commit_pipeline.specs.Ending.{StillKeeps};
 ghost use Rattle.script_runner.specs.Rounds.{AllowsStalls};
 ghost use Rattle.script_runner.specs.Works.{work_rounds, Performs, KeepsReplies, KeepsCount, PerformsWork};
 
-use crate::loads::{count_live, run_load};
-use crate::rounds::run_rounds;
+use crate::loads::{count_live, play_load};
+use crate::rounds::play_script;
 use crate::transcript::Transcript;
 use crate::work::Work;
-use commit_pipeline::{Gate, PipeName};
+use commit_pipeline::{Gate, PipeName, Pipeline, Sessions};
 use disk_face::StallDisk;
 use failover_writer::Journal;
-use session_rounds::{Players, Readers};
+use session_rounds::Readers;
 use session_script::{Load, Rounds};
 use std::alloc::Global;
 use std::sync::Wait;
@@ -32,7 +32,7 @@ pub struct Told {
     pub limited: bool,
 }
 
-/// Does some work over a pipeline. Where memory runs out `Err` gives the journal back.
+/// Does some work over a pipeline with all its sessions. Where memory runs out `Err` gives the journal back.
 pub(crate) fn perform<
     'a,
     D: StallDisk + Send,
@@ -43,18 +43,20 @@ pub(crate) fn perform<
 >(
     rt: &R,
     alloc: Global,
-    players: Players<'a, D, G, N, M>,
+    pipe: Pipeline<'a, D, G, N, M>,
+    sessions: Sessions<N, M>,
     work: Work,
 ) -> Result<(Readers<'a, D, G, N, M>, Told), Journal<D>>
-    requires some { 1 ≤ length players }
-    requires named { NameSessions (length players) (work_rounds work) }
+    requires some { 1 ≤ length sessions.items }
+    requires all { (length sessions.items ≡ N.parts) × (length sessions.items + length sessions.items ≡ M.parts) }
+    requires named { NameSessions (length sessions.items) (work_rounds work) }
     requires may { AllowsStalls N.opening (work_rounds work) }
-    ensures done { IfOk result (λ done. PerformsWork N.opening work players.entry done.0 done.1) }
+    ensures done { IfOk result (λ done. PerformsWork N.opening work sessions.items done.0 done.1) }
     ensures err { IfErr result (StillKeeps D.tells D.view N.opening) }
 {
     match work {
-        Work::Script(script) => perform_script(rt, alloc, players, script.rounds),
-        Work::Load(load) => perform_load(rt, alloc, players, load),
+        Work::Script(script) => perform_script(rt, alloc, pipe, sessions, script.rounds),
+        Work::Load(load) => perform_load(rt, alloc, pipe, sessions, load),
     }
 }
 
@@ -69,19 +71,25 @@ fn perform_script<
 >(
     rt: &R,
     alloc: Global,
-    players: Players<'a, D, G, N, M>,
+    pipe: Pipeline<'a, D, G, N, M>,
+    sessions: Sessions<N, M>,
     rounds: Rounds,
 ) -> Result<(Readers<'a, D, G, N, M>, Told), Journal<D>>
-    requires named { NameSessions (length players) rounds }
+    requires all { (length sessions.items ≡ N.parts) × (length sessions.items + length sessions.items ≡ M.parts) }
+    requires named { NameSessions (length sessions.items) rounds }
     requires may { AllowsStalls N.opening rounds }
-    ensures done { IfOk result (λ done. Performs N.opening rounds KeepsReplies players.entry done.0 done.1) }
+    ensures done { IfOk result
+        (λ done. Performs N.opening rounds KeepsReplies sessions.items done.0 done.1) }
     ensures err { IfErr result (StillKeeps D.tells D.view N.opening) }
 {
-    let Ok(mut transcript) = Transcript::new(alloc) else {
-        return Err(players.into_journal());
+    let Ok(transcript) = Transcript::new(alloc) else {
+        return Err(pipe.into_journal());
     };
-    let players = run_rounds(rt, alloc, players, rounds, &mut transcript)?;
-    Ok((players.end_rounds(), told_by(transcript)))
+    let Ok((sessions, transcript)) = play_script(rt, alloc, &pipe, sessions, rounds, transcript)
+    else {
+        return Err(pipe.into_journal());
+    };
+    Ok((Readers::new(pipe, sessions), told_by(transcript)))
 }
 
 /// What a transcript tells that keeps its lines.
@@ -112,16 +120,21 @@ fn perform_load<
 >(
     rt: &R,
     alloc: Global,
-    players: Players<'a, D, G, N, M>,
+    pipe: Pipeline<'a, D, G, N, M>,
+    sessions: Sessions<N, M>,
     load: Load,
 ) -> Result<(Readers<'a, D, G, N, M>, Told), Journal<D>>
-    requires some { 1 ≤ length players }
-    requires named { NameSessions (length players) load }
-    ensures done { IfOk result (λ done. Performs N.opening load (KeepsCount N.opening) players.entry done.0 done.1) }
+    requires some { 1 ≤ length sessions.items }
+    requires all { (length sessions.items ≡ N.parts) × (length sessions.items + length sessions.items ≡ M.parts) }
+    requires named { NameSessions (length sessions.items) load }
+    ensures done { IfOk result
+        (λ done. Performs N.opening load (KeepsCount N.opening) sessions.items done.0 done.1) }
     ensures err { IfErr result (StillKeeps D.tells D.view N.opening) }
 {
-    let (players, limited) = run_load(rt, alloc, players, load)?;
-    let mut readers = players.end_rounds();
+    let Ok((sessions, limited)) = play_load(rt, alloc, &pipe, sessions, load) else {
+        return Err(pipe.into_journal());
+    };
+    let mut readers = Readers::new(pipe, sessions);
     let Ok(live) = count_live(rt, alloc, &mut readers) else {
         return Err(readers.into_journal());
     };

@@ -22,7 +22,6 @@ use batch_repr::Batches;
 use commit_pipeline::{Finished, Gate, Parts, PipeName, Pipeline};
 use disk_face::{Disk, ScriptDisk, StallDisk};
 use failover_writer::{Journal, JournalFault};
-use session_rounds::Players;
 use session_script::RunEnd;
 use std::alloc::Global;
 use std::marker::Brand;
@@ -173,9 +172,8 @@ fn over_names<
             };
         }
     };
-    let players = Players::new(pipe, sessions);
     let halted = work.halts();
-    let (readers, told) = match perform(rt, alloc, players, work) {
+    let (readers, told) = match perform(rt, alloc, pipe, sessions, work) {
         Ok(done) => done,
         Err(journal) => {
             return Course {

@@ -119,7 +119,7 @@ module _ {Y : Type 0} (h : Replied → Option Y) where
   dealt_from (suc count) first replies low high =
       IsPermutation-trans (filter_map h replies) (filter_map h own ++ filter_map h rest)
       (filter_map h (all_of (λ i. replies_of_session (first + i) replies) (suc count))) (parted first replies)
-      (subst (IsPermutation (filter_map h own ++ filter_map h rest)) joined
+      (subst (IsPermutation (filter_map h own ++ filter_map h rest)) turns_of_parts
       (IsPermutation-append_right (filter_map h own) (filter_map h rest) (filter_map h (all_of later count))
       (dealt_from count (suc first) rest none_before none_after)))
     where
@@ -146,8 +146,8 @@ module _ {Y : Type 0} (h : Replied → Option Y) where
           let place : suc first + i ≡ first + suc i = omega arith in
           all_of_another first (suc first + i) (omega arith) replies ∙ ap (λ (n : ℕ). replies_of_session n replies) place
 
-      joined : filter_map h own ++ filter_map h (all_of later count) ≡ filter_map h (all_of (λ i. replies_of_session (first + i) replies) (suc count))
-      joined =
+      turns_of_parts : filter_map h own ++ filter_map h (all_of later count) ≡ filter_map h (all_of (λ i. replies_of_session (first + i) replies) (suc count))
+      turns_of_parts =
           let place : first ≡ first + 0 = omega arith in
           sym (filter_map-append h own (all_of later count))
           ∙ ap (λ (n : ℕ). filter_map h (replies_of_session n replies ++ all_of later count)) place

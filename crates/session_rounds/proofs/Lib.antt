@@ -14,7 +14,8 @@ mod DeathLasts
 mod PlaysTurn
 mod AreDealt
 mod Played
-mod EachIsLeft
+mod AllPlayed
+mod Sharing
 mod HavePlayed
 mod FirstReads
 mod EndsPlay

@@ -267,18 +267,18 @@ round_played opening lines ss ts ts' named dealt plays none =
       answers_are = from.answers_are;
     }
 
--- Turns are played, where they came back as they were played and none ran out of memory.
-pub turns_played : {E : Type 0} (opening : Opening) (ts ts' back : List Course) (ended : Result (Vec Standing × List Answer) E)
-    → PlayAll opening ts ts' → back ≡ ts' → IfOk ended (λ e. e.0.items ≡ map session_of back) → IfOk ended (λ e. e.1 ≡ flat_map answers_in back)
-    → OnOk ended (NoneStarved back) → IfOk ended (λ e. PlaysTurns opening ts e.0.items e.1)
-turns_played opening ts ts' back (Ok e) plays same sessions answers none = record {
+-- Turns are played, where none of them ran out of memory.
+pub turns_played : {E : Type 0} (opening : Opening) (ts ts' : List Course) (ended : Result (Vec Standing × List Answer) E)
+    → PlayAll opening ts ts' → IfOk ended (λ e. e.0.items ≡ map session_of ts') → IfOk ended (λ e. e.1 ≡ flat_map answers_in ts')
+    → OnOk ended (NoneStarved ts') → IfOk ended (λ e. PlaysTurns opening ts e.0.items e.1)
+turns_played opening ts ts' (Ok e) plays sessions answers none = record {
   ended = ts';
   plays = plays;
-  none = subst NoneStarved same none;
-  sessions_are = sessions ∙ ap (map session_of) same;
-  answers_are = answers ∙ ap (flat_map answers_in) same;
+  none = none;
+  sessions_are = sessions;
+  answers_are = answers;
 }
-turns_played opening ts ts' back (Err e) plays same sessions answers none = tt
+turns_played opening ts ts' (Err e) plays sessions answers none = tt
 
 -- A round is answered, where turns with its lines are.
 pub round_ended : (opening : Opening) (lines : List Line) (ss ss' : List Standing) (ts : List Course) (answers : List Answer)

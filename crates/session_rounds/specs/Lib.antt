@@ -2,5 +2,6 @@ pub mod Acts
 pub mod Playing
 pub mod Turns
 pub mod Legality
-pub mod Threads
+pub mod Parts
+pub mod Lent
 pub mod Players

@@ -1,18 +1,15 @@
 //! The sessions of a pipeline, which play rounds over it and meet after each.
 
-ghost use Rattle.std.specs.Prelude.{◌≡◌, ◌+◌, [], ◌∷◌, length, IfOk, IfErr};
+ghost use Rattle.std.specs.Prelude.{◌≡◌, ◌+◌, [], ◌∷◌, length, IfOk};
 ghost use Rattle.session_script.specs.Script.{LinesAreOfSome};
-ghost use Rattle.commit_pipeline.specs.Parts.{AreNew};
 ghost use Rattle.commit_pipeline.specs.Meeting.{HaveMet};
-ghost use Rattle.commit_pipeline.specs.Ending.{StillKeeps};
-ghost use Rattle.session_rounds.specs.Players.{AllowsPolls, HavePlayed, PlayMore};
+ghost use Rattle.session_rounds.specs.Players.{AllowsPolls, PlayMore};
 
 use crate::answers::Answers;
-use crate::playing::{play_lines, play_load_lines};
-use crate::readers::Readers;
+use crate::crew::Crew;
 use commit_pipeline::{Gate, PipeName, Pipeline, Sessions};
+use core::scope::Scope;
 use disk_face::{Disk, StallDisk};
-use failover_writer::Journal;
 use session_script::{LoadRound, Round, Stalls};
 use std::alloc::Global;
 use std::marker::Model;
@@ -21,14 +18,16 @@ use std::sync::ledger::Ledger;
 use std::thread::Threads;
 use wal_base::NoMemory;
 
-/// The sessions of a pipeline, which nobody else has: so they meet after each round. Contracts see what each of them has seen.
+/// The sessions of a pipeline, which nobody else has: so they meet after each round. They play on threads of a scope, which are
+/// started as rounds first need them, and end with the players. Contracts see what each session has seen.
 #[derive(Drop)]
-pub struct Players<'a, D: Disk, G: Gate, N: PipeName, M: Ledger> {
-    pipe: Pipeline<'a, D, G, N, M>,
+pub struct Players<'s, 'a, E, D: Disk, G: Gate, N: PipeName, M: Ledger, R> {
+    crew: Crew<'s, 'a, E, D, G, N, M, R>,
     sessions: Sessions<N, M>,
 }
 
-impl<'a, D: Disk, G: Gate, N: PipeName, M: Ledger> Model for Players<'a, D, G, N, M> {
+impl<'s, 'a, E, D: Disk, G: Gate, N: PipeName, M: Ledger, R> Model
+    for Players<'s, 'a, E, D, G, N, M, R> {
     ghost use Rattle.std.specs.Prelude.{◌≡◌, ◌+◌, List, length};
     ghost use Rattle.commit_pipeline.specs.declared.standing.Standing.{Standing};
 
@@ -41,96 +40,101 @@ impl<'a, D: Disk, G: Gate, N: PipeName, M: Ledger> Model for Players<'a, D, G, N
         (length p.sessions.items ≡ N.parts) × (length p.sessions.items + length p.sessions.items ≡ M.parts) };
 }
 
-impl<'a, D: Disk, G: Gate, N: PipeName, M: Ledger> Players<'a, D, G, N, M> {
-    /// All sessions of a new pipeline, which have played nothing yet.
-    pub fn new(pipe: Pipeline<'a, D, G, N, M>, sessions: Sessions<N, M>) -> Players<'a, D, G, N, M>
-        requires new { AreNew (length sessions.items) sessions.items }
+impl<'s, 'a, E, D: Disk, G: Gate, N: PipeName, M: Ledger, R> Players<'s, 'a, E, D, G, N, M, R> {
+    /// All sessions of a pipeline.
+    pub fn new(
+        rt: &'s R,
+        alloc: Global,
+        scope: &'s Scope<'s, E>,
+        pipe: &'s Pipeline<'a, D, G, N, M>,
+        sessions: Sessions<N, M>,
+    ) -> Players<'s, 'a, E, D, G, N, M, R>
         requires all { (length sessions.items ≡ N.parts) × (length sessions.items + length sessions.items ≡ M.parts) }
-        ensures count { length result ≡ length sessions.items }
-        ensures played { HavePlayed N.opening [] [] result }
+        ensures { result ≡ sessions.items }
     {
-        Players { pipe, sessions }
+        let crew = Crew {
+            scope,
+            rt,
+            alloc,
+            pipe,
+            idle: Vec::new(alloc),
+        };
+        Players { crew, sessions }
     }
 
-    /// No further round is played: the sessions only read from here on, until the pipeline ends.
-    pub fn end_rounds(self) -> Readers<'a, D, G, N, M>
-        ensures { (result.met ≡ self.entry) × (result.now ≡ self.entry) }
-    {
-        let Players { pipe, sessions } = self;
-        Readers::new(pipe, sessions)
-    }
-
-    /// Gives the pipeline up, and its journal back as it stands.
-    pub fn into_journal(self) -> Journal<D>
-        ensures { StillKeeps D.tells D.view N.opening result }
+    /// No further round is played: the threads end. The sessions are all that there are.
+    pub fn end_rounds(self) -> Sessions<N, M>
+        ensures same { result.items ≡ self.entry }
+        ensures all { (length result.items ≡ N.parts) × (length result.items + length result.items ≡ M.parts) }
     {
         let Players {
-            pipe,
-            sessions: _sessions,
+            crew: _crew,
+            sessions,
         } = self;
-        pipe.into_journal()
+        sessions
     }
+}
 
+impl<'s, 'a, E, D: Disk, G: Gate, N: PipeName, M: Ledger, R: Wait> Players<
+    's,
+    'a,
+    E,
+    D,
+    G,
+    N,
+    M,
+    R,
+> {
     /// All sessions meet.
-    fn meet<R: Wait>(self, rt: &R) -> Result<Players<'a, D, G, N, M>, Journal<D>>
-        ensures met { IfOk result (λ met. HaveMet self.entry met) }
-        ensures err { IfErr result (StillKeeps D.tells D.view N.opening) }
+    fn meet(self) -> Result<Players<'s, 'a, E, D, G, N, M, R>, NoMemory>
+        ensures { IfOk result (λ met. HaveMet self.entry met) }
     {
-        let Players { pipe, mut sessions } = self;
-        match pipe.meet(rt, &mut sessions) {
-            Ok(()) => Ok(Players { pipe, sessions }),
-            Err(NoMemory) => Err(pipe.into_journal()),
-        }
+        let Players { crew, mut sessions } = self;
+        crew.pipe.meet(crew.rt, &mut sessions)?;
+        Ok(Players { crew, sessions })
     }
 }
 
 impl<
+    's,
     'a,
+    E,
     D: StallDisk + Send,
     G: Gate + Sync,
     N: PipeName + Send + Sync,
     M: Ledger + Send + Sync,
-> Players<'a, D, G, N, M> {
+    R: Threads + Wait + Sync,
+> Players<'s, 'a, E, D, G, N, M, R> {
     /// Plays a round: its stalls first, in their order, and then the lines of its sessions beside one another, after which all
     /// sessions meet. The answers stand session by session. Where memory runs out the sessions that still can end the round, and
-    /// `Err` gives the journal back.
-    pub fn play_round<R: Threads + Wait + Sync>(
+    /// `Err` is answered.
+    pub fn play_round(
         self,
-        rt: &R,
-        alloc: Global,
         round: Round,
-    ) -> Result<(Players<'a, D, G, N, M>, Answers), Journal<D>>
+    ) -> Result<(Players<'s, 'a, E, D, G, N, M, R>, Answers), NoMemory>
         requires named { LinesAreOfSome (length self) round.lines }
         requires may { AllowsPolls N.opening round.stalls }
-        ensures played { IfOk result (λ played. PlayMore N.opening (round ∷ []) (played.1 ∷ []) self.entry played.0) }
-        ensures err { IfErr result (StillKeeps D.tells D.view N.opening) }
+        ensures { IfOk result (λ played. PlayMore N.opening (round ∷ []) (played.1 ∷ []) self.entry played.0) }
     {
-        let Players { pipe, sessions } = self;
+        let Players { mut crew, sessions } = self;
         let Round { stalls, lines } = round;
-        leave_polls(rt, &pipe, stalls);
-        let Ok((sessions, answers)) = play_lines(rt, alloc, &pipe, sessions, lines) else {
-            return Err(pipe.into_journal());
-        };
-        let players = Players { pipe, sessions }.meet(rt)?;
+        leave_polls(crew.rt, crew.pipe, stalls);
+        let (sessions, answers) = crew.play_lines(sessions, lines)?;
+        let players = Players { crew, sessions }.meet()?;
         Ok((players, answers))
     }
 
     /// Plays a round of a load in the same way. It stalls nothing, and each session makes its lines itself.
-    pub fn play_load_round<R: Threads + Wait + Sync>(
+    pub fn play_load_round(
         self,
-        rt: &R,
-        alloc: Global,
         round: LoadRound,
-    ) -> Result<(Players<'a, D, G, N, M>, Answers), Journal<D>>
+    ) -> Result<(Players<'s, 'a, E, D, G, N, M, R>, Answers), NoMemory>
         requires named { LinesAreOfSome (length self) round.lines }
-        ensures played { IfOk result (λ played. PlayMore N.opening (round ∷ []) (played.1 ∷ []) self.entry played.0) }
-        ensures err { IfErr result (StillKeeps D.tells D.view N.opening) }
+        ensures { IfOk result (λ played. PlayMore N.opening (round ∷ []) (played.1 ∷ []) self.entry played.0) }
     {
-        let Players { pipe, sessions } = self;
-        let Ok((sessions, answers)) = play_load_lines(rt, alloc, &pipe, sessions, round) else {
-            return Err(pipe.into_journal());
-        };
-        let players = Players { pipe, sessions }.meet(rt)?;
+        let Players { mut crew, sessions } = self;
+        let (sessions, answers) = crew.play_load_lines(sessions, round)?;
+        let players = Players { crew, sessions }.meet()?;
         Ok((players, answers))
     }
 }

@@ -7,9 +7,9 @@ ghost use Rattle.session_rounds.specs.Playing.{AnswersPlayed};
 ghost use Rattle.session_rounds.specs.Turns.{beginning, session_of, answers_in, CountsLines, AreDealt, NoneStarved, PlaysTurns};
 
 use crate::answers::Answers;
-use crate::threads::play_all;
+use crate::crew::Crew;
 use crate::turns::Turn;
-use commit_pipeline::{Gate, PipeName, Pipeline, Sessions};
+use commit_pipeline::{Gate, PipeName, Sessions};
 use disk_face::Disk;
 use session_script::{Line, Lines, LoadRound};
 use std::alloc::Global;
@@ -18,68 +18,52 @@ use std::sync::ledger::Ledger;
 use std::thread::Threads;
 use wal_base::NoMemory;
 
-/// Plays the lines of a round: each session that has some does them in their order, beside the others: where one of them asks
-/// for a sync on a thread each, and else on a few. A session without a line costs no thread. The answers stand session by
-/// session. A session that runs out of memory stops, the others go on, and then `Err` is answered.
-pub(crate) fn play_lines<
+impl<
+    's,
+    'a,
+    E,
     D: Disk + Send,
     G: Gate + Sync,
     N: PipeName + Send + Sync,
     M: Ledger + Send + Sync,
     R: Threads + Wait + Sync,
->(
-    rt: &R,
-    alloc: Global,
-    pipe: &Pipeline<'_, D, G, N, M>,
-    sessions: Sessions<N, M>,
-    lines: Lines,
-) -> Result<(Sessions<N, M>, Answers), NoMemory>
-    requires { LinesAreOfSome (length sessions.items) lines }
-    ensures { IfOk result (λ played. AnswersPlayed N.opening lines sessions.items played.0.items played.1) }
-{
-    let turns = deal(alloc, sessions, lines)?;
-    play_turns(rt, alloc, pipe, turns)
-}
+> Crew<'s, 'a, E, D, G, N, M, R> {
+    /// Plays the lines of a round: each session that has some does them in their order, beside the others. A session without a line
+    /// costs no thread. The answers stand session by session. A session that runs out of memory stops, the others go on, and then
+    /// `Err` is answered.
+    pub(crate) fn play_lines(
+        &mut self,
+        sessions: Sessions<N, M>,
+        lines: Lines,
+    ) -> Result<(Sessions<N, M>, Answers), NoMemory>
+        requires { LinesAreOfSome (length sessions.items) lines }
+        ensures { IfOk result (λ played. AnswersPlayed N.opening lines sessions.items played.0.items played.1) }
+    {
+        let turns = deal(self.alloc, sessions, lines)?;
+        self.play_turns(turns)
+    }
 
-/// Plays the lines of a round of a load in the same way. Each session makes its lines itself, before it does the first one.
-pub(crate) fn play_load_lines<
-    D: Disk + Send,
-    G: Gate + Sync,
-    N: PipeName + Send + Sync,
-    M: Ledger + Send + Sync,
-    R: Threads + Wait + Sync,
->(
-    rt: &R,
-    alloc: Global,
-    pipe: &Pipeline<'_, D, G, N, M>,
-    sessions: Sessions<N, M>,
-    round: LoadRound,
-) -> Result<(Sessions<N, M>, Answers), NoMemory>
-    requires { LinesAreOfSome (length sessions.items) round.lines }
-    ensures { IfOk result
-        (λ played. AnswersPlayed N.opening round.lines sessions.items played.0.items played.1) }
-{
-    let turns = share(alloc, sessions, &round)?;
-    play_turns(rt, alloc, pipe, turns)
-}
+    /// Plays the lines of a round of a load in the same way. Each session makes its lines itself, before it does the first one.
+    pub(crate) fn play_load_lines(
+        &mut self,
+        sessions: Sessions<N, M>,
+        round: LoadRound,
+    ) -> Result<(Sessions<N, M>, Answers), NoMemory>
+        requires { LinesAreOfSome (length sessions.items) round.lines }
+        ensures { IfOk result
+            (λ played. AnswersPlayed N.opening round.lines sessions.items played.0.items played.1) }
+    {
+        let turns = share(self.alloc, sessions, &round)?;
+        self.play_turns(turns)
+    }
 
-/// Plays turns beside one another.
-fn play_turns<
-    D: Disk + Send,
-    G: Gate + Sync,
-    N: PipeName + Send + Sync,
-    M: Ledger + Send + Sync,
-    R: Threads + Wait + Sync,
->(
-    rt: &R,
-    alloc: Global,
-    pipe: &Pipeline<'_, D, G, N, M>,
-    mut turns: Vec<Turn<N, M>>,
-) -> Result<(Sessions<N, M>, Answers), NoMemory>
-    ensures { IfOk result (λ played. PlaysTurns N.opening turns.items played.0.items played.1) }
-{
-    play_all(rt, alloc, pipe, turns.as_mut_slice());
-    gather(alloc, turns)
+    /// Plays turns beside one another.
+    fn play_turns(&mut self, turns: Vec<Turn<N, M>>) -> Result<(Sessions<N, M>, Answers), NoMemory>
+        ensures { IfOk result (λ played. PlaysTurns N.opening turns.items played.0.items played.1) }
+    {
+        let ended = self.play_all(turns)?;
+        gather(self.alloc, ended)
+    }
 }
 
 /// Gives each session its lines, in their order.

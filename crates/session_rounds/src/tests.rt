@@ -1,13 +1,13 @@
 //! What a round comes to, by examples.
-ghost use Rattle.std.specs.Prelude.{◌≡◌, ◌+◌, ◌≤◌, length, IfSome};
+ghost use Rattle.std.specs.Prelude.{◌≡◌, [], ◌+◌, ◌≤◌, length, IfSome};
 ghost use Rattle.batch_repr.specs.declared.limits.TheConstants.{NUMBER_FIRST, SESSIONS_MAX};
 ghost use Rattle.session_script.specs.Script.{LinesAreOfSome};
 ghost use Rattle.commit_pipeline.specs.Openings.{opening_on};
 ghost use Rattle.failover_writer.specs.State.{len};
 
-use crate::{Answer, Answers, Players};
+use crate::{Answer, Answers, Players, Readers};
 use batch_repr::{Batches, NUMBER_FIRST, Unwritten};
-use commit_pipeline::{Finished, Gate, NoGate, Parts, PipeName, Pipeline};
+use commit_pipeline::{Finished, Gate, NoGate, Parts, PipeName, Pipeline, Sessions};
 use disk_face::{Disk, StallDisk};
 use failover_writer::Journal;
 use mem_disk::MemDisk;
@@ -17,6 +17,7 @@ use std::marker::Brand;
 use std::process::Abort;
 use std::sync::Wait;
 use std::sync::ledger::Ledger;
+use std::thread;
 use std::thread::Threads;
 use wal_base::{Blob, Entries, Entry};
 
@@ -116,7 +117,7 @@ fn new_journal(rt: &impl Abort, alloc: Global) -> Journal<MemDisk>
     }
 }
 
-/// Plays a round of new sessions over a journal of no record. Answers how many batches were committed, too.
+/// Plays the rounds of a row with new sessions over a journal of no record. Answers how many batches were committed, too.
 fn played<D: StallDisk + Drop + Send, R: Threads + Wait + Abort + Sync>(
     rt: &R,
     alloc: Global,
@@ -170,31 +171,95 @@ fn with_names<
     let Ok((pipe, sessions)) = made else {
         panic!(rt; "memory");
     };
-    let players = Players::new(pipe, sessions);
-    let played = match load_of(row) {
-        Some(round) => players.play_load_round(rt, alloc, round),
-        None => {
-            let round = Round {
-                stalls: Stalls::new(alloc),
-                lines: lines_of(rt, alloc, row),
-            };
-            players.play_round(rt, alloc, round)
-        }
-    };
-    let Ok((players, answers)) = played else {
-        panic!(rt; "memory");
-    };
-    (answers, ended(rt, players))
+    let (answers, sessions) = on_threads(rt, alloc, &pipe, sessions, row);
+    (answers, ended(rt, Readers::new(pipe, sessions)))
 }
 
-/// Ends the rounds and the pipeline, with a read between. Answers how many batches were committed.
+/// Plays the rounds of a row on the threads of a scope. The answers are those of the last one.
+fn on_threads<
+    D: StallDisk + Drop + Send,
+    N: PipeName + Send + Sync,
+    M: Ledger + Send + Sync,
+    R: Threads + Wait + Abort + Sync,
+>(
+    rt: &R,
+    alloc: Global,
+    pipe: &Pipeline<'_, D, NoGate, N, M>,
+    sessions: Sessions<N, M>,
+    row: Row,
+) -> (Answers, Sessions<N, M>)
+    requires all { (length sessions.items ≡ N.parts) × (length sessions.items + length sessions.items ≡ M.parts) }
+    requires row { (row.first + row.count ≤ row.sessions) × (row.sessions ≡ length sessions.items) }
+    ensures all { (length result.1.items ≡ N.parts) × (length result.1.items + length result.1.items ≡ M.parts) }
+{
+    thread::scope(
+        thread::scope_env(),
+        rt,
+        move |scope| -> (Answers, Sessions<N, M>)
+            requires all { (length sessions.items ≡ N.parts) × (length sessions.items + length sessions.items ≡ M.parts) }
+            requires row { (row.first + row.count ≤ row.sessions) × (row.sessions ≡ length sessions.items) }
+            ensures { (length result.1.items ≡ N.parts) × (length result.1.items + length result.1.items ≡ M.parts) }
+        {
+            let players = Players::new(rt, alloc, scope, pipe, sessions);
+            let (players, answers) = play_row(rt, alloc, players, row);
+            (answers, players.end_rounds())
+        },
+    )
+}
+
+/// Plays the first round of a load, or the round of a row twice over.
+fn play_row<
+    's,
+    'a,
+    E,
+    D: StallDisk + Drop + Send,
+    N: PipeName + Send + Sync,
+    M: Ledger + Send + Sync,
+    R: Threads + Wait + Abort + Sync,
+>(
+    rt: &R,
+    alloc: Global,
+    players: Players<'s, 'a, E, D, NoGate, N, M, R>,
+    row: Row,
+) -> (Players<'s, 'a, E, D, NoGate, N, M, R>, Answers)
+    requires { (row.first + row.count ≤ row.sessions) × (row.sessions ≡ length players) }
+{
+    if let Some(round) = load_of(row) {
+        let Ok(played) = players.play_load_round(round) else {
+            panic!(rt; "memory");
+        };
+        return played;
+    }
+    let round = round_of(rt, alloc, row);
+    let Ok((players, _)) = players.play_round(round) else {
+        panic!(rt; "memory");
+    };
+    let again = round_of(rt, alloc, row);
+    let Ok(played) = players.play_round(again) else {
+        panic!(rt; "memory");
+    };
+    played
+}
+
+/// The round of a row.
+fn round_of(rt: &impl Abort, alloc: Global, row: Row) -> Round
+    requires { row.first + row.count ≤ row.sessions }
+    ensures stalls { result.stalls ≡ [] }
+    ensures lines { LinesAreOfSome row.sessions result.lines }
+{
+    Round {
+        stalls: Stalls::new(alloc),
+        lines: lines_of(rt, alloc, row),
+    }
+}
+
+/// Ends the pipeline, with a read before. Answers how many batches were committed.
 fn ended<D: Disk + Drop, G: Gate, N: PipeName, M: Ledger, R: Wait + Abort>(
     rt: &R,
-    players: Players<'_, D, G, N, M>,
+    mut readers: Readers<'_, D, G, N, M>,
 ) -> u64
-    requires { 1 ≤ length players }
+    requires { 1 ≤ length readers.now }
 {
-    let mut readers = players.end_rounds();
     let reply = readers.get(rt, b"no such key").expect(rt, "memory");
     assert!(rt; reply.value.is_none());
     let Finished {
@@ -231,14 +296,14 @@ fn has_read(answer: &Answer, session: u32) -> bool {
     }
 }
 
-/// Plays a round, and asserts that the answers stand session by session.
+/// Plays a round twice over, and asserts of the second time that the answers stand session by session.
 fn plays<R: Threads + Wait + Abort + Sync>(rt: &R, alloc: Global, row: Row)
     requires sessions { (1 ≤ row.sessions) × (row.sessions ≤ SESSIONS_MAX) }
     requires row { row.first + row.count ≤ row.sessions }
 {
     let journal = new_journal(rt, alloc);
     let (answers, batches) = played(rt, alloc, journal, row);
-    assert_eq!(rt; batches, u64::from(row.count));
+    assert_eq!(rt; batches, 2 * u64::from(row.count));
     let mut left = answers.as_slice().iter();
     for k in 0..row.count {
         let session = row.first + k;

@@ -6,7 +6,6 @@ ghost use Rattle.session_rounds.specs.Acts.{Does};
 ghost use Rattle.session_rounds.specs.Turns.{has_line, beginning, turn_with, with_line, PlaysTurn};
 
 use crate::answers::{Answer, Answers};
-use crate::threads::Work;
 use batch_repr::Unnumbered;
 use commit_pipeline::{CommitFault, Gate, PipeName, Pipeline, Session};
 use disk_face::Disk;
@@ -42,14 +41,6 @@ impl<N: PipeName, M: Ledger> Model for Turn<N, M> {
       answers = t.answers;
       starved = t.starved;
     } };
-}
-
-impl<N: PipeName, M: Ledger> Work for Turn<N, M> {
-    ghost has_work = { has_line };
-
-    fn is_at_work(&self) -> bool {
-        !self.lines.is_empty() || !self.unmade.is_empty()
-    }
 }
 
 impl<N: PipeName, M: Ledger> Turn<N, M> {
@@ -98,6 +89,13 @@ impl<N: PipeName, M: Ledger> Turn<N, M> {
     /// How many lines are still to do.
     pub(crate) fn lines_left(&self) -> usize {
         self.lines.len().saturating_add(self.unmade.len())
+    }
+
+    /// Whether lines are still to do.
+    pub(crate) fn is_at_work(&self) -> bool
+        ensures { result ≡ has_line self.now }
+    {
+        !self.lines.is_empty() || !self.unmade.is_empty()
     }
 
     /// Whether one of its lines is a commit that waits for a sync.

@@ -15,7 +15,6 @@ use commit_pipeline::{NoGate, Parts, PipeName, Pipeline};
 use disk_face::{Disk, StallDisk};
 use failover_writer::Journal;
 use mem_disk::MemDisk;
-use session_rounds::Players;
 use session_script::Script;
 use std::alloc::Global;
 use std::marker::Brand;
@@ -91,7 +90,7 @@ fn with_names<
     let Ok((pipe, sessions)) = made else {
         return Err(NoMemory);
     };
-    match perform(rt, alloc, Players::new(pipe, sessions), work) {
+    match perform(rt, alloc, pipe, sessions, work) {
         Ok((_, told)) => Ok(told),
         Err(_) => Err(NoMemory),
     }

@@ -1,5 +1,5 @@
 -- Round by round, with one transcript for all.
-use Rattle.script_runner.proofs.RoundsSoFar.{no_round_yet, next_named, round_more, all_loaded}
+use Rattle.script_runner.proofs.RoundsSoFar.{no_round_yet, next_named, round_more}
 use Rattle.script_runner.proofs.loads.run_load.Goals as goal
 
 pub loop-round-init : goal.loop-round-init
@@ -14,4 +14,4 @@ pub loop-round-preserved : goal.loop-round-preserved
 loop-round-preserved g c =
     round_more g.N.PipeName.opening c.args.players c.args.load c.loop-round.load c.next_round.new.self c.in-Some.round
     c.loop-round.players c.silent-transcript.result c.loop-round.transcript c.loop-round.invariant c.in-Some.ensures.some
-    c.in_ok-ended.answers c.in_ok-ended.ended c.note_all.new.self c.in_ok-ended.ensures.played c.in-Ok.ensures
+    c.in_ok-ended.answers c.in_ok-ended.ended c.note_all.new.self c.in_ok-ended.ensures c.in_ok-note_all.ensures

@@ -35,12 +35,14 @@ loop-round-preserved g c =
     record {
       so = round_more g.N.PipeName.opening c.args.players c.args.rounds c.loop-round.left.items c.pop_front.new.self.items c.in-Some.round
           c.loop-round.players c.args.transcript.now c.loop-round.transcript c.loop-round.invariant.so c.in-Some.ensures.items
-          c.in_ok-ended.answers c.in_ok-ended.ended c.note_all.new.self c.in_ok-ended.ensures.played c.in-Ok.ensures;
+          c.in_ok-ended.answers c.in_ok-ended.ended c.note_all.new.self c.in_ok-ended.ensures c.in_ok-note_all.ensures;
       may = next.1;
     }
 
-pub returns-clause-played : goal.returns-clause-played
-returns-clause-played g c =
+pub returns : goal.returns
+returns g c =
     let none : c.loop-round.left.items ≡ [] = search rules in
-    all_played g.N.PipeName.opening c.args.players c.args.rounds c.loop-round.left.items c.loop-round.players c.args.transcript.now
-    c.loop-round.transcript c.loop-round.invariant.so none
+    record {
+      played = all_played g.N.PipeName.opening c.args.players c.args.rounds c.loop-round.left.items c.loop-round.players
+          c.args.transcript.now c.loop-round.transcript c.loop-round.invariant.so none;
+    }

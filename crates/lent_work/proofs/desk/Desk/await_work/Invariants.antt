@@ -1,0 +1,7 @@
+use Rattle.std.proofs.Common.{◌≡◌, None}
+use Rattle.lent_work.specs.Ends.{work_of, IsWorkerOf}
+use Rattle.lent_work.proofs.desk.Desk.await_work.Given as goal
+
+-- The end is of this desk, and has no work.
+abbrev pub invariant-loop : goal.invariant-loop
+invariant-loop g l = IsWorkerOf l.self l.worker × (work_of l.worker ≡ None)
