@@ -6,8 +6,8 @@ The texts were worked out by hand from docs/formats, and the segments are those 
 import os
 from dataclasses import dataclass, field
 
-from segments import BLOCK, FIRST, FIRST_NUMBER, FULL, HEADER, LAST, MIDDLE
-from segments import batch, chunk, delete_of, log_of, note_of, segment, set_of, sets
+from segments import BLOCK, FIRST, FIRST_NUMBER, FULL, HEADER, LAST, LOG, MIDDLE
+from segments import append, batch, batches_of, chunk, delete_of, log_of, note_of, segment, set_of, sets, written
 
 # What each replay here is given: what is stored is shown, and a log is left where nothing is refused.
 SCRIPT = b"get 0 a\ncommit 0 nosync set k v\n"
@@ -419,7 +419,7 @@ def chunk_cases():
 def block_cases():
     """A log of several blocks, and one whose second record begins in the next block, behind bytes of any kind."""
     great, less = b"v" * 70_000, b"w" * (BLOCK - HEADER - 19)
-    whole = log_of([(b"k", great), (b"a", b"1"), (b"b", great), (b"k", less)])
+    whole = segment(batches_of([(b"k", great), (b"a", b"1"), (b"b", great), (b"k", less)]))
     yield each(
         "a log of several blocks",
         {ONE: whole},
@@ -448,6 +448,78 @@ def block_cases():
             end(2, 12),
         ),
         goes_on("= 2", 12, 2),
+    )
+
+
+def corrupt(number, wal=1):
+    """A segment of two batches from a number on. The first was synced before the second was written, and has changed since.
+
+    The second goes on in the second block, where its last chunk tells what was synced.
+    """
+    whole = bytearray(log_of([(b"a", b"1"), (b"b", b"v" * 40_000)], number, wal, [1]))
+    whole[20] ^= 1
+    return bytes(whole)
+
+
+def corrupt_cases():
+    """Bytes that were synced and have changed, and in which order they are told."""
+    both = bytearray(segment(of_a(10, 1)))
+    append(both, of_a(11, 2)[0], offset=28)
+    yield each(
+        "a chunk with a sync offset behind one without",
+        {ONE: bytes(both)},
+        done("a = 2", end(2, 12)),
+        done("segment 000001.log primary bytes 64 records 2 ends 64 clean", *shown(10, 1, 2), end(2, 12)),
+        goes_on("= 2", 12, 2),
+    )
+    unread = "segment 000001.log primary bytes 40092 records 0 ends 0 torn"
+    told = refused("corrupt 000001.log 0 32768")
+    yield strictly("synced bytes have changed", {ONE: corrupt(10)}, told, done(unread, end(0, 10)))
+    second = "segment 000001-001.log secondary bytes 28 records 1 ends 28 clean"
+    yield strictly(
+        "synced bytes have changed, and another segment has the batch",
+        {ONE: corrupt(10), SECOND: segment(of_a(10, 1))},
+        told,
+        done(unread, second, *shown(10, 1), end(1, 11)),
+    )
+    yield strictly(
+        "synced bytes of a later segment have changed, and there is a gap",
+        {ONE: segment(of_a(12, 1)), SECOND: corrupt(10)},
+        refused("corrupt 000001-001.log 0 32768"),
+        done(
+            "segment 000001.log primary bytes 28 records 1 ends 28 clean",
+            *shown(12, 1),
+            "segment 000001-001.log secondary bytes 40092 records 0 ends 0 torn",
+            end(1, 13),
+        ),
+    )
+    bad = batch(10)[:12] + b"\xff"
+    no_batch = "0 unknown-kind 12 255"
+    yield strictly(
+        "synced bytes have changed, and a bad batch in the next segment",
+        {ONE: corrupt(10), SECOND: segment([bad])},
+        told,
+        refused(f"batch 000001-001.log {no_batch}"),
+    )
+    yield of_all(
+        "a bad batch, and synced bytes of the next segment have changed",
+        {ONE: segment([bad]), SECOND: corrupt(10)},
+        refused(f"batch 000001.log {no_batch}"),
+    )
+    # The bad batch stands before the changed bytes, in one segment with them.
+    one = bytearray(written([bad, *batches_of([(b"a", b"1"), (b"b", b"v" * 40_000)])], LOG, [2]))
+    one[len(written([bad])) + 20] ^= 1
+    yield of_all("a bad batch before synced bytes that have changed", {ONE: bytes(one)}, refused(f"batch 000001.log {no_batch}"))
+    yield strictly(
+        "a gap, and synced bytes of the next WAL have changed",
+        {ONE: segment(of_a(11, 1)), "wal/000002.log": corrupt(12, 2)},
+        refused("gap 000001.log expected 10 found 11"),
+        done(
+            "segment 000001.log primary bytes 28 records 1 ends 28 clean",
+            *shown(11, 1),
+            "segment 000002.log primary bytes 40092 records 0 ends 0 torn",
+            end(1, 12),
+        ),
     )
 
 
@@ -527,5 +599,6 @@ CASES = [
     *name_cases(),
     *chunk_cases(),
     *block_cases(),
+    *corrupt_cases(),
     *entry_cases(),
 ]

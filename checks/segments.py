@@ -3,8 +3,12 @@ make the directories that it recovers.
 """
 
 BLOCK = 32_768
-HEADER = 11
+HEADER, SYNC_HEADER = 11, 19
 FULL, FIRST, MIDDLE, LAST = 5, 6, 7, 8
+# What is added to the type of a chunk that has a sync offset.
+SYNC = 4
+# The numbers of all records, for a segment that is synced before each.
+EACH = range(2**63)
 SET, DELETE, NOTE = 1, 0, 3
 LOG = 1
 FIRST_NUMBER = 10
@@ -64,27 +68,38 @@ def batch(first, *entries, count=None):
     return first.to_bytes(8, "little") + counted.to_bytes(4, "little") + b"".join(entries)
 
 
+def header_of(offset):
+    """How long a chunk's header is, by its sync offset. None is a chunk of the form that has none."""
+    return HEADER if offset is None else SYNC_HEADER
+
+
+def batches_of(pairs, first=FIRST_NUMBER):
+    """Batches of one Set each, a pair of a key and a value, numbered in a row."""
+    return [batch(number, set_of(*it)) for number, it in enumerate(pairs, first)]
+
+
 def sets(first, key, *values):
-    """Batches of one Set each, which set the same key to one value after another, numbered in a row."""
-    return [batch(number, set_of(key, value)) for number, value in enumerate(values, first)]
+    """Batches which set the same key to one value after another, numbered in a row."""
+    return batches_of([(key, value) for value in values], first)
 
 
-def chunk(kind, payload, log=LOG):
-    covered = bytes([kind]) + log.to_bytes(4, "little") + payload
+def chunk(kind, payload, log=LOG, offset=None):
+    synced = b"" if offset is None else offset.to_bytes(8, "little")
+    covered = bytes([kind + SYNC * bool(synced)]) + log.to_bytes(4, "little") + synced + payload
     checksum = masked(crc32c(covered)).to_bytes(4, "little")
     return checksum + len(payload).to_bytes(2, "little") + covered
 
 
-def append(segment, record, log=LOG):
+def append(segment, record, log=LOG, offset=None):
     """Appends a record, fragment by fragment, and the zeros at the end of a block."""
-    begun = False
+    header, begun = header_of(offset), False
     while True:
-        room = BLOCK - len(segment) % BLOCK - HEADER
+        room = BLOCK - len(segment) % BLOCK - header
         part, record = record[:room], record[room:]
         ends = not record
-        segment += chunk((LAST if begun else FULL) if ends else (MIDDLE if begun else FIRST), part, log)
+        segment += chunk((LAST if begun else FULL) if ends else (MIDDLE if begun else FIRST), part, log, offset)
         left = BLOCK - len(segment) % BLOCK
-        if left < HEADER:
+        if left < header:
             segment += bytes(left)
         if ends:
             return
@@ -92,16 +107,43 @@ def append(segment, record, log=LOG):
 
 
 def segment(records, log=LOG):
-    """A segment of records, which are batches where it is to be recovered. A WAL's log number has its low 32 bits."""
+    """A segment without sync offsets, as runs once wrote them, of records, which are batches where it is to be recovered.
+
+    A WAL's log number has its low 32 bits.
+    """
     laid = bytearray()
     for record in records:
         append(laid, record, log % 2**32)
     return bytes(laid)
 
 
-def log_of(pairs, first=FIRST_NUMBER, log=LOG):
-    """The log of a run that commits one Set after another, each a pair of a key and a value."""
-    return segment([batch(number, set_of(*it)) for number, it in enumerate(pairs, first)], log)
+def written(records, log=LOG, synced_before=()):
+    """The segment that a run writes of records, by the numbers of those before which it was synced."""
+    laid, synced = bytearray(), 0
+    for number, record in enumerate(records):
+        synced = len(laid) if number in synced_before else synced
+        append(laid, record, log % 2**32, synced)
+    return bytes(laid)
+
+
+def log_of(pairs, first=FIRST_NUMBER, log=LOG, synced_before=()):
+    """The log of a run that commits those batches one after another."""
+    return written(batches_of(pairs, first), log, synced_before)
+
+
+def rewritten(content, records, log=LOG):
+    """The segment that a run may have written of records, with the sync offsets that stand in a log of them.
+
+    The offset of a record is 0 or the place behind one before it, and none is less than the one before. Another offset is taken
+    for the least one, so that the segment differs from the log.
+    """
+    laid, places, synced = bytearray(), {0}, 0
+    for record in records:
+        offset = int.from_bytes(content[len(laid) + HEADER : len(laid) + SYNC_HEADER], "little")
+        synced = offset if offset >= synced and offset in places else synced
+        append(laid, record, log % 2**32, synced)
+        places.add(len(laid))
+    return bytes(laid)
 
 
 # ---- generated loads

@@ -9,9 +9,10 @@
 
 #define TOTAL ((size_t)64 << 20)
 #define BLOCK ((size_t)32768)
-#define HEADER ((size_t)11)
+/* Each chunk has a sync offset, which is 0 here. */
+#define HEADER ((size_t)19)
 #define ROUNDS 5
-enum { FULL = 5, FIRST, MIDDLE, LAST };
+enum { FULL = 9, FIRST, MIDDLE, LAST };
 static const uint32_t LOG = 1;
 
 static uint32_t masked(const uint8_t *covered, size_t n)
@@ -52,8 +53,9 @@ static void put_chunk(struct bytes *out, int kind, const uint8_t *payload, size_
     p[5] = (uint8_t)(len >> 8);
     p[6] = (uint8_t)kind;
     memcpy(p + 7, &LOG, 4);
+    memset(p + 11, 0, 8);
     memcpy(p + HEADER, payload, len);
-    sum = masked(p + 6, 5 + len);
+    sum = masked(p + 6, HEADER - 6 + len);
     memcpy(p, &sum, 4);
     out->len += HEADER + len;
 }
@@ -105,7 +107,7 @@ static void read_out(struct records *found, const uint8_t *x, size_t n)
         memcpy(&sum, x + at, 4);
         memcpy(&log, x + at + 7, 4);
         if (HEADER + len > left || at + HEADER + len > n || log != LOG || kind < FULL || kind > LAST
-            || (kind == FULL || kind == FIRST) == is_open || sum != masked(x + at + 6, 5 + len))
+            || (kind == FULL || kind == FIRST) == is_open || sum != masked(x + at + 6, HEADER - 6 + len))
             break;
         const uint8_t *payload = x + at + HEADER;
         if (kind == FULL || kind == FIRST)

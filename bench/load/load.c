@@ -10,7 +10,7 @@
 
 enum {
     BLOCK = 32768,
-    HEADER = 11,
+    HEADER = 19,
     SESSIONS = 4,
     ROUND = 1000,
     SYNC_EVERY = 16,
@@ -55,27 +55,28 @@ static size_t put_batch(uint8_t *out, uint64_t seed, uint64_t i, uint64_t first)
     return at;
 }
 
-static size_t put_chunk(uint8_t *out, int type, const uint8_t *payload, size_t n)
+static size_t put_chunk(uint8_t *out, int type, uint64_t synced, const uint8_t *payload, size_t n)
 {
     put(out + 4, n, 2);
     out[6] = (uint8_t)type;
     put(out + 7, LOG, 4);
+    put(out + 11, synced, 8);
     memcpy(out + HEADER, payload, n);
-    uint32_t crc = ~crc_more(~0u, out + 6, 5 + n);
+    uint32_t crc = ~crc_more(~0u, out + 6, HEADER - 6 + n);
     put(out, ((crc >> 15) | (crc << 17)) + 0xA282EAD8u, 4);
     return HEADER + n;
 }
 
-/* Frames a record that begins at this place of its block, and moves the place on. */
-static size_t put_record(uint8_t *out, const uint8_t *record, size_t n, size_t *place)
+/* Frames a record that begins at this place of its block, with the bytes that a sync covers, and moves the place on. */
+static size_t put_record(uint8_t *out, uint64_t synced, const uint8_t *record, size_t n, size_t *place)
 {
     size_t written = 0;
     int begun = 0, done = 0;
     while (!done) {
         size_t room = BLOCK - *place - HEADER, part = n < room ? n : room;
         done = part == n && !(part == 0 && n > 0);
-        int type = done ? (begun ? 8 : 5) : (begun ? 7 : 6);
-        size_t chunk = put_chunk(out + written, type, record, part);
+        int type = done ? (begun ? 12 : 9) : (begun ? 11 : 10);
+        size_t chunk = put_chunk(out + written, type, synced, record, part);
         written += chunk, *place += chunk, record += part, n -= part, begun = 1;
         if (BLOCK - *place < HEADER) {
             memset(out + written, 0, BLOCK - *place);
@@ -96,17 +97,22 @@ int main(int argc, char **argv)
     make_tables();
     uint8_t record[BATCH_MAX], frames[4 * BATCH_MAX];
     size_t place = 0;
+    uint64_t size = 0, synced = 0;
     for (uint64_t round = 0; round * ROUND < count; round++)
         for (uint64_t session = 0; session < SESSIONS; session++) {
             uint64_t begin = round * ROUND, end = begin + ROUND < count ? begin + ROUND : count;
             for (uint64_t i = begin + session; i < end; i += SESSIONS) {
                 size_t n = put_batch(record, seed, i, next);
-                size_t framed = put_record(frames, record, n, &place);
+                size_t framed = put_record(frames, synced, record, n, &place);
                 next += i % DELETE_EVERY == DELETE_EVERY - 1 ? 2 : 1;
                 if (write(file, frames, framed) != (ssize_t)framed)
                     return 1;
-                if (i % SYNC_EVERY == SYNC_EVERY - 1 && fdatasync(file) != 0)
-                    return 1;
+                size += framed;
+                if (i % SYNC_EVERY == SYNC_EVERY - 1) {
+                    if (fdatasync(file) != 0)
+                        return 1;
+                    synced = size;
+                }
             }
         }
     return fdatasync(file) != 0 || close(file) != 0;

@@ -13,8 +13,9 @@
 #include "../crc32c.h"
 
 #define BLOCK ((size_t)32768)
-#define HEADER ((size_t)11)
-enum { FULL = 5, FIRST, MIDDLE, LAST };
+/* Each chunk has a sync offset, which is 0 here. */
+#define HEADER ((size_t)19)
+enum { FULL = 9, FIRST, MIDDLE, LAST };
 static const uint32_t LOG = 1;
 static const uint64_t FIRST_NUMBER = 10;
 
@@ -38,8 +39,9 @@ static void put_chunk(FILE *out, int kind, const uint8_t *payload, size_t len)
     chunk[5] = (uint8_t)(len >> 8);
     chunk[6] = (uint8_t)kind;
     memcpy(chunk + 7, &LOG, 4);
+    memset(chunk + 11, 0, 8);
     memcpy(chunk + HEADER, payload, len);
-    sum = masked(chunk + 6, 5 + len);
+    sum = masked(chunk + 6, HEADER - 6 + len);
     memcpy(chunk, &sum, 4);
     if (fwrite(chunk, 1, HEADER + len, out) != HEADER + len)
         die("write");
@@ -132,7 +134,7 @@ static void check(const char *file)
         memcpy(&sum, x + at, 4);
         memcpy(&log, x + at + 7, 4);
         if (HEADER + len > left || at + HEADER + len > n || log != LOG || kind < FULL || kind > LAST
-            || (kind == FULL || kind == FIRST) == is_open || sum != masked(x + at + 6, 5 + len))
+            || (kind == FULL || kind == FIRST) == is_open || sum != masked(x + at + 6, HEADER - 6 + len))
             break;
         is_open = kind == FIRST || kind == MIDDLE;
         found += !is_open;

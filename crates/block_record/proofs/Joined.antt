@@ -7,7 +7,7 @@ use Rattle.std.proofs.lemmas.List.Elements.{All-nil, All-cons, All-head, All-tai
 use Rattle.std.proofs.lemmas.Slice.{between_is}
 use Rattle.block_record.specs.declared.records.Rec.{Rec}
 use Rattle.block_record.specs.declared.joining.Place.{Place}
-use Rattle.block_record.specs.Joined.{rec_in, rec_after, spelled_in, fragment, EndsWithin, StandsBetween, AreApart, IsApart}
+use Rattle.block_record.specs.Joined.{rec_in, rec_after, spelled_in, EndsWithin, StandsBetween, AreApart, IsApart}
 
 -- A part of what stays is the same.
 pub kept_part : (old new : List ℕ) (limit from to : ℕ) → to ≤ limit → take limit new ≡ take limit old → slice_range new from to ≡ slice_range old from to
@@ -148,17 +148,17 @@ moved_down old new from end to down order within e =
     }
 
 -- The rest with a fragment more, which was moved after it.
-pub extended_spells : (old new : List ℕ) (whole : List Place) (rest : Place) (ends_at at end : ℕ) → IsApart old whole rest → rest.to ≤ at
-    → at + 11 ≤ end → end ≤ length old
-    → new ≡ copy_within old (at + 11) end rest.to
-    → spelled_in new whole ends_at (record { at = rest.at; from = rest.from; to = rest.to + (end - (at + 11)) })
+pub extended_spells : (old new : List ℕ) (whole : List Place) (rest : Place) (ends_at from end : ℕ) → IsApart old whole rest → rest.to ≤ from
+    → from ≤ end → end ≤ length old
+    → new ≡ copy_within old from end rest.to
+    → spelled_in new whole ends_at (record { at = rest.at; from = rest.from; to = rest.to + (end - from) })
     ≡ record {
       records = map (rec_in old) whole;
       ends_at = ends_at;
-      rest = record { at = rest.at; bytes = slice_range old rest.from rest.to ++ fragment old at end };
+      rest = record { at = rest.at; bytes = slice_range old rest.from rest.to ++ slice_range old from end };
     }
-extended_spells old new whole rest ends_at at end apart behind order within e =
-    let m : MovedDown old new (at + 11) end rest.to = moved_down old new (at + 11) end rest.to (omega arith) order within e in
+extended_spells old new whole rest ends_at from end apart behind order within e =
+    let m : MovedDown old new from end rest.to = moved_down old new from end rest.to behind order within e in
     let front : take rest.from new ≡ take rest.from old = sym (take-take rest.from rest.to new apart.within.order)
     ∙ ap (take rest.from) m.before ∙ take-take rest.from rest.to old apart.within.order in
     rw (kept_records old new rest.from whole front (all_end 0 rest.from whole apart.before), m.moved rest.from apart.within.order) refl

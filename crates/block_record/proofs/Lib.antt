@@ -4,6 +4,9 @@ mod Chains
 mod Rows
 mod Laid
 mod Replay
+mod Pieces
+mod Shows
+mod Tiles
 mod ReadsPrefix
 mod Joined
 mod Walked

@@ -1,10 +1,9 @@
 -- Records as places in the bytes of their segment, whose fragments are joined where they stand (docs/formats/log.md, "Reading a segment").
-use Rattle.std.specs.Prelude.{◌≡◌, ℕ, ◌+◌, ◌-◌, ◌≤◌, List, [], ◌∷◌, length, drop, map}
+use Rattle.std.specs.Prelude.{◌≡◌, ℕ, ◌-◌, ◌≤◌, List, [], ◌∷◌, length, drop, map}
 use Rattle.std.specs.List.{slice_range}
-use Rattle.crc_chunk.specs.declared.chunk.ChunkKind.{ChunkKind}
-use Rattle.crc_chunk.specs.declared.chunk.TheConstants.{HEADER}
 use Rattle.block_record.specs.declared.records.Rec.{Rec}
 use Rattle.block_record.specs.declared.joining.Place.{Place}
+use Rattle.block_record.specs.declared.joining.Found.{Found}
 use Rattle.block_record.specs.ReadOut.{Link, Spelled}
 
 -- the record whose bytes stand there
@@ -15,13 +14,9 @@ rec_in bytes place = record { at = place.at; bytes = slice_range bytes place.fro
 abbrev pub spelled_in : List ℕ → List Place → ℕ → Place → Spelled
 spelled_in bytes whole ends_at rest = record { records = map (rec_in bytes) whole; ends_at = ends_at; rest = rec_in bytes rest }
 
--- the payload of a chunk that stands between these places
-abbrev pub fragment : List ℕ → ℕ → ℕ → List ℕ
-fragment bytes at end = slice_range bytes (at + HEADER) end
-
--- a chunk of this kind between these places, as one of a chain
-abbrev pub link_in : List ℕ → ChunkKind → ℕ → ℕ → Link
-link_in bytes kind at end = record { kind = kind; payload = fragment bytes at end }
+-- the chunk that was found in these bytes, as one of a chain
+abbrev pub link_in : List ℕ → Found → Link
+link_in bytes found = record { kind = found.kind; offset = found.offset; payload = slice_range bytes found.from found.end }
 
 -- the record whose bytes stand there in a segment of which these bytes were cut off
 abbrev pub rec_after : ℕ → List ℕ → Place → Rec

@@ -1,17 +1,24 @@
--- The records that the longest chain of chunks spells (docs/formats/log.md, "Reading a segment").
-use Rattle.crc_chunk.specs.declared.chunk.TheConstants.{HEADER}
-use Rattle.std.specs.Prelude.{◌≡◌, ℕ, ◌+◌, ◌≤◌, Bool, true, false, not, ◌==◌, List, [], ◌∷◌, ◌++◌, length, map, take, drop, nat_lt, if◌then◌else◌}
-use Rattle.std.specs.List.{list_any}
+-- The records that the longest chain of chunks spells, and what shows that the bytes after it are corrupt (docs/formats/log.md,
+-- "Reading a segment").
+use Rattle.crc_chunk.specs.declared.chunk.TheConstants.{BLOCK}
+use Rattle.std.specs.Prelude.{◌≡◌, ℕ, ◌+◌, ◌-◌, ◌%◌, ◌<◌, ◌≤◌, Bool, true, false, not, ◌==◌, Option, Some, None, List, [], ◌∷◌, ◌++◌, length, map, take, drop, nat_lt, if◌then◌else◌}
+use Rattle.std.specs.List.{list_any, All}
 use Rattle.crc_chunk.specs.declared.chunk.ChunkKind.{ChunkKind}
 use Rattle.crc_chunk.specs.declared.chunk.ChunkKind.TheVariants.{Full, First, Middle, Last}
-use Rattle.crc_chunk.specs.Chunk.{ChunkAt}
+use Rattle.crc_chunk.specs.Chunk.{header_len, ChunkAt}
 use Rattle.block_record.specs.declared.records.Rec.{Rec}
-use Rattle.block_record.specs.Framing.{left_in_block, laid}
+use Rattle.block_record.specs.declared.records.Shown.{Shown}
+use Rattle.block_record.specs.Framing.{Marked, left_in_block, laid}
 
 -- a chunk of a chain
 pub record Link : Type 0 where
   pub kind : ChunkKind
+  pub offset : Option ℕ
   pub payload : List ℕ
+
+-- The chunk stands at this place, in its form.
+abbrev pub LinkAt : List ℕ → ℕ → ℕ → Link → Type 0
+LinkAt bytes log at link = ChunkAt bytes at log link.kind link.offset link.payload
 
 -- The kind may follow: no record is open before Full and First, and one is before Middle and Last.
 abbrev pub MayFollow : Bool → ChunkKind → Type 0
@@ -27,20 +34,28 @@ leaves_open First = true
 leaves_open Middle = true
 leaves_open Last = false
 
--- where the next chunk stands: here, or at the next block where no header fits
-abbrev pub next_place : ℕ → ℕ
-next_place at = if nat_lt (left_in_block at) HEADER then at + left_in_block at else at
+-- where the next chunk stands: here, or at the next block where fewer bytes are left than this
+abbrev pub next_place : ℕ → ℕ → ℕ
+next_place asked at = if nat_lt (left_in_block at) asked then at + left_in_block at else at
 
 -- the place after a chunk that stands here
 abbrev pub chunk_end : ℕ → Link → ℕ
-chunk_end start link = start + HEADER + length link.payload
+chunk_end start link = start + header_len link.offset + length link.payload
 
--- The chunks stand one after another from a place on, and each kind may follow.
+-- Where the next chunk would stand: after a chunk of either form, a header of that form must fit.
+abbrev pub place_after : ℕ → Link → ℕ
+place_after start link = next_place (header_len link.offset) (chunk_end start link)
+
+-- The chunks stand one after another, the first of them here, and each kind may follow.
 abbrev pub IsChain : List ℕ → ℕ → ℕ → Bool → List Link → Type 0
 IsChain bytes log at is_open [] = Unit {0}
 IsChain bytes log at is_open (link ∷ links) =
-    MayFollow is_open link.kind × ChunkAt bytes (next_place at) log link.kind link.payload
-    × IsChain bytes log (chunk_end (next_place at) link) (leaves_open link.kind) links
+    MayFollow is_open link.kind × LinkAt bytes log at link × IsChain bytes log (place_after at link) (leaves_open link.kind) links
+
+-- the place at which the chunk after a chain would stand
+abbrev pub stopped_at : ℕ → List Link → ℕ
+stopped_at at [] = at
+stopped_at at (link ∷ links) = stopped_at (place_after at link) links
 
 -- No chain from this place on is longer.
 pub record IsLongestChain (bytes : List ℕ) (log at : ℕ) (is_open : Bool) (links : List Link) : Type 0 where
@@ -80,34 +95,79 @@ after_link start so_far link = go link.kind
 -- with the chunks of a chain more
 abbrev pub spelled_from : ℕ → Spelled → List Link → Spelled
 spelled_from at so_far [] = so_far
-spelled_from at so_far (link ∷ links) = spelled_from (chunk_end (next_place at) link) (after_link (next_place at) so_far link) links
+spelled_from at so_far (link ∷ links) = spelled_from (place_after at link) (after_link at so_far link) links
 
 -- what a segment has spelled before its first chunk
 abbrev pub nothing : Spelled
 nothing = record { records = []; ends_at = 0; rest = no_rest }
 
--- A segment reads as these whole records, ends here, and has other bytes than zeros after it.
-pub record ReadsOut (bytes : List ℕ) (log : ℕ) (records : List Rec) (ends_at : ℕ) (torn : Bool) : Type 0 where
+-- the place of a block's first byte
+abbrev pub block_front : ℕ → ℕ
+block_front at = at - at % BLOCK
+
+-- The chunks stand right one after another from the first place to the second.
+abbrev pub IsChunkRow : List ℕ → ℕ → ℕ → List Link → ℕ → Type 0
+IsChunkRow bytes log from [] to = from ≡ to
+IsChunkRow bytes log from (link ∷ links) to = LinkAt bytes log from link × IsChunkRow bytes log (chunk_end from link) links to
+
+-- A sync chunk shows that the bytes at a place are corrupt: it stands in a block that begins after them, one of those that
+-- stand one after another from the block's front on, and was written when a sync had covered more than the bytes before them.
+pub record ShowsCorrupt (bytes : List ℕ) (log at place : ℕ) : Type 0 where
+  pub behind : at < block_front place
+  pub row : List Link
+  pub in_row : IsChunkRow bytes log (block_front place) row place
+  pub kind : ChunkKind
+  pub offset : ℕ
+  pub payload : List ℕ
+  pub stands : ChunkAt bytes place log kind (Some offset) payload
+  pub above : at < offset
+
+-- No sync chunk shows it but at this place or a later one.
+pub record IsShown (bytes : List ℕ) (log at : ℕ) (shown : Shown) : Type 0 where
+  pub at_is : shown.at ≡ at
+  pub shows : ShowsCorrupt bytes log at shown.shown_at
+  pub least : (place : ℕ) → ShowsCorrupt bytes log at place → shown.shown_at ≤ place
+
+-- what shows that the bytes at a place are corrupt, or that nothing does
+abbrev pub TellsShown : List ℕ → ℕ → ℕ → Option Shown → Type 0
+TellsShown bytes log at None = (place : ℕ) → ¬ ShowsCorrupt bytes log at place
+TellsShown bytes log at (Some shown) = IsShown bytes log at shown
+
+-- A segment reads as these whole records, ends here, has other bytes than zeros after it, and this shows them corrupt.
+pub record ReadsOut (bytes : List ℕ) (log : ℕ) (records : List Rec) (ends_at : ℕ) (torn : Bool) (shown : Option Shown) : Type 0 where
   pub links : List Link
   pub longest : IsLongestChain bytes log 0 false links
   pub records_are : records ≡ (spelled_from 0 nothing links).records
   pub end_is : ends_at ≡ (spelled_from 0 nothing links).ends_at
   pub torn_is : torn ≡ list_any (λ b. not (b == 0)) (drop ends_at bytes)
+  pub shown_is : TellsShown bytes log (stopped_at 0 links) shown
 
 -- the bytes of records
 abbrev pub bytes_of : List Rec → List (List ℕ)
 bytes_of records = map (λ (r : Rec). r.bytes) records
 
--- No chunk of the log stands at this place.
+-- the bytes of records that carry sync offsets
+abbrev pub bytes_marked : List Marked → List (List ℕ)
+bytes_marked records = map (λ (r : Marked). r.bytes) records
+
+-- No chunk of the log stands at this place, in either form.
 abbrev pub NoChunkAt : List ℕ → ℕ → ℕ → Type 0
-NoChunkAt bytes at log = (kind : ChunkKind) (payload : List ℕ) → ¬ ChunkAt bytes at log kind payload
+NoChunkAt bytes at log = (kind : ChunkKind) (offset : Option ℕ) (payload : List ℕ) → ¬ ChunkAt bytes at log kind offset payload
 
 -- Each chunk of the log in the bytes stands at the same place in the others.
 abbrev pub ChunksStandIn : List ℕ → ℕ → List ℕ → Type 0
-ChunksStandIn others log bytes = (at : ℕ) (kind : ChunkKind) (payload : List ℕ) → ChunkAt bytes at log kind payload → ChunkAt others at log kind payload
+ChunksStandIn others log bytes =
+    (at : ℕ) (kind : ChunkKind) (offset : Option ℕ) (payload : List ℕ) → ChunkAt bytes at log kind offset payload → ChunkAt others at log kind offset payload
+
+-- Some first records lie whole within so many bytes, and no sync offset is above their length.
+pub record OffsetsAreWithin (log within : ℕ) (records : List Marked) : Type 0 where
+  pub count : ℕ
+  pub among : count ≤ length records
+  pub whole : length (laid log 0 (take count records)) ≤ within
+  pub below : All (λ (r : Marked). r.offset ≤ length (laid log 0 (take count records))) records
 
 -- A prefix of the records was read, and each that is laid within so many bytes is in it.
-pub record ReadsPrefix (log within : ℕ) (records read : List (List ℕ)) : Type 0 where
+pub record ReadsPrefix (log within : ℕ) (records : List Marked) (read : List (List ℕ)) : Type 0 where
   pub count : ℕ
-  pub first : read ≡ take count records
+  pub first : read ≡ take count (bytes_marked records)
   pub all_within : (k : ℕ) → k ≤ length records → length (laid log 0 (take k records)) ≤ within → k ≤ count

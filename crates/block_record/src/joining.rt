@@ -2,16 +2,31 @@
 
 ghost use Rattle.std.specs.Prelude.{◌≡◌, ◌+◌, ◌-◌, ◌≤◌, ◌++◌, length, map, IfOk, OnOk};
 ghost use Rattle.std.specs.List.{All};
-ghost use Rattle.crc_chunk.specs.declared.chunk.ChunkKind.TheVariants.{First, Middle};
+ghost use Rattle.crc_chunk.specs.Chunk.{header_len};
 ghost use Rattle.block_record.specs.ReadOut.{nothing};
-ghost use Rattle.block_record.specs.Promises.{spelled_with, spelled_to};
+ghost use Rattle.block_record.specs.Promises.{spelled_begun, spelled_more, spelled_with, spelled_to};
 ghost use Rattle.block_record.specs.Joined.{rec_in, rec_after, AreApart, StandsBetween, SameAfter};
 
-use crate::records::{ReadOut, Rec, Records};
-use crc_chunk::{ChunkKind, HEADER};
+use crate::records::{ReadOut, Rec, Records, Shown};
+use crc_chunk::ChunkKind;
 use std::alloc::Global;
 use std::marker::Model;
 use wal_base::{Blob, NoMemory};
+
+/// A chunk that stands in a segment.
+#[derive(Clone, Copy)]
+pub struct Found {
+    /// Which part of a record it holds.
+    pub kind: ChunkKind,
+    /// Its sync offset, if it is a sync chunk.
+    pub offset: Option<u64>,
+    /// The place of its header.
+    pub at: usize,
+    /// The place of its payload.
+    pub from: usize,
+    /// The place after it.
+    pub end: usize,
+}
 
 /// Where the bytes of a record stand in its segment.
 #[derive(Clone, Copy)]
@@ -135,29 +150,27 @@ impl Joining {
         self.bytes.as_slice()
     }
 
-    /// Begins a record with the chunk that stands at this place.
-    fn begin(&mut self, at: usize, end: usize)
-        requires order { at + HEADER ≤ end }
+    /// Begins a record with the chunk that stands at this place, and whose payload stands between the others.
+    fn begin(&mut self, at: usize, from: usize, end: usize)
+        requires order { from ≤ end }
         requires within { end ≤ length self.old.bytes }
-        requires behind { self.old.reach ≤ at }
+        requires behind { self.old.reach ≤ from }
         ensures bytes { self.new.bytes ≡ self.old.bytes }
         ensures reach { self.new.reach ≡ end }
-        ensures spelled { self.new.spelled ≡ spelled_with First at end self.old }
+        ensures spelled { self.new.spelled ≡ spelled_begun at from end self.old }
     {
-        let from = at + HEADER;
         self.rest = Place { at, from, to: end };
     }
 
-    /// Adds the fragment of the chunk that stands at this place: it is moved right after those before it.
-    fn extend(&mut self, at: usize, end: usize)
-        requires order { at + HEADER ≤ end }
+    /// Adds the fragment that stands between these places: it is moved right after those before it.
+    fn extend(&mut self, from: usize, end: usize)
+        requires order { from ≤ end }
         requires within { end ≤ length self.old.bytes }
-        requires behind { self.old.reach ≤ at }
+        requires behind { self.old.reach ≤ from }
         ensures bytes { SameAfter end self.old.bytes self.new.bytes }
         ensures reach { self.new.reach ≤ end }
-        ensures spelled { self.new.spelled ≡ spelled_with Middle at end self.old }
+        ensures spelled { self.new.spelled ≡ spelled_more from end self.old }
     {
-        let from = at + HEADER;
         self.bytes.copy_within(from..end, self.rest.to);
         self.rest.to += end - from;
     }
@@ -180,40 +193,54 @@ impl Joining {
         Ok(())
     }
 
-    /// Takes one chunk more, which stands between these places.
-    pub fn take(&mut self, kind: ChunkKind, at: usize, end: usize) -> Result<(), NoMemory>
-        requires order { at + HEADER ≤ end }
-        requires within { end ≤ length self.old.bytes }
-        requires behind { self.old.reach ≤ at }
-        ensures bytes { OnOk result (SameAfter end self.old.bytes self.new.bytes) }
-        ensures reach { OnOk result (self.new.reach ≤ end) }
-        ensures spelled { OnOk result (self.new.spelled ≡ spelled_with kind at end self.old) }
+    /// Takes one chunk more, as it was found.
+    pub fn take(&mut self, found: Found) -> Result<(), NoMemory>
+        requires header { found.from ≡ found.at + header_len found.offset }
+        requires order { found.from ≤ found.end }
+        requires within { found.end ≤ length self.old.bytes }
+        requires behind { self.old.reach ≤ found.at }
+        ensures bytes { OnOk result (SameAfter found.end self.old.bytes self.new.bytes) }
+        ensures reach { OnOk result (self.new.reach ≤ found.end) }
+        ensures spelled { OnOk result (self.new.spelled ≡ spelled_with found self.old) }
     {
+        let Found {
+            kind,
+            at,
+            from,
+            end,
+            ..
+        } = found;
         match kind {
             ChunkKind::Full => {
-                self.begin(at, end);
+                self.begin(at, from, end);
                 self.end(end)
             }
             ChunkKind::First => {
-                self.begin(at, end);
+                self.begin(at, from, end);
                 Ok(())
             }
             ChunkKind::Middle => {
-                self.extend(at, end);
+                self.extend(from, end);
                 Ok(())
             }
             ChunkKind::Last => {
-                self.extend(at, end);
+                self.extend(from, end);
                 self.end(end)
             }
         }
     }
 
     /// Gives the whole records, which share the segment's bytes a piece at a time.
-    pub fn into_read_out(self, alloc: Global, torn: bool) -> Result<ReadOut, NoMemory>
+    pub fn into_read_out(
+        self,
+        alloc: Global,
+        torn: bool,
+        shown: Option<Shown>,
+    ) -> Result<ReadOut, NoMemory>
         ensures records { IfOk result (λ out. out.records ≡ self.spelled.records) }
         ensures ends_at { IfOk result (λ out. out.ends_at ≡ self.spelled.ends_at) }
         ensures torn { IfOk result (λ out. out.torn ≡ torn) }
+        ensures shown { IfOk result (λ out. out.shown ≡ shown) }
     {
         let Joining {
             mut bytes,
@@ -230,6 +257,7 @@ impl Joining {
             records,
             ends_at: ends_at as u64,
             torn,
+            shown,
         })
     }
 }

@@ -14,6 +14,15 @@ pub struct Rec {
 /// The records of a segment, in their order.
 pub type Records = ListOf<Rec>;
 
+/// What shows that a segment is corrupt.
+#[derive(Clone, Copy, Debug, PartialEq, Eq)]
+pub struct Shown {
+    /// The place at which reading stopped, whose bytes are corrupt.
+    pub at: u64,
+    /// The place of a later chunk that was written when a sync had covered them.
+    pub shown_at: u64,
+}
+
 /// What a segment holds.
 #[derive(Debug, Drop)]
 pub struct ReadOut {
@@ -23,4 +32,6 @@ pub struct ReadOut {
     pub ends_at: u64,
     /// Whether a byte from there on is not zero.
     pub torn: bool,
+    /// What shows that the bytes at which reading stopped are corrupt, if something does.
+    pub shown: Option<Shown>,
 }

@@ -1,10 +1,10 @@
 -- A chunk in its block and in its segment.
-use Rattle.std.proofs.Common.{◌≡◌, ℕ, ◌+◌, ◌-◌, ◌%◌, ◌≤◌, List, length, take, drop, sym, ap, ◌∙◌, arith, min}
+use Rattle.std.proofs.Common.{◌≡◌, ℕ, ◌+◌, ◌-◌, ◌%◌, ◌≤◌, Option, List, length, take, drop, sym, ap, ◌∙◌, arith, min}
 use Rattle.std.specs.List.{slice_range}
 use Rattle.std.proofs.lemmas.List.{drop-take, take-take, drop-drop, take_rest, take_min, drop_min, length-take, length-drop}
 use Rattle.crc_chunk.specs.declared.chunk.TheConstants.{BLOCK, HEADER}
 use Rattle.crc_chunk.specs.declared.chunk.ChunkKind.{ChunkKind}
-use Rattle.crc_chunk.specs.Chunk.{chunk, ChunkAt}
+use Rattle.crc_chunk.specs.Chunk.{chunk, header_len, ChunkAt}
 use Rattle.crc_chunk.proofs.Chunks.{chunk_len}
 
 -- A block, cut out where the segment may end before it or in it.
@@ -46,16 +46,23 @@ module _ (bytes block : List ℕ) (at : ℕ) (e : block ≡ take BLOCK (drop (at
   ends_in_segment to after within =
       omega (arith, ap length e, length-take BLOCK (drop (at - at % BLOCK) bytes), length-drop (at - at % BLOCK) bytes)
 
-  pub in_segment : (log : ℕ) (kind : ChunkKind) (payload : List ℕ) → ChunkAt block (at % BLOCK) log kind payload → ChunkAt bytes at log kind payload
-  in_segment log kind payload h =
-      let all : List ℕ = chunk kind log payload in
-      let fits : at % BLOCK + HEADER + length payload ≤ BLOCK = omega (arith, h.within) in
-      record { stands = record { is = sym (same_bytes (length all) (omega (arith, chunk_len kind log payload))) ∙ h.stands.is }; within = fits }
-
-  pub in_block : (log : ℕ) (kind : ChunkKind) (payload : List ℕ) → ChunkAt bytes at log kind payload → ChunkAt block (at % BLOCK) log kind payload
-  in_block log kind payload h =
-      let all : List ℕ = chunk kind log payload in
+  pub in_segment : (log : ℕ) (kind : ChunkKind) (offset : Option ℕ) (payload : List ℕ) → ChunkAt block (at % BLOCK) log kind offset payload
+      → ChunkAt bytes at log kind offset payload
+  in_segment log kind offset payload h =
+      let all : List ℕ = chunk kind log offset payload in
+      let fits : at % BLOCK + header_len offset + length payload ≤ BLOCK = omega (arith, h.within) in
       record {
-        stands = record { is = same_bytes (length all) (omega (arith, h.within, chunk_len kind log payload)) ∙ h.stands.is };
+        stands = record { is = sym (same_bytes (length all) (omega (arith, chunk_len kind log offset payload, fits))) ∙ h.stands.is };
+        fits = h.fits;
+        within = fits;
+      }
+
+  pub in_block : (log : ℕ) (kind : ChunkKind) (offset : Option ℕ) (payload : List ℕ) → ChunkAt bytes at log kind offset payload
+      → ChunkAt block (at % BLOCK) log kind offset payload
+  in_block log kind offset payload h =
+      let all : List ℕ = chunk kind log offset payload in
+      record {
+        stands = record { is = same_bytes (length all) (omega (arith, h.within, chunk_len kind log offset payload)) ∙ h.stands.is };
+        fits = h.fits;
         within = omega (arith, h.within);
       }

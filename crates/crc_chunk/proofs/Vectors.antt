@@ -1,5 +1,5 @@
 -- The definitions at the examples of docs/formats, as the checker computes them.
-use Rattle.std.proofs.Common.{◌≡◌, [], ◌∷◌, refl, replicate}
+use Rattle.std.proofs.Common.{None, ◌≡◌, [], ◌∷◌, refl, replicate}
 use Rattle.std.specs.Prelude.{codes}
 use Rattle.std.specs.List.{range_with_len}
 use Rattle.crc_chunk.specs.declared.chunk.ChunkKind.TheVariants.{Full}
@@ -36,6 +36,6 @@ masked_none = refl
 pub masked_digits : masked_of 0xE3069283 ≡ 0xC78AB0E5
 masked_digits = refl
 
-pub empty_chunk : chunk Full 1 [] ≡ 0x9e ∷ 0x6b ∷ 0xa5 ∷ 0xbd ∷ 0x00 ∷ 0x00 ∷ 0x05 ∷ 0x01 ∷ 0x00 ∷ 0x00 ∷ 0x00 ∷ []
+pub empty_chunk : chunk Full 1 None [] ≡ 0x9e ∷ 0x6b ∷ 0xa5 ∷ 0xbd ∷ 0x00 ∷ 0x00 ∷ 0x05 ∷ 0x01 ∷ 0x00 ∷ 0x00 ∷ 0x00 ∷ []
 unfolding checksum after_bits covered chunk
 empty_chunk = refl

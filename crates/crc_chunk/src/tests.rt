@@ -1,5 +1,6 @@
 use crate::{
-    ChunkKind, ChunkSpan, HEADER, chunk_at, chunk_in, crc32c, header_of, masked, put_chunk,
+    ChunkKind, ChunkSpan, HEADER, SYNC_HEADER, chunk_at, chunk_in, crc32c, masked, put_chunk,
+    put_sync_chunk,
 };
 use std::alloc::Global;
 use std::process::Abort;
@@ -55,8 +56,9 @@ fn checksums_at_each_length(rt: HostRuntime) {
 fn chunks_of_the_examples(rt: HostRuntime) {
     let empty = [0x9e, 0x6b, 0xa5, 0xbd, 0, 0, 5, 1, 0, 0, 0];
     let header = [0x5e, 0x28, 0x29, 0x10, 0x11, 0, 5, 1, 0, 0, 0];
-    assert_eq!(rt; header_of(ChunkKind::Full, 1, b""), empty);
     let mut block = [0; 32];
+    assert_eq!(rt; put_chunk(&mut block, ChunkKind::Full, 1, b""), 11);
+    assert_eq!(rt; &block[..HEADER], empty.as_slice());
     assert_eq!(rt; put_chunk(&mut block, ChunkKind::Full, 1, &PAYLOAD), 28);
     assert_eq!(rt; &block[..HEADER], header.as_slice());
     assert_eq!(rt; &block[HEADER..28], PAYLOAD.as_slice());
@@ -64,9 +66,73 @@ fn chunks_of_the_examples(rt: HostRuntime) {
         kind: ChunkKind::Full,
         from: 11,
         to: 28,
+        offset: None,
     };
     assert_eq!(rt; chunk_at(&block, 0, 1), Some(span));
     assert_eq!(rt; chunk_at(&block, 0, 2), None);
+}
+
+// The checksums are those that another program gave.
+#[test]
+fn sync_chunks_of_the_examples(rt: HostRuntime) {
+    for (offset, crc) in [
+        (0, 0xe4b2_4a1a),
+        (28, 0x8514_0230),
+        (u64::MAX, 0x9e8f_e36d_u32),
+    ] {
+        let mut block = [7; 40];
+        assert_eq!(rt;
+            put_sync_chunk(&mut block, ChunkKind::Full, 1, offset, &PAYLOAD),
+            36
+        );
+        assert_eq!(rt; &block[..4], crc.to_le_bytes().as_slice());
+        assert_eq!(rt; &block[4..11], [17, 0, 9, 1, 0, 0, 0].as_slice());
+        assert_eq!(rt; &block[11..SYNC_HEADER], offset.to_le_bytes().as_slice());
+        assert_eq!(rt; &block[SYNC_HEADER..36], PAYLOAD.as_slice());
+        assert_eq!(rt; &block[36..], [7; 4].as_slice());
+        let span = ChunkSpan {
+            kind: ChunkKind::Full,
+            from: 19,
+            to: 36,
+            offset: Some(offset),
+        };
+        assert_eq!(rt; chunk_at(&block, 0, 1), Some(span));
+        assert_eq!(rt; chunk_at(&block, 0, 2), None);
+        for len in 0..36 {
+            assert_eq!(rt; chunk_at(&block[..len], 0, 1), None, "of {len}");
+        }
+        for kind in [5, 6, 7, 8, 10, 11, 12, 13, 0] {
+            block[6] = kind;
+            assert_eq!(rt; chunk_at(&block, 0, 1), None, "of type {kind}");
+        }
+        block[6] = 9;
+        block[12] ^= 1;
+        assert_eq!(rt; chunk_at(&block, 0, 1), None);
+    }
+}
+
+#[test]
+fn each_type_of_a_chunk(rt: HostRuntime) {
+    for (kind, old, sync) in [
+        (ChunkKind::Full, 5, 9),
+        (ChunkKind::First, 6, 10),
+        (ChunkKind::Middle, 7, 11),
+        (ChunkKind::Last, 8, 12),
+    ] {
+        let mut block = [0; 24];
+        put_chunk(&mut block, kind, 1, b"abcde");
+        assert_eq!(rt; block[6], old);
+        assert_eq!(rt;
+            chunk_at(&block, 0, 1).map(|span| (span.kind, span.offset)),
+            Some((kind, None))
+        );
+        put_sync_chunk(&mut block, kind, 1, 3, b"abcde");
+        assert_eq!(rt; block[6], sync);
+        assert_eq!(rt;
+            chunk_at(&block, 0, 1).map(|span| (span.kind, span.offset)),
+            Some((kind, Some(3)))
+        );
+    }
 }
 
 /// A block of zeros, and a chunk after it.
@@ -85,6 +151,7 @@ fn a_chunk_of_a_second_block(rt: HostRuntime) {
         kind: ChunkKind::Full,
         from: 32_779,
         to: 32_796,
+        offset: None,
     };
     assert_eq!(rt; chunk_in(segment.as_slice(), 32_768, 1), Some(span));
     assert_eq!(rt; chunk_in(segment.as_slice(), 0, 1), None);

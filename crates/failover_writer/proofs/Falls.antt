@@ -190,6 +190,7 @@ starts_lowers old new is =
     let current = is.current in
     let next : Writer = record current {
       sent = sent_with is.operation (len old) current.sent;
+      size = is.size;
       place = is.place;
       waiting = 0;
       phase = InFlight is.operation is.id;
@@ -241,6 +242,7 @@ stays_none polled within few verdict none wants rests = go verdict.current.phase
         none (record polled {
           segments = verdict.earlier ++ record verdict.current {
             sent = sent_with operation (len polled) verdict.current.sent;
+            size = 0;
             place = 0;
             waiting = 0;
             phase = InFlight operation (record { side = Primary; number = 0 });
@@ -251,6 +253,7 @@ stays_none polled within few verdict none wants rests = go verdict.current.phase
           current = verdict.current;
           operation = operation;
           id = record { side = Primary; number = 0 };
+          size = 0;
           place = 0;
           segments_are = verdict.segments_are;
           next = next;

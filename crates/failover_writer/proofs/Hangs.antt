@@ -12,7 +12,7 @@ use Rattle.failover_writer.specs.State.{State, is_broken}
 use Rattle.failover_writer.specs.Stepping.{PollsFirst, Polls, nothing_begun, asked, left_behind, BeginsNext, Verdict, ActsAfterPolls, first, none_to_begin, switches, starts, stays, StepRule, was_dead, idle, dies, goes, short}
 use Rattle.failover_writer.specs.Stepping as stepping
 use Rattle.failover_writer.specs.Answered.{pending_count, StepsBy}
-use Rattle.failover_writer.specs.Remaining.{waited_on_current, pending_in_all, polls_left}
+use Rattle.failover_writer.specs.Remaining.{waited_on_current, pending_in_all}
 use Rattle.failover_writer.proofs.Accounted.{left_last}
 use Rattle.failover_writer.proofs.StepRule.{current_then}
 

@@ -1,17 +1,17 @@
 -- Files whose segments are stable in full open a journal: what an image has after the bytes that were sent adds no chunk, so
 -- each of its segments holds what was read, and the listing is the same with those contents in place.
-use Rattle.crc_chunk.specs.declared.chunk.TheConstants.{HEADER}
 use Rattle.batch_repr.specs.declared.limits.TheConstants.{NUMBER_FIRST}
 use Rattle.std.proofs.Common.{◌≡◌, ◌≢◌, inl, inr, ℕ, suc, ◌+◌, ◌<◌, ◌≤◌, Bool, false, List, [], ◌∷◌, ◌++◌, length, map, take, drop, Option, Some, None, ap, sym, subst, ◌∙◌, refl, arith}
 use Rattle.std.specs.Prelude.{Contains, ◌==◌, not}
 use Rattle.std.specs.Option.{unwrap_or}
 use Rattle.std.specs.List.{list_any}
 use Rattle.std.proofs.lemmas.List.{length-drop, take-append-le, drop-append-le, take_all}
-use Rattle.crc_chunk.specs.Chunk.{chunk, IsChunkOf}
-use Rattle.crc_chunk.proofs.Laws.{chunk_len, stands_within}
+use Rattle.crc_chunk.specs.Chunk.{header_len, chunk, IsChunkOf}
+use Rattle.crc_chunk.proofs.Laws.{chunk_len, header_bounds, stands_within}
 use Rattle.batch_repr.specs.declared.batch.Batch.{Batch}
 use Rattle.batch_repr.specs.Batches.{end_after}
-use Rattle.block_record.specs.ReadOut.{Link, leaves_open, next_place, chunk_end, IsChain, ChunksStandIn}
+use Rattle.block_record.specs.declared.records.Shown.{Shown}
+use Rattle.block_record.specs.ReadOut.{Link, leaves_open, chunk_end, place_after, stopped_at, IsChain, block_front, IsChunkRow, ShowsCorrupt, TellsShown, ChunksStandIn}
 use Rattle.disk_face.specs.declared.Side.{Side}
 use Rattle.disk_face.specs.declared.SegName.{SegName}
 use Rattle.disk_face.specs.View.{Place, segment, File, Files, Dirs}
@@ -19,6 +19,7 @@ use Rattle.disk_face.specs.Listing.{IsSegmentName}
 use Rattle.disk_face.specs.Image.{IsImageOf, IsImage, IsChanceFree, IsRestedFile, IsRested, as_read, dirs_as_read, log_number}
 use Rattle.disk_face.proofs.Laws.{image_of_created}
 use Rattle.segment_merge.proofs.Laws.{none_within, within_head, within_tail, within_cases}
+use Rattle.wal_recovery.specs.declared.reports.Mode.TheVariants.{Strict}
 use Rattle.wal_recovery.specs.Listing.{Stored, Wal, name_in, place_in, AreByIndex, AreByNumber, IsOf, StandsIn, IsListingOf, IsNextWal}
 use Rattle.wal_recovery.specs.Recovering.{HoldsBatches, HoldRow, WalsMerge, Recovers}
 use Rattle.wal_recovery.specs.Resting.{IsStable, AreSegmentsStable, IsAsOrSynced, OnlySynced}
@@ -32,18 +33,46 @@ chain_stands : (log : ℕ) (bytes others : List ℕ) → ChunksStandIn others lo
 chain_stands log bytes others stand at is_open [] chain = tt
 chain_stands log bytes others stand at is_open (link ∷ links) chain = (
   chain.0,
-  stand (next_place at) link.kind link.payload chain.1,
-  chain_stands log bytes others stand (chunk_end (next_place at) link)
-      (leaves_open link.kind) links chain.2,
+  stand at link.kind link.offset link.payload chain.1,
+  chain_stands log bytes others stand (place_after at link) (leaves_open link.kind) links chain.2,
 )
+
+-- So does a row of chunks, and what shows the bytes at a place corrupt.
+row_stands : (log : ℕ) (bytes others : List ℕ) → ChunksStandIn others log bytes → (from to : ℕ) (row : List Link)
+    → IsChunkRow bytes log from row to → IsChunkRow others log from row to
+row_stands log bytes others stand from to [] r = r
+row_stands log bytes others stand from to (link ∷ row) r =
+    (stand from link.kind link.offset link.payload r.0, row_stands log bytes others stand (chunk_end from link) to row r.1)
+
+shows_there : (log : ℕ) (bytes others : List ℕ) → ChunksStandIn others log bytes → (at place : ℕ) → ShowsCorrupt bytes log at place → ShowsCorrupt others log at place
+shows_there log bytes others stand at place s = record {
+  behind = s.behind;
+  row = s.row;
+  in_row = row_stands log bytes others stand (block_front place) place s.row s.in_row;
+  kind = s.kind;
+  offset = s.offset;
+  payload = s.payload;
+  stands = stand place s.kind (Some s.offset) s.payload s.stands;
+  above = s.above;
+}
+
+tells_there : (log : ℕ) (bytes others : List ℕ) → ChunksStandIn others log bytes → ChunksStandIn bytes log others → (at : ℕ) (shown : Option Shown)
+    → TellsShown bytes log at shown → TellsShown others log at shown
+tells_there log bytes others there back at None none = λ place s. none place (shows_there log others bytes back at place s)
+tells_there log bytes others there back at (Some shown) h = record {
+  at_is = h.at_is;
+  shows = shows_there log bytes others there at shown.shown_at h.shows;
+  least = λ place s. h.least place (shows_there log others bytes back at place s);
+}
 
 -- Bytes in which the same chunks stand hold the same batches.
 holds_same : (log : ℕ) (bytes others : List ℕ) (batches : List Batch) → ChunksStandIn others log bytes → ChunksStandIn bytes log others
-    → HoldsBatches log bytes batches → HoldsBatches log others batches
+    → HoldsBatches Strict log bytes batches → HoldsBatches Strict log others batches
 holds_same log bytes others batches there back holds = record {
   records = holds.records;
   ends_at = holds.ends_at;
   torn = list_any (λ b. not (b == 0)) (drop holds.ends_at others);
+  shown = holds.shown;
   read = record {
     links = holds.read.links;
     longest = record {
@@ -53,7 +82,9 @@ holds_same log bytes others batches there back holds = record {
     records_are = holds.read.records_are;
     end_is = holds.read.end_is;
     torn_is = refl;
+    shown_is = tells_there log bytes others there back (stopped_at 0 holds.read.links) holds.shown holds.read.shown_is;
   };
+  passes = holds.passes;
   all = holds.all;
   spelled = holds.spelled;
   counted_are = holds.counted_are;
@@ -61,14 +92,16 @@ holds_same log bytes others batches there back holds = record {
 
 -- What stands stands still with more bytes after.
 stands_behind : (log : ℕ) (sent rest : List ℕ) → ChunksStandIn (sent ++ rest) log sent
-stands_behind log sent rest at kind payload here =
-    let size : ℕ = length (chunk kind log payload) in
-    let fits : at + size ≤ length sent = stands_within here.stands (omega (arith, chunk_len kind log payload)) in
+stands_behind log sent rest at kind offset payload here =
+    let size : ℕ = length (chunk kind log offset payload) in
+    let some : 0 < size = omega (arith, chunk_len kind log offset payload, (header_bounds offset).0) in
+    let fits : at + size ≤ length sent = stands_within here.stands some in
     record {
       stands = record {
         is = ap (take size) (drop-append-le at sent rest (omega (arith, fits)))
             ∙ take-append-le size (drop at sent) rest (omega (arith, fits, length-drop at sent)) ∙ here.stands.is;
       };
+      fits = here.fits;
       within = here.within;
     }
 
@@ -143,14 +176,16 @@ module _ (now : Files) (rested : IsRested now) (stable : AreSegmentsStable now) 
   -- No chunk of it reaches after what was sent.
   stood_before : (side : Side) (name : SegName) (f : File) (rest : List ℕ) → now (segment side name) ≡ Some f
       → dirs (segment side name) ≡ Some (f.sent ++ rest) → ChunksStandIn f.sent (log_number name.wal) (f.sent ++ rest)
-  stood_before side name f rest is has at kind payload here =
+  stood_before side name f rest is has at kind offset payload here =
       let log : ℕ = log_number name.wal in
-      let long : length (chunk kind log payload) ≡ HEADER + length payload = chunk_len kind log payload in
-      let same : take (HEADER + length payload) (drop at (f.sent ++ rest)) ≡ take (HEADER + length payload) (drop at f.sent) =
-      chance_free (segment side name) f (f.sent ++ rest) at (HEADER + length payload) is has
-      (record { kind = kind; payload = payload; stands = here; size_is = refl }) in
+      let size : ℕ = header_len offset + length payload in
+      let long : length (chunk kind log offset payload) ≡ size = chunk_len kind log offset payload in
+      let same : take size (drop at (f.sent ++ rest)) ≡ take size (drop at f.sent) =
+      chance_free (segment side name) f (f.sent ++ rest) at size is has
+      (record { kind = kind; offset = offset; payload = payload; stands = here; size_is = refl }) in
       record {
         stands = record { is = sym (subst (λ (n : ℕ). take n (drop at (f.sent ++ rest)) ≡ take n (drop at f.sent)) (sym long) same) ∙ here.stands.is };
+        fits = here.fits;
         within = here.within;
       }
 
@@ -200,8 +235,8 @@ module _ (now : Files) (rested : IsRested now) (stable : AreSegmentsStable now) 
           )
 
   one_holds : (number : ℕ) (stored : Stored) (batches : List Batch) → StandsIn (dirs_as_read now) number stored
-      → HoldsBatches (log_number number) stored.content batches
-      → HoldsBatches (log_number number) (filled dirs number stored).content batches
+      → HoldsBatches Strict (log_number number) stored.content batches
+      → HoldsBatches Strict (log_number number) (filled dirs number stored).content batches
   unfolding filled
   one_holds number stored batches (named, read) holds =
       let p : Place = place_in number stored.side stored.index in
@@ -209,16 +244,16 @@ module _ (now : Files) (rested : IsRested now) (stable : AreSegmentsStable now) 
       let f = read_of (now p) stored.content (rested p) read in
       let has = content_of stored.side (name_in number stored.index) f.0 named f.1 in
       let sent : List ℕ = f.0.sent in
-      subst (λ (o : Option (List ℕ)). HoldsBatches log (unwrap_or o []) batches) (sym has.1)
+      subst (λ (o : Option (List ℕ)). HoldsBatches Strict log (unwrap_or o []) batches) (sym has.1)
       (holds_same log sent (sent ++ has.0) batches (stands_behind log sent has.0) (stood_before stored.side (name_in number stored.index) f.0 has.0 f.1 has.1)
-      (subst (λ (bytes : List ℕ). HoldsBatches log bytes batches) (sym f.2) holds))
+      (subst (λ (bytes : List ℕ). HoldsBatches Strict log bytes batches) (sym f.2) holds))
 
   -- each of the segments was read
   abbrev WereRead : ℕ → List Stored → Type 0
   WereRead number segments = (stored : Stored) → Contains segments stored → StandsIn (dirs_as_read now) number stored
 
   row_holds : (number : ℕ) (segments : List Stored) (row : List (List Batch)) → WereRead number segments
-      → HoldRow (log_number number) segments row → HoldRow (log_number number) (map (filled dirs number) segments) row
+      → HoldRow Strict (log_number number) segments row → HoldRow Strict (log_number number) (map (filled dirs number) segments) row
   row_holds number [] [] each holds = tt
   row_holds number [] (batches ∷ row) each holds = holds
   row_holds number (stored ∷ segments) [] each holds = holds

@@ -18,6 +18,7 @@ use Rattle.disk_face.proofs.Laws.{same_number, same_side}
 use Rattle.segment_merge.specs.Ranges as ranges
 use Rattle.segment_merge.specs.Ranges.{between, Range, AreRanges}
 use Rattle.segment_merge.proofs.Laws.{none_within, within_head, within_tail, within_cases}
+use Rattle.wal_recovery.specs.declared.reports.Mode.TheVariants.{Strict}
 use Rattle.wal_recovery.specs.Listing.{Stored, place_in, AreByIndex, StandsIn}
 use Rattle.wal_recovery.specs.Recovering.{taking_numbers, Spell, HoldsBatches, HoldRow}
 use Rattle.log_writer.specs.Writer.{Writer}
@@ -71,7 +72,7 @@ read_spells (one ∷ read) (batch ∷ batches) e are =
 -- A segment that is kept holds the records from where it begins up to some number, not below what is synced.
 kept_holds : (log : ℕ) (content : List ℕ) (from synced : ℕ) (records : List Batch) → AllByRecursion IsRecord records → from ≤ synced
     → IsKeptAs log from synced records (Some content)
-    → (to : ℕ) × (synced ≤ to) × (to ≤ length records) × HoldsBatches log content (between from to records)
+    → (to : ℕ) × (synced ≤ to) × (to ≤ length records) × HoldsBatches Strict log content (between from to records)
 kept_holds log content from synced records are low kept = (
   from + first.count,
   omega (arith, low, first.has_synced),
@@ -80,7 +81,9 @@ kept_holds log content from synced records are low kept = (
     records = reading.records;
     ends_at = reading.ends_at;
     torn = reading.torn;
+    shown = reading.shown;
     read = reading.read;
+    passes = as_kept.1;
     all = between from (from + first.count) records;
     spelled = read_spells reading.records (between from (from + first.count) records)
         (first.first ∙ ap (λ (n : ℕ). map written (take n (drop from records))) count_is) part_are;
@@ -91,8 +94,11 @@ kept_holds log content from synced records are low kept = (
     reading : Reading content log
     reading = readable content log
 
+    as_kept : IsPrefixRead from synced records (bytes_of reading.records) × (reading.shown ≡ None)
+    as_kept = kept reading.records reading.ends_at reading.torn reading.shown reading.read
+
     first : IsPrefixRead from synced records (bytes_of reading.records)
-    first = kept reading.records reading.ends_at reading.torn reading.read
+    first = as_kept.0
 
     count_is : first.count ≡ from + first.count - from
     count_is = omega arith
@@ -151,7 +157,7 @@ pub record OwnRow (wal : ℕ) (records : List Batch) (dirs : Dirs) (index synced
   pub are : AreRanges (length records) synced held
   pub kept : most_synced synced ws ≤ ranges.greatest_synced synced held
   pub by : AreByIndex index segments
-  pub holds : HoldRow (log_number wal) segments (map (ranges.records_in records) held)
+  pub holds : HoldRow Strict (log_number wal) segments (map (ranges.records_in records) held)
   pub same : (stored : Stored) → Contains segments stored ↔ ((index ≤ stored.index) × StandsIn dirs wal stored)
 
 module _ (wal : ℕ) (named : wal ≤ 999999999999) (records : List Batch) (are : AllByRecursion IsRecord records) (dirs : Dirs) where

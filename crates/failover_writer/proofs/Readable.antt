@@ -1,17 +1,21 @@
--- Every segment reads out: at each place a chunk stands or none does, and each chunk of a chain ends further on.
-use Rattle.crc_chunk.specs.declared.chunk.TheConstants.{BLOCK, HEADER}
-use Rattle.std.proofs.Common.{◌≡◌, ◌≢◌, ◌⊎◌, inl, inr, ℕ, zero, suc, ◌+◌, ◌%◌, ◌<◌, ◌≤◌, Bool, true, false, List, [], ◌∷◌, length, take, drop, refl, sym, subst, arith}
+-- Every segment reads out: at each place a chunk stands or none does, each chunk of a chain ends further on, and of the places
+-- that show the rest corrupt one is the least.
+use Rattle.std.proofs.Common.{◌≡◌, ◌≢◌, ◌⊎◌, inl, inr, ℕ, zero, suc, ◌+◌, ◌%◌, ◌^◌, ◌<◌, ◌≤◌, Bool, true, false, Option, Some, None, List, [], ◌∷◌, length, take, drop, refl, sym, ap, subst, ◌∙◌, arith}
 use Rattle.std.specs.Prelude.{not, ◌==◌}
 use Rattle.std.specs.List.{list_any}
+use Rattle.std.specs.Int.{w64, from_le_bytes}
+use Rattle.std.proofs.lemmas.Nat.{from_le_bytes-to_le_bytes_8}
 use native.Mathlib.Decide.{dec_le}
+use Rattle.crc_chunk.specs.declared.chunk.TheConstants.{BLOCK, HEADER}
 use Rattle.crc_chunk.specs.declared.chunk.ChunkKind.{ChunkKind}
 use Rattle.crc_chunk.specs.declared.chunk.ChunkKind.TheVariants.{Full, First, Middle, Last}
-use Rattle.crc_chunk.specs.Chunk.{chunk, ChunkAt}
-use Rattle.crc_chunk.proofs.Laws.{one_chunk, payload_at, within_segment}
+use Rattle.crc_chunk.specs.Chunk.{header_len, OffsetFits, chunk, ChunkAt}
+use Rattle.crc_chunk.proofs.Laws.{fields_of, header_bounds, one_chunk, payload_at, within_segment}
 use Rattle.disk_face.proofs.Laws.{same_number}
 use Rattle.block_record.specs.declared.records.Rec.{Rec}
-use Rattle.block_record.specs.ReadOut.{Link, MayFollow, leaves_open, next_place, chunk_end, Spelled, after_link, nothing, ReadsOut}
-use Rattle.block_record.proofs.Laws.{LeftToRead, left_first, left_next, all_read, not_before}
+use Rattle.block_record.specs.declared.records.Shown.{Shown}
+use Rattle.block_record.specs.ReadOut.{Link, LinkAt, NoChunkAt, MayFollow, leaves_open, chunk_end, place_after, Spelled, after_link, nothing, block_front, IsChunkRow, ShowsCorrupt, TellsShown, ReadsOut}
+use Rattle.block_record.proofs.Laws.{LeftToRead, left_first, left_next, all_read, not_before, one_link}
 
 same_bytes : (a b : List ℕ) → (a ≡ b) ⊎ (a ≢ b)
 same_bytes [] [] = inl refl
@@ -54,36 +58,66 @@ search_kinds P decide = go (decide Full) (decide First) (decide Middle) (decide 
     go (inr a) (inr b) (inr c) (inl holds) = inl (Last, holds)
     go (inr a) (inr b) (inr c) (inr d) = inr (none_of P a b c d)
 
--- the payload of a chunk that stands here, of so many bytes
-abbrev payload_in : List ℕ → ℕ → ℕ → List ℕ
-payload_in bytes at n = take n (drop (at + HEADER) bytes)
+-- the payload of a chunk that stands here, of this form and so many bytes
+abbrev payload_in : List ℕ → ℕ → Option ℕ → ℕ → List ℕ
+payload_in bytes at offset n = take n (drop (at + header_len offset) bytes)
 
-payload_is : {bytes : List ℕ} {at log : ℕ} {kind : ChunkKind} {payload : List ℕ} → ChunkAt bytes at log kind payload
-    → payload_in bytes at (length payload) ≡ payload
+-- the sync offset of a sync chunk that stands here
+abbrev offset_in : List ℕ → ℕ → ℕ
+offset_in bytes at = from_le_bytes w64 (take 8 (drop (at + HEADER) bytes))
+
+offset_is : {bytes : List ℕ} {at log : ℕ} {kind : ChunkKind} {offset : ℕ} {payload : List ℕ} → ChunkAt bytes at log kind (Some offset) payload
+    → offset ≡ offset_in bytes at
+offset_is {bytes} {at} {log} {kind} {offset} {payload} h =
+    sym (from_le_bytes-to_le_bytes_8 offset h.fits) ∙ ap (from_le_bytes w64) (sym (fields_of h.stands).offset_is.is)
+
+payload_is : {bytes : List ℕ} {at log : ℕ} {kind : ChunkKind} {offset : Option ℕ} {payload : List ℕ} → ChunkAt bytes at log kind offset payload
+    → payload_in bytes at offset (length payload) ≡ payload
 payload_is h = (payload_at h).is
 
-chunk_is_here : (bytes : List ℕ) (at log : ℕ) (kind : ChunkKind) (payload : List ℕ) → ChunkAt bytes at log kind payload
-    ⊎ (ChunkAt bytes at log kind payload → ⊥)
-chunk_is_here bytes at log kind payload = elim (same_bytes (take (length (chunk kind log payload)) (drop at bytes)) (chunk kind log payload)) [
-  | inl is ↦ elim (dec_le (at % BLOCK + HEADER + length payload) BLOCK) [
-    | yes within ↦ inl (record { stands = record { is = is }; within = within })
-    | no beyond ↦ inr (λ h. beyond h.within)
-  ]
-  | inr differs ↦ inr (λ h. differs h.stands.is)
-]
-
--- A chunk of the log stands here, or none does.
-chunk_or_none : (bytes : List ℕ) (log at : ℕ)
-    → ((kind : ChunkKind) × (payload : List ℕ) × ChunkAt bytes at log kind payload)
-    ⊎ ((kind : ChunkKind) (payload : List ℕ) → ChunkAt bytes at log kind payload → ⊥)
-chunk_or_none bytes log at =
-    elim (search_below (λ n. (kind : ChunkKind) × ChunkAt bytes at log kind (payload_in bytes at n))
-    (λ n. search_kinds (λ kind. ChunkAt bytes at log kind (payload_in bytes at n))
-    (λ kind. chunk_is_here bytes at log kind (payload_in bytes at n))) (suc (length bytes))) [
-      | inl (n, found) ↦ inl (found.0, payload_in bytes at n, found.1)
-      | inr none ↦ inr (λ kind payload here. none (length payload) (omega (arith, within_segment here))
-          (kind, subst (λ (p : List ℕ). ChunkAt bytes at log kind p) (sym (payload_is here)) here))
+chunk_is_here : (bytes : List ℕ) (at log : ℕ) (kind : ChunkKind) (offset : Option ℕ) (payload : List ℕ) → OffsetFits offset
+    → ChunkAt bytes at log kind offset payload ⊎ (ChunkAt bytes at log kind offset payload → ⊥)
+chunk_is_here bytes at log kind offset payload fits =
+    elim (same_bytes (take (length (chunk kind log offset payload)) (drop at bytes)) (chunk kind log offset payload)) [
+      | inl is ↦ elim (dec_le (at % BLOCK + header_len offset + length payload) BLOCK) [
+        | yes within ↦ inl (record { stands = record { is = is }; fits = fits; within = within })
+        | no beyond ↦ inr (λ h. beyond h.within)
+      ]
+      | inr differs ↦ inr (λ h. differs h.stands.is)
     ]
+
+-- A chunk of this form stands here, or none does.
+of_form : (bytes : List ℕ) (log at : ℕ) (offset : Option ℕ) → OffsetFits offset
+    → ((kind : ChunkKind) × (payload : List ℕ) × ChunkAt bytes at log kind offset payload)
+    ⊎ ((kind : ChunkKind) (payload : List ℕ) → ChunkAt bytes at log kind offset payload → ⊥)
+of_form bytes log at offset fits =
+    elim (search_below (λ n. (kind : ChunkKind) × ChunkAt bytes at log kind offset (payload_in bytes at offset n))
+    (λ n. search_kinds (λ kind. ChunkAt bytes at log kind offset (payload_in bytes at offset n))
+    (λ kind. chunk_is_here bytes at log kind offset (payload_in bytes at offset n) fits)) (suc (length bytes))) [
+      | inl (n, found) ↦ inl (found.0, payload_in bytes at offset n, found.1)
+      | inr none ↦ inr (λ kind payload here. none (length payload) (omega (arith, within_segment here))
+          (kind, subst (λ (p : List ℕ). ChunkAt bytes at log kind offset p) (sym (payload_is here)) here))
+    ]
+
+-- A chunk of the log stands here, in either form, or none does.
+chunk_or_none : (bytes : List ℕ) (log at : ℕ) → ((link : Link) × LinkAt bytes log at link) ⊎ NoChunkAt bytes at log
+chunk_or_none bytes log at = elim (of_form bytes log at None tt) [
+  | inl (kind, payload, here) ↦ inl (record { kind = kind; offset = None; payload = payload }, here)
+  | inr plain ↦ elim (dec_le (2 ^ 64) (offset_in bytes at)) [
+    | yes large ↦ inr (λ kind offset payload here. either offset plain (λ kind payload o h. omega (arith, large, h.fits, offset_is h)) kind payload here)
+    | no small ↦ elim (of_form bytes log at (Some (offset_in bytes at)) (omega (arith, small))) [
+      | inl (kind, payload, here) ↦ inl (record { kind = kind; offset = Some (offset_in bytes at); payload = payload }, here)
+      | inr sync ↦ inr (λ kind offset payload here. either offset plain
+          (λ kind payload o h. sync kind payload (subst (λ (n : ℕ). ChunkAt bytes at log kind (Some n) payload) (offset_is h) h)) kind payload here)
+    ]
+  ]
+]
+  where
+    either : (offset : Option ℕ) → ((kind : ChunkKind) (payload : List ℕ) → ChunkAt bytes at log kind None payload → ⊥)
+        → ((kind : ChunkKind) (payload : List ℕ) (o : ℕ) → ChunkAt bytes at log kind (Some o) payload → ⊥)
+        → (kind : ChunkKind) (payload : List ℕ) → ChunkAt bytes at log kind offset payload → ⊥
+    either None plain sync kind payload here = plain kind payload here
+    either (Some o) plain sync kind payload here = sync kind payload o here
 
 may_follow_or_not : (is_open : Bool) (kind : ChunkKind) → MayFollow is_open kind ⊎ (MayFollow is_open kind → ⊥)
 may_follow_or_not true Full = inr (λ e. cc)
@@ -95,34 +129,135 @@ may_follow_or_not false First = inl refl
 may_follow_or_not false Middle = inr (λ e. cc)
 may_follow_or_not false Last = inr (λ e. cc)
 
+-- ---- what shows a segment corrupt
+
+row_rises : (bytes : List ℕ) (log from to : ℕ) (row : List Link) → IsChunkRow bytes log from row to → from ≤ to
+row_rises bytes log from to [] e = omega (arith, e)
+row_rises bytes log from to (link ∷ row) r = omega (arith, row_rises bytes log (chunk_end from link) to row r.1)
+
+-- A place is reached in a row of chunks, or it is not.
+row_or_not : (bytes : List ℕ) (log fuel from to : ℕ) → to ≤ from + fuel
+    → ((row : List Link) × IsChunkRow bytes log from row to) ⊎ ((row : List Link) → IsChunkRow bytes log from row to → ⊥)
+row_or_not bytes log zero from to few = elim (same_number from to) [
+  | inl e ↦ inl ([], e)
+  | inr other ↦ inr (λ row r. other (omega (arith, few, row_rises bytes log from to row r)))
+]
+row_or_not bytes log (suc fuel) from to few = elim (same_number from to) [
+  | inl e ↦ inl ([], e)
+  | inr other ↦ elim (chunk_or_none bytes log from) [
+    | inr none ↦ inr (λ row r. stuck row other none r)
+    | inl (link, here) ↦ elim (row_or_not bytes log fuel (chunk_end from link) to (omega (arith, few, (header_bounds link.offset).0))) [
+      | inl (row, r) ↦ inl (link ∷ row, (here, r))
+      | inr never ↦ inr (λ row r. follows row other link here never r)
+    ]
+  ]
+]
+  where
+    stuck : (row : List Link) → from ≢ to → NoChunkAt bytes from log → IsChunkRow bytes log from row to → ⊥
+    stuck [] other none e = other e
+    stuck (link ∷ row) other none r = none link.kind link.offset link.payload r.0
+
+    follows : (row : List Link) → from ≢ to → (link : Link) → LinkAt bytes log from link
+        → ((row : List Link) → IsChunkRow bytes log (chunk_end from link) row to → ⊥) → IsChunkRow bytes log from row to → ⊥
+    follows [] other link here never e = other e
+    follows (first ∷ row) other link here never r = never row (subst (λ (l : Link). IsChunkRow bytes log (chunk_end from l) row to) (one_link r.0 here) r.1)
+
+-- A chunk at this place shows it, or none does.
+shows_or_not : (bytes : List ℕ) (log at place : ℕ) → ShowsCorrupt bytes log at place ⊎ (ShowsCorrupt bytes log at place → ⊥)
+shows_or_not bytes log at place = elim (dec_le (suc at) (block_front place)) [
+  | no before ↦ inr (λ s. before (omega (arith, s.behind)))
+  | yes behind ↦ elim (row_or_not bytes log place (block_front place) place (omega arith)) [
+    | inr never ↦ inr (λ s. never s.row s.in_row)
+    | inl (row, r) ↦ elim (chunk_or_none bytes log place) [
+      | inr none ↦ inr (λ s. none s.kind (Some s.offset) s.payload s.stands)
+      | inl (link, here) ↦ by_form link.offset behind row r link.kind link.payload here
+    ]
+  ]
+]
+  where
+    by_form : (offset : Option ℕ) → suc at ≤ block_front place → (row : List Link) → IsChunkRow bytes log (block_front place) row place
+        → (kind : ChunkKind) (payload : List ℕ) → ChunkAt bytes place log kind offset payload → ShowsCorrupt bytes log at place ⊎ (ShowsCorrupt bytes log at place → ⊥)
+    by_form None behind row r kind payload here = inr (λ s. let form : None ≡ Some s.offset = (one_chunk here s.stands).1 in absurd cc)
+    by_form (Some offset) behind row r kind payload here = elim (dec_le (suc at) offset) [
+      | yes above ↦ inl (record {
+        behind = omega (arith, behind);
+        row = row;
+        in_row = r;
+        kind = kind;
+        offset = offset;
+        payload = payload;
+        stands = here;
+        above = omega (arith, above);
+      })
+      | no below ↦ inr (λ s. let form : Some offset ≡ Some s.offset = (one_chunk here s.stands).1 in
+          let same : offset ≡ s.offset = cc in below (omega (arith, same, s.above)))
+    ]
+
+-- The least number of which it holds, or none below the bound.
+least_below : (P : ℕ → Type 0) → ((n : ℕ) → P n ⊎ (P n → ⊥)) → (bound : ℕ)
+    → ((n : ℕ) × P n × ((m : ℕ) → P m → n ≤ m)) ⊎ ((n : ℕ) → n < bound → P n → ⊥)
+least_below P decide zero = inr (λ n low holds. omega (arith, low))
+least_below P decide (suc bound) = elim (least_below P decide bound) [
+  | inl found ↦ inl found
+  | inr none ↦ elim (decide bound) [
+    | inl here ↦ inl (bound, here, λ m holds. least m none holds)
+    | inr not_here ↦ inr (λ n low holds. elim (same_number n bound) [
+      | inl e ↦ not_here (subst P e holds)
+      | inr other ↦ none n (omega (arith, low, other)) holds
+    ])
+  ]
+]
+  where
+    least : (m : ℕ) → ((n : ℕ) → n < bound → P n → ⊥) → P m → bound ≤ m
+    least m none holds = elim (dec_le bound m) [ yes le ↦ le | no low ↦ absurd (none m (omega (arith, low)) holds) ]
+
+-- what shows the bytes at a place corrupt, if something does
+record Told (bytes : List ℕ) (log at : ℕ) : Type 0 where
+  shown : Option Shown
+  tells : TellsShown bytes log at shown
+
+told : (bytes : List ℕ) (log at : ℕ) → Told bytes log at
+told bytes log at = elim (least_below (ShowsCorrupt bytes log at) (shows_or_not bytes log at) (length bytes)) [
+  | inl (place, shows, least) ↦ record {
+    shown = Some (record { at = at; shown_at = place });
+    tells = record { at_is = refl; shows = shows; least = least };
+  }
+  | inr none ↦ record {
+    shown = None;
+    tells = λ place s. none place (omega (arith, within_segment s.stands, (header_bounds (Some s.offset)).0)) s;
+  }
+]
+
 -- what a segment reads as
 pub record Reading (bytes : List ℕ) (log : ℕ) : Type 0 where
   pub records : List Rec
   pub ends_at : ℕ
   pub torn : Bool
-  pub read : ReadsOut bytes log records ends_at torn
+  pub shown : Option Shown
+  pub read : ReadsOut bytes log records ends_at torn shown
 
 module _ (bytes : List ℕ) (log : ℕ) where
   ended_here : (at : ℕ) (is_open : Bool) (so_far : Spelled) → LeftToRead bytes log at is_open so_far
-      → ((kind : ChunkKind) (payload : List ℕ) → MayFollow is_open kind → ChunkAt bytes (next_place at) log kind payload → ⊥) → Reading bytes log
+      → ((kind : ChunkKind) (offset : Option ℕ) (payload : List ℕ) → MayFollow is_open kind → ChunkAt bytes at log kind offset payload → ⊥) → Reading bytes log
   ended_here at is_open so_far left none = record {
     records = so_far.records;
     ends_at = so_far.ends_at;
     torn = list_any (λ b. not (b == 0)) (drop so_far.ends_at bytes);
-    read = all_read bytes log at is_open so_far (list_any (λ b. not (b == 0)) (drop so_far.ends_at bytes)) left none refl;
+    shown = (told bytes log at).shown;
+    read = all_read bytes log at is_open so_far (list_any (λ b. not (b == 0)) (drop so_far.ends_at bytes)) (told bytes log at).shown left none refl
+        (told bytes log at).tells;
   }
 
   read_on : (fuel at : ℕ) (is_open : Bool) (so_far : Spelled) → LeftToRead bytes log at is_open so_far → length bytes ≤ at + fuel → Reading bytes log
   read_on zero at is_open so_far left short = ended_here at is_open so_far left
-      (λ kind payload may here. omega (arith, short, not_before at, within_segment here))
-  read_on (suc fuel) at is_open so_far left short = elim (chunk_or_none bytes log (next_place at)) [
-    | inr none ↦ ended_here at is_open so_far left (λ kind payload may here. none kind payload here)
-    | inl (kind, payload, here) ↦ elim (may_follow_or_not is_open kind) [
-      | inr never ↦ ended_here at is_open so_far left (λ other more may there. never (subst (MayFollow is_open) (one_chunk there here).0 may))
-      | inl may ↦
-          let link : Link = record { kind = kind; payload = payload } in
-          read_on fuel (chunk_end (next_place at) link) (leaves_open kind) (after_link (next_place at) so_far link)
-          (left_next link left may here) (omega (arith, short, not_before at))
+      (λ kind offset payload may here. omega (arith, short, within_segment here, (header_bounds offset).0))
+  read_on (suc fuel) at is_open so_far left short = elim (chunk_or_none bytes log at) [
+    | inr none ↦ ended_here at is_open so_far left (λ kind offset payload may here. none kind offset payload here)
+    | inl (link, here) ↦ elim (may_follow_or_not is_open link.kind) [
+      | inr never ↦ ended_here at is_open so_far left (λ other form more may there. never (subst (MayFollow is_open) (one_chunk there here).0 may))
+      | inl may ↦ read_on fuel (place_after at link) (leaves_open link.kind) (after_link at so_far link)
+          (left_next link left may here)
+          (omega (arith, short, not_before (header_len link.offset) (chunk_end at link), (header_bounds link.offset).0))
     ]
   ]
 

@@ -1,12 +1,11 @@
 -- A journal of which no segment has failed reads as an image of its disk: each file is one of its segments', which reads a front
 -- of what was sent, or is as it was at rest.
-use Rattle.crc_chunk.specs.declared.chunk.TheConstants.{HEADER}
 use Rattle.std.proofs.Common.{◌≡◌, ◌≢◌, ◌⊎◌, inl, inr, ℕ, suc, ◌+◌, ◌≤◌, Bool, true, false, List, [], ◌∷◌, ◌++◌, length, take, drop, Option, Some, None, IsTrue, ap, sym, subst, ◌∙◌, refl, arith, cond}
 use Rattle.std.specs.Prelude.{max, count_by}
 use Rattle.std.specs.List.{AllByRecursion}
 use Rattle.std.proofs.lemmas.List.{length-drop, take-append-drop, take-append-le, drop-append-le}
-use Rattle.crc_chunk.specs.Chunk.{chunk, IsChunkOf}
-use Rattle.crc_chunk.proofs.Laws.{chunk_len, stands_within}
+use Rattle.crc_chunk.specs.Chunk.{header_len, chunk, IsChunkOf}
+use Rattle.crc_chunk.proofs.Laws.{chunk_len, header_bounds, stands_within}
 use Rattle.block_record.specs.Framing.{laid}
 use Rattle.batch_repr.specs.declared.batch.Batch.{Batch}
 use Rattle.disk_face.specs.View.{Place, segment, table, File, Files, DiskView, files}
@@ -17,7 +16,7 @@ use Rattle.log_writer.specs.declared.phase.Operation.TheVariants.{Create, Write,
 use Rattle.log_writer.specs.declared.phase.Phase.{Phase}
 use Rattle.log_writer.specs.declared.phase.Phase.TheVariants.{New, InFlight, Idle, Broken}
 use Rattle.log_writer.specs.Writer.{Writer}
-use Rattle.log_writer.specs.Parts.{part, texts, segment_bytes}
+use Rattle.log_writer.specs.Parts.{part, marked, segment_bytes}
 use Rattle.log_writer.specs.Fits.{place_of_writer, file_with, IsOrdered, HoldsRecords, HasFile, Fits}
 use Rattle.log_writer.proofs.Laws.{bytes_split, bytes_front}
 use Rattle.failover_writer.specs.State.{State, phase_is_broken, is_broken, broken_count}
@@ -55,8 +54,9 @@ rested_reads place (Some f) rested =
 -- A chunk that stands in a front has the same bytes in the whole.
 chunk_in_front : (front more : List ℕ) (at log size : ℕ) → IsChunkOf front at log size → take size (drop at front) ≡ take size (drop at (front ++ more))
 chunk_in_front front more at log size here =
-    let long : length (chunk here.kind log here.payload) ≡ HEADER + length here.payload = chunk_len here.kind log here.payload in
-    let fits : at + length (chunk here.kind log here.payload) ≤ length front = stands_within here.stands.stands (omega (arith, long)) in
+    let long : length (chunk here.kind log here.offset here.payload) ≡ header_len here.offset + length here.payload = chunk_len here.kind log here.offset here.payload in
+    let fits : at + length (chunk here.kind log here.offset here.payload) ≤ length front =
+    stands_within here.stands.stands (omega (arith, long, (header_bounds here.offset).0)) in
     sym (ap (take size) (drop-append-le at front more (omega (arith, fits)))
     ∙ take-append-le size (drop at front) more (omega (arith, fits, long, here.size_is, length-drop at front)))
 
@@ -66,28 +66,30 @@ fresh_reads : (w : Writer) (f : Option File) → f ≡ Some fresh → ReadsAsIma
 fresh_reads w f is = subst (ReadsAsImage (place_of_writer w)) (sym is)
     (record { image = λ e. absurd cc; was_sent = λ g bytes at size same read here. absurd cc })
 
-module _ (records : List Batch) (w : Writer) (ordered : IsOrdered records w) where
+module _ (offsets : ℕ → ℕ) (records : List Batch) (w : Writer) (ordered : IsOrdered offsets records w) where
   -- the bytes of its records up to this one
   abbrev upto : ℕ → List ℕ
-  upto to = segment_bytes w.log w.from to records
+  upto to = segment_bytes w.log offsets w.from to records
 
   -- the bytes of its records from this one on, up to another
   abbrev behind : ℕ → ℕ → List ℕ
-  behind mid to = laid w.log (length (upto mid)) (texts (part mid to records))
+  behind mid to = laid w.log (length (upto mid)) (marked offsets mid (part mid to records))
 
-  written_reads : ReadsAsImage (place_of_writer w) (Some (file_with records w (upto w.written)))
+  written_reads : ReadsAsImage (place_of_writer w) (Some (file_with offsets records w (upto w.written)))
   written_reads = record {
     image = λ made. (
       behind w.synced w.written,
-      bytes_split w.log w.from w.synced w.written records ordered.from ordered.synced
+      bytes_split w.log offsets w.from w.synced w.written records ordered.from ordered.synced (omega (arith, ordered.synced, ordered.written, ordered.sent))
           ∙ ap (λ (front : List ℕ). front ++ behind w.synced w.written)
-          (sym (bytes_front w.log w.from w.synced w.sent records ordered.from (omega (arith, ordered.synced, ordered.written)))),
+          (sym (ap (λ (n : ℕ). take n (upto w.sent)) ordered.covered
+          ∙ bytes_front w.log offsets w.from w.synced w.sent records ordered.from (omega (arith, ordered.synced, ordered.written))
+          (omega (arith, ordered.synced, ordered.written, ordered.sent)))),
     );
     was_sent = λ g bytes at size is read here.
         let bytes_are : upto w.written ≡ bytes = cc in
         let sent_is : upto w.sent ≡ g.sent = ap (λ (o : Option File). sent_of o) is in
-        let split : upto w.sent ≡ upto w.written ++ behind w.written w.sent = bytes_split w.log w.from w.written w.sent records
-        (omega (arith, ordered.from, ordered.synced)) ordered.written in
+        let split : upto w.sent ≡ upto w.written ++ behind w.written w.sent = bytes_split w.log offsets w.from w.written w.sent records
+        (omega (arith, ordered.from, ordered.synced)) ordered.written (omega (arith, ordered.written, ordered.sent)) in
         subst (λ (l : List ℕ). take size (drop at l) ≡ take size (drop at g.sent)) bytes_are
         (chunk_in_front (upto w.written) (behind w.written w.sent) at (log_of (place_of_writer w)) size
         (subst (λ (l : List ℕ). IsChunkOf l at (log_of (place_of_writer w)) size) (sym bytes_are) here)
@@ -98,10 +100,10 @@ module _ (records : List Batch) (w : Writer) (ordered : IsOrdered records w) whe
       sent_of None = []
       sent_of (Some f) = f.sent
 
-  held_reads : (f : Option File) → HoldsRecords records w f → ReadsAsImage (place_of_writer w) f
+  held_reads : (f : Option File) → HoldsRecords offsets records w f → ReadsAsImage (place_of_writer w) f
   held_reads f holds = subst (ReadsAsImage (place_of_writer w)) (sym holds) written_reads
 
-  phase_reads : (phase : Phase) (f : Option File) → phase ≢ New → phase_is_broken phase ≡ false → HasFile phase records w f → ReadsAsImage (place_of_writer w) f
+  phase_reads : (phase : Phase) (f : Option File) → phase ≢ New → phase_is_broken phase ≡ false → HasFile phase offsets records w f → ReadsAsImage (place_of_writer w) f
   phase_reads New f begun whole has = absurd (begun refl)
   phase_reads (InFlight Create id) f begun whole is = fresh_reads w f is
   phase_reads (InFlight Write id) f begun whole holds = held_reads f holds
@@ -122,7 +124,7 @@ unfolding AreJoined
 all_read tells records v told wal index synced [] joined fit none = tt
 all_read tells records v told wal index synced (w ∷ ws) joined fit none =
     let counted = none_counted (is_broken w) (count_by is_broken ws) (sym (count_head w ws) ∙ none) in (
-      phase_reads records w fit.0.ordered w.phase (files v (place_of_writer w)) joined.0.begun counted.0 (fit.0.file told),
+      phase_reads fit.0.offsets records w fit.0.ordered w.phase (files v (place_of_writer w)) joined.0.begun counted.0 (fit.0.file told),
       all_read tells records v told wal (suc index) (max synced w.synced) ws joined.2 fit.1 counted.1,
     )
 

@@ -11,6 +11,7 @@ use Rattle.disk_face.specs.Image.{IsImageOf, log_number}
 use Rattle.disk_face.proofs.Laws.{same_number}
 use Rattle.segment_merge.specs.Merging.{Merged}
 use Rattle.segment_merge.proofs.Laws.{none_within, within_head, within_tail, one_merged, nothing_merged}
+use Rattle.wal_recovery.specs.declared.reports.Mode.TheVariants.{Strict}
 use Rattle.wal_recovery.specs.Listing.{Stored, Wal, name_in, place_in, AreByIndex, AreByNumber, IsOf, StandsIn, IsListingOf}
 use Rattle.wal_recovery.specs.Recovering.{HoldRow, WalMerges, Recovers}
 use Rattle.wal_recovery.proofs.Laws.{wals_more, listed_some}
@@ -98,7 +99,7 @@ module _ (wal : ℕ) (old dirs : Dirs) (same : IsSameElsewhere wal dirs old) (be
 
 -- ---- what is recovered
 
-empty_row : (log : ℕ) (row : List (List Batch)) → HoldRow log [] row → row ≡ []
+empty_row : (log : ℕ) (row : List (List Batch)) → HoldRow Strict log [] row → row ≡ []
 empty_row log [] h = refl
 empty_row log (batches ∷ row) h = absurd h
 

@@ -256,12 +256,14 @@ module _ (tells : Bool) (state : State) (old new : DiskView) (earlier : List Wri
           current = current;
           operation = o;
           id = begins.1.id;
+          size = begins.1.size;
           place = begins.1.place;
           segments_are = is;
           next = ap (next_operation current.phase current.written) (sym goal_is) ∙ some;
           new_is = ap (λ (w : Writer). record state { segments = earlier ++ w ∷ [] })
               (begins.1.moved ∙ ap (λ (n : ℕ). record current {
                 sent = sent_with o n current.sent;
+                size = begins.1.size;
                 place = begins.1.place;
                 waiting = 0;
                 phase = InFlight o begins.1.id;

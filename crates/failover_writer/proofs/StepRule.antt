@@ -189,6 +189,7 @@ begins_whole old new begins = (
 abbrev pub current_then : (old new : State) → StartsNext old new → Writer
 current_then old new next = record next.current {
   sent = sent_with next.operation (len old) next.current.sent;
+  size = next.size;
   place = next.place;
   waiting = 0;
   phase = InFlight next.operation next.id;

@@ -111,12 +111,13 @@ pub record StartsNext (old new : State) : Type 0 where
   pub current : Writer
   pub operation : Operation
   pub id : OpId
+  pub size : ℕ
   pub place : ℕ
   pub segments_are : old.segments ≡ earlier ++ current ∷ []
   pub next : next_operation current.phase current.written (record { len = len old; want = old.want; acked = acked old }) ≡ Some operation
   pub new_is : new ≡ record old {
     segments = earlier ++ record current
-        { sent = sent_with operation (len old) current.sent; place = place; waiting = 0; phase = InFlight operation id } ∷ [];
+        { sent = sent_with operation (len old) current.sent; size = size; place = place; waiting = 0; phase = InFlight operation id } ∷ [];
   }
 
 -- Records that no segment needs any more leave the queue, and nothing else changes.

@@ -188,9 +188,14 @@ fn assert_sent(rt: &impl Abort, disk: &MemDisk, index: u32, bytes: &[u8]) {
 }
 
 /// Two batches, which set `a` to 1 and to 2, as they are framed.
-const TWO_FRAMES: [u8; 56] =
-    *b"\x5e\x28\x29\x10\x11\0\x05\x01\0\0\0\x0a\0\0\0\0\0\0\0\x01\0\0\0\x01\x01a\x011\
-\xc6\x8f\x73\xd5\x11\0\x05\x01\0\0\0\x0b\0\0\0\0\0\0\0\x01\0\0\0\x01\x01a\x012";
+const TWO_FRAMES: [u8; 72] =
+    *b"\x1aJ\xb2\xe4\x11\0\x09\x01\0\0\0\0\0\0\0\0\0\0\0\x0a\0\0\0\0\0\0\0\x01\0\0\0\x01\x01a\x011\
+\x02\xb1\xfc\xbf\x11\0\x09\x01\0\0\0\0\0\0\0\0\0\0\0\x0b\0\0\0\0\0\0\0\x01\0\0\0\x01\x01a\x012";
+
+/// The same, where a sync had covered the first one as the second was written.
+const SECOND_AFTER_SYNC: [u8; 72] =
+    *b"\x1aJ\xb2\xe4\x11\0\x09\x01\0\0\0\0\0\0\0\0\0\0\0\x0a\0\0\0\0\0\0\0\x01\0\0\0\x01\x01a\x011\
+\xdd\x08>\x9f\x11\0\x09\x01\0\0\0\x24\0\0\0\0\0\0\0\x0b\0\0\0\0\0\0\0\x01\0\0\0\x01\x01a\x012";
 
 #[test]
 fn a_stalled_segment_is_followed_by_the_next(rt: HostRuntime) {
@@ -207,6 +212,23 @@ fn a_stalled_segment_is_followed_by_the_next(rt: HostRuntime) {
     let disk = journal.into_disk();
     assert_sent(&rt, &disk, 0, &TWO_FRAMES);
     assert_sent(&rt, &disk, 1, &TWO_FRAMES);
+}
+
+/// The next segment begins with the record that the first one hangs on, and of it no sync has covered a byte.
+#[test]
+fn a_sync_offset_counts_the_bytes_of_its_own_segment(rt: HostRuntime) {
+    let alloc = rt.alloc();
+    let mut journal = journal_of(&rt, alloc, 3);
+    push(&rt, alloc, &mut journal, b'1', true);
+    settle(&rt, &mut journal);
+    assert_eq!(rt; journal.acked(), 1);
+    journal.stall(Side::Primary, 10);
+    push(&rt, alloc, &mut journal, b'2', true);
+    assert_eq!(rt; journal.close(), Ok(()));
+    assert_eq!(rt; (journal.segments(), journal.acked()), (2, 2));
+    let disk = journal.into_disk();
+    assert_sent(&rt, &disk, 0, &SECOND_AFTER_SYNC);
+    assert_sent(&rt, &disk, 1, &TWO_FRAMES[36..]);
 }
 
 #[test]
@@ -321,7 +343,7 @@ fn a_dead_journal_takes_nodes_and_stays_dead(rt: HostRuntime) {
     assert_eq!(rt; (journal.len(), journal.next()), (3, 13));
     assert_eq!(rt; journal.close(), dead);
     assert_eq!(rt; (journal.dead(), journal.acked()), (mark, 0));
-    assert_sent(&rt, &journal.into_disk(), 9, &TWO_FRAMES[..28]);
+    assert_sent(&rt, &journal.into_disk(), 9, &TWO_FRAMES[..36]);
 }
 
 /// The batch with this first number that sets `a` to a digit, if there is memory for it.
@@ -508,5 +530,5 @@ fn a_journal_runs_over_a_script_disk(rt: HostRuntime) {
     assert_eq!(rt; journal.close(), Ok(()));
     assert_eq!(rt; (journal.segments(), journal.acked()), (2, 1));
     let disk = journal.into_disk().into_inner();
-    assert_sent(&rt, &disk, 1, &TWO_FRAMES[..28]);
+    assert_sent(&rt, &disk, 1, &TWO_FRAMES[..36]);
 }

@@ -39,7 +39,7 @@ fn framed(alloc: Global, record: &[u8], count: usize) -> Result<Buf, NoMemory> {
     let mut framer = Framer::new(LOG);
     if record.len() <= RECORD_MAX {
         for _ in 0..count {
-            framer.frame(record, &mut segment)?;
+            framer.frame(record, 0, &mut segment)?;
         }
     }
     Ok(segment)

@@ -66,8 +66,9 @@ flight_beside tells Broken place old new same free = free_beside tells place old
 pub fits_beside : (tells : Bool) (records : List Batch) (w : Writer) (old new : DiskView) → Fits tells records w old
     → SameFile tells (place_of_writer w) old new → Fits tells records w new
 fits_beside tells records w old new fits same = record {
+  offsets = fits.offsets;
   ordered = fits.ordered;
   numbers = fits.numbers;
   flight = flight_beside tells w.phase (place_of_writer w) old new same fits.flight;
-  file = λ told. subst (HasFile w.phase records w) (sym (same.file told)) (fits.file told);
+  file = λ told. subst (HasFile w.phase fits.offsets records w) (sym (same.file told)) (fits.file told);
 }

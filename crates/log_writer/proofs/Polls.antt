@@ -1,5 +1,5 @@
 -- What an answer to a poll leaves, for each operation. An operation in flight is the only one on its file.
-use Rattle.std.proofs.Common.{◌≡◌, ◌≢◌, inl, inr, ◌≤◌, Bool, List, Option, Some, None, IsTrue, ap, sym, subst, ◌∙◌, refl, arith}
+use Rattle.std.proofs.Common.{◌≡◌, ◌≢◌, inl, inr, ℕ, ◌≤◌, Bool, List, length, Option, Some, None, IsTrue, ap, sym, subst, ◌∙◌, refl, arith}
 use Rattle.disk_face.specs.declared.Side.{Side}
 use Rattle.disk_face.specs.declared.OpId.{OpId}
 use Rattle.disk_face.specs.declared.Progress.{Progress}
@@ -13,10 +13,11 @@ use Rattle.log_writer.specs.declared.phase.Operation.TheVariants.{Create, Write,
 use Rattle.log_writer.specs.declared.phase.Phase.{Phase}
 use Rattle.log_writer.specs.declared.phase.Phase.TheVariants.{InFlight, Idle, Broken}
 use Rattle.log_writer.specs.Writer.{Writer}
+use Rattle.log_writer.specs.Parts.{segment_bytes}
 use Rattle.log_writer.specs.Fits.{place_of_writer, act_of, Flies, HasFlight, HasNumbers, IsOrdered, HoldsRecords, HasFile, Fits, SameFile}
 use Rattle.log_writer.specs.Kept.{SegmentKept}
 use Rattle.log_writer.specs.Steps.{TakesPoll, after_answer, synced_with}
-use Rattle.log_writer.proofs.Parts.{no_bytes, bytes_front}
+use Rattle.log_writer.proofs.Parts.{no_bytes, bytes_front, bytes_shorter}
 use Rattle.log_writer.proofs.Fits.{fits_kept, fits_kept_from}
 use Rattle.log_writer.proofs.Beside.{OthersStay, same_disk, ended_elsewhere, two_moments, one_moment, fits_beside}
 
@@ -26,35 +27,50 @@ free_after old new place act id flies ends q f is = elim (same_id q id) [
   | inr ne ↦ flies.alone q ne f (sym (ends.others q ne) ∙ is)
 ]
 
-module _ (records : List Batch) (w : Writer) (ordered : IsOrdered records w) where
+module _ (offsets : ℕ → ℕ) (records : List Batch) (w : Writer) (ordered : IsOrdered offsets records w) where
   none_yet : w.sent ≡ w.from → (w.written ≡ w.from) × (w.synced ≡ w.from)
   none_yet e = (omega (arith, e, ordered.from, ordered.synced, ordered.written), omega (arith, e, ordered.from, ordered.synced, ordered.written))
 
-  done_ordered : (operation : Operation) → IsOrdered records (after_answer operation Done w)
-  done_ordered Create = record {
+  done_ordered : (operation : Operation) (id : OpId) → HasNumbers (InFlight operation id) w → IsOrdered offsets records (after_answer operation Done w)
+  done_ordered Create id e = record {
     log = ordered.log;
     from = ordered.from;
     synced = ordered.synced;
     written = ordered.written;
     sent = ordered.sent;
+    size = ordered.size;
     place = ordered.place;
+    covered = ordered.covered;
+    below = ordered.below;
+    fit = ordered.fit;
   }
-  done_ordered Write = record {
+  done_ordered Write id e = record {
     log = ordered.log;
     from = ordered.from;
     synced = omega (arith, ordered.synced, ordered.written);
     written = omega arith;
     sent = ordered.sent;
+    size = ordered.size;
     place = ordered.place;
+    covered = ordered.covered;
+    below = ordered.below;
+    fit = ordered.fit;
   }
-  done_ordered Sync = record {
-    log = ordered.log;
-    from = omega (arith, ordered.from, ordered.synced);
-    synced = omega arith;
-    written = ordered.written;
-    sent = ordered.sent;
-    place = ordered.place;
-  }
+  done_ordered Sync id e =
+      let shorter = bytes_shorter w.log offsets w.from w.synced w.sent records ordered.from
+      (omega (arith, ordered.synced, ordered.written)) (omega (arith, ordered.synced, ordered.written, ordered.sent)) in
+      record {
+        log = ordered.log;
+        from = omega (arith, ordered.from, ordered.synced);
+        synced = omega arith;
+        written = ordered.written;
+        sent = ordered.sent;
+        size = ordered.size;
+        place = ordered.place;
+        covered = ordered.size ∙ ap (λ (n : ℕ). length (segment_bytes w.log offsets w.from n records)) (sym e);
+        below = λ n. omega (arith, ordered.below n, ordered.covered, ordered.size, shorter);
+        fit = ordered.fit;
+      }
 
   done_numbers : (operation : Operation) (id : OpId) → HasNumbers (InFlight operation id) w → HasNumbers Idle (after_answer operation Done w)
   done_numbers Create id e = (none_yet e).0 ∙ sym e
@@ -62,21 +78,27 @@ module _ (records : List Batch) (w : Writer) (ordered : IsOrdered records w) whe
   done_numbers Sync id e = e
 
   done_file : (operation : Operation) (id : OpId) (f g : Option File) → HasNumbers (InFlight operation id) w
-      → HasFile (InFlight operation id) records w f → AfterDone (act_of operation) f g
-      → HoldsRecords records (after_answer operation Done w) g
+      → HasFile (InFlight operation id) offsets records w f → AfterDone (act_of operation) f g
+      → HoldsRecords offsets records (after_answer operation Done w) g
   done_file Create id f g e is after =
       let now = subst (λ (h : Option File). AfterDone creating h g) is after in
-      now ∙ rw (e, (none_yet e).0, (none_yet e).1, no_bytes w.log w.from records) refl
+      let nothing : w.synced_bytes ≡ 0 = ordered.covered ∙ ap (λ (n : ℕ). length (segment_bytes w.log offsets w.from n records)) (none_yet e).1
+      ∙ ap length (no_bytes w.log offsets w.from records) in
+      now ∙ rw (e, (none_yet e).0, nothing, no_bytes w.log offsets w.from records) refl
   done_file Write id f g e holds after =
       let now = subst (λ (h : Option File). AfterDone writing h g) holds after in
-      let clean = bytes_front w.log w.from w.written w.sent records (omega (arith, ordered.from, ordered.synced)) ordered.written in
+      let clean = bytes_front w.log offsets w.from w.written w.sent records (omega (arith, ordered.from, ordered.synced)) ordered.written
+      (omega (arith, ordered.written, ordered.sent)) in
       now.2 ∙ rw (now.1 (sym clean)) refl
   done_file Sync id f g e holds after =
-      subst (λ (h : Option File). AfterDone syncing h g) holds after
+      let now = subst (λ (h : Option File). AfterDone syncing h g) holds after in
+      let all : length (segment_bytes w.log offsets w.from w.written records) ≡ w.size =
+      ap (λ (n : ℕ). length (segment_bytes w.log offsets w.from n records)) e ∙ sym ordered.size in
+      now ∙ rw (← all) refl
 
   failed_file : (operation : Operation) (id : OpId) (f g : Option File) → HasNumbers (InFlight operation id) w
-      → HasFile (InFlight operation id) records w f → AfterFailed (act_of operation) f g
-      → HasFile Broken records (after_answer operation Failed w) g
+      → HasFile (InFlight operation id) offsets records w f → AfterFailed (act_of operation) f g
+      → HasFile Broken offsets records (after_answer operation Failed w) g
   failed_file Create id f g e is after = inl (e, subst (λ (h : Option File). AfterFailed creating h g) is after)
   failed_file Write id f g e holds after =
       let now = subst (λ (h : Option File). AfterFailed writing h g) holds after in
@@ -84,8 +106,8 @@ module _ (records : List Batch) (w : Writer) (ordered : IsOrdered records w) whe
   failed_file Sync id f g e holds after =
       inr (_, subst (λ (h : Option File). AfterFailed syncing h g) holds after)
 
-  waited_file : (operation : Operation) (id : OpId) (f : Option File) → HasFile (InFlight operation id) records w f
-      → HasFile (InFlight operation id) records (after_answer operation Pending w) f
+  waited_file : (operation : Operation) (id : OpId) (f : Option File) → HasFile (InFlight operation id) offsets records w f
+      → HasFile (InFlight operation id) offsets records (after_answer operation Pending w) f
   waited_file Create id f is = is
   waited_file Write id f holds = holds
   waited_file Sync id f holds = holds
@@ -96,10 +118,32 @@ module _ (records : List Batch) (w : Writer) (ordered : IsOrdered records w) whe
   waited_numbers Write id e = tt
   waited_numbers Sync id e = e
 
-  same_order : (operation : Operation) → IsOrdered records (after_answer operation Pending w) × IsOrdered records (after_answer operation Failed w)
+  same_order : (operation : Operation) → IsOrdered offsets records (after_answer operation Pending w) × IsOrdered offsets records (after_answer operation Failed w)
   same_order operation = (
-    record { log = ordered.log; from = ordered.from; synced = ordered.synced; written = ordered.written; sent = ordered.sent; place = ordered.place },
-    record { log = ordered.log; from = ordered.from; synced = ordered.synced; written = ordered.written; sent = ordered.sent; place = ordered.place },
+    record {
+      log = ordered.log;
+      from = ordered.from;
+      synced = ordered.synced;
+      written = ordered.written;
+      sent = ordered.sent;
+      size = ordered.size;
+      place = ordered.place;
+      covered = ordered.covered;
+      below = ordered.below;
+      fit = ordered.fit;
+    },
+    record {
+      log = ordered.log;
+      from = ordered.from;
+      synced = ordered.synced;
+      written = ordered.written;
+      sent = ordered.sent;
+      size = ordered.size;
+      place = ordered.place;
+      covered = ordered.covered;
+      below = ordered.below;
+      fit = ordered.fit;
+    },
   )
 
 module _ (tells : Bool) (w : Writer) (old new : DiskView) (operation : Operation) (id : OpId) (is : w.phase ≡ InFlight operation id) where
@@ -112,37 +156,40 @@ module _ (tells : Bool) (w : Writer) (old new : DiskView) (operation : Operation
   numbers_now : (records : List Batch) → Fits tells records w old → HasNumbers (InFlight operation id) w
   numbers_now records fits = subst (λ (p : Phase). HasNumbers p w) is fits.numbers
 
-  file_now : (records : List Batch) → Fits tells records w old → IsTrue tells → HasFile (InFlight operation id) records w (files old (place_of_writer w))
-  file_now records fits told = subst (λ (p : Phase). HasFile p records w (files old (place_of_writer w))) is (fits.file told)
+  file_now : (records : List Batch) (fits : Fits tells records w old) → IsTrue tells → HasFile (InFlight operation id) fits.offsets records w (files old (place_of_writer w))
+  file_now records fits told = subst (λ (p : Phase). HasFile p fits.offsets records w (files old (place_of_writer w))) is (fits.file told)
 
   pub polled_fits : (records : List Batch) (answer : Progress) → Fits tells records w old → Polled tells id old new answer
       → Fits tells records (after_answer operation answer w) new
   polled_fits records Pending fits polled =
       fits_beside tells records (after_answer operation Pending w) old new
       (record {
-        ordered = (same_order records w fits.ordered operation).0;
+        offsets = fits.offsets;
+        ordered = (same_order fits.offsets records w fits.ordered operation).0;
         numbers = subst (λ (p : Phase). HasNumbers p (after_answer operation Pending w)) (sym is)
-            (waited_numbers records w fits.ordered operation id (numbers_now records fits));
+            (waited_numbers fits.offsets records w fits.ordered operation id (numbers_now records fits));
         flight = fits.flight;
-        file = λ told. subst (λ (p : Phase). HasFile p records (after_answer operation Pending w) (files old (place_of_writer w))) (sym is)
-            (waited_file records w fits.ordered operation id (files old (place_of_writer w)) (file_now records fits told));
+        file = λ told. subst (λ (p : Phase). HasFile p fits.offsets records (after_answer operation Pending w) (files old (place_of_writer w))) (sym is)
+            (waited_file fits.offsets records w fits.ordered operation id (files old (place_of_writer w)) (file_now records fits told));
       })
       (same_disk tells (place_of_writer w) old new polled.same)
   polled_fits records Done fits polled = record {
-    ordered = done_ordered records w fits.ordered operation;
-    numbers = done_numbers records w fits.ordered operation id (numbers_now records fits);
+    offsets = fits.offsets;
+    ordered = done_ordered fits.offsets records w fits.ordered operation id (numbers_now records fits);
+    numbers = done_numbers fits.offsets records w fits.ordered operation id (numbers_now records fits);
     flight = free_after old new (place_of_writer w) (act_of operation) id (flies_now records fits) polled.ends;
     file = λ told.
-        done_file records w fits.ordered operation id (files old (place_of_writer w)) (files new (place_of_writer w))
+        done_file fits.offsets records w fits.ordered operation id (files old (place_of_writer w)) (files new (place_of_writer w))
         (numbers_now records fits) (file_now records fits told)
         (polled.file told flight (flies_now records fits).here).here;
   }
   polled_fits records Failed fits polled = record {
-    ordered = (same_order records w fits.ordered operation).1;
+    offsets = fits.offsets;
+    ordered = (same_order fits.offsets records w fits.ordered operation).1;
     numbers = tt;
     flight = free_after old new (place_of_writer w) (act_of operation) id (flies_now records fits) polled.ends;
     file = λ told.
-        failed_file records w fits.ordered operation id (files old (place_of_writer w)) (files new (place_of_writer w))
+        failed_file fits.offsets records w fits.ordered operation id (files old (place_of_writer w)) (files new (place_of_writer w))
         (numbers_now records fits) (file_now records fits told)
         (polled.file told flight (flies_now records fits).here).here;
   }

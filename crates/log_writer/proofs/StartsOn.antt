@@ -1,5 +1,6 @@
 -- What the start of the next operation leaves, for each operation.
-use Rattle.std.proofs.Common.{◌≡◌, ℕ, ◌<◌, Bool, true, false, List, ◌++◌, length, Some, None, IsTrue, ap, sym, subst, ◌∙◌, refl, arith, nat_lt}
+use Rattle.crc_chunk.specs.declared.chunk.TheConstants.{BLOCK}
+use Rattle.std.proofs.Common.{◌≡◌, ℕ, ◌+◌, ◌%◌, ◌^◌, ◌<◌, ◌≤◌, Bool, true, false, List, ◌++◌, length, Some, None, IsTrue, ap, sym, subst, ◌∙◌, refl, arith, nat_lt}
 use Rattle.std.specs.Prelude.{not, ◌&&◌, if◌then◌else◌}
 use Rattle.std.proofs.lemmas.Bool.{ltb-true}
 use Rattle.std.proofs.lemmas.List.{length-append, length-drop}
@@ -22,6 +23,7 @@ use Rattle.log_writer.specs.Sending.{frames_of, sending}
 use Rattle.log_writer.proofs.Fits.{fits_kept}
 use Rattle.log_writer.proofs.Beside.{two_moments}
 use Rattle.log_writer.proofs.FramesFrom.{frames_complete}
+use Rattle.log_writer.proofs.Parts.{offsets_from, offsets_each, bytes_before}
 
 -- where an operation is the next one
 abbrev IsReadyFor : Operation → ℕ → ℕ → Phase → Type 0
@@ -56,23 +58,34 @@ abbrev begun : Operation → OpId → Queue → ℕ → Writer → Writer
 begun operation id queue len w = record (sending operation queue len w) { waiting = 0; phase = InFlight operation id }
 
 module _ (tells : Bool) (w : Writer) (queue : Queue) (goal : Goal) (old new : DiskView) (id : OpId) (records : List Batch)
-    (fits : Fits tells records w old) (is_queue : IsQueueOf records queue) (held : HoldsPart queue w.sent goal.len) where
-  abbrev ordered : IsOrdered records w
+    (fits : Fits tells records w old) (is_queue : IsQueueOf records queue) (held : HoldsPart queue w.sent goal.len)
+    (small : w.synced_bytes < 2 ^ 64) where
+  abbrev offsets : ℕ → ℕ
+  offsets = fits.offsets
+
+  abbrev ordered : IsOrdered offsets records w
   ordered = fits.ordered
 
   in_phase : (phase : Phase) → w.phase ≡ phase → HasNumbers phase w × HasFlight phase (place_of_writer w) old
-      × (IsTrue tells → HasFile phase records w (files old (place_of_writer w)))
+      × (IsTrue tells → HasFile phase offsets records w (files old (place_of_writer w)))
   in_phase phase is = (
     subst (λ (p : Phase). HasNumbers p w) is fits.numbers,
     subst (λ (p : Phase). HasFlight p (place_of_writer w) old) is fits.flight,
-    λ told. subst (λ (p : Phase). HasFile p records w (files old (place_of_writer w))) is (fits.file told),
+    λ told. subst (λ (p : Phase). HasFile p offsets records w (files old (place_of_writer w))) is (fits.file told),
   )
 
   -- The bytes of the segment once all records are sent.
-  completed : w.written ≡ w.sent → w.written < goal.len → segment_bytes w.log w.from goal.len records ≡ segment_bytes w.log w.from w.sent
+  abbrev with_more : ℕ → ℕ
+  with_more = offsets_from w.sent offsets w.synced_bytes
+
+  completed : w.written ≡ w.sent → w.written < goal.len → segment_bytes w.log with_more w.from goal.len records ≡ segment_bytes w.log offsets w.from w.sent
       records ++ frames_of queue w goal.len
-  completed rests more = frames_complete records queue w goal.len is_queue held.start
-      (omega (arith, ordered.from, ordered.synced, ordered.written)) (omega (arith, rests, more)) ordered.place
+  completed rests more = frames_complete offsets records queue w goal.len is_queue held.start
+      (omega (arith, ordered.from, ordered.synced, ordered.written)) (omega (arith, rests, more)) ordered.sent
+      (ordered.place ∙ ap (λ (n : ℕ). n % BLOCK) ordered.size)
+
+  before : (to : ℕ) → to ≤ w.sent → segment_bytes w.log with_more w.from to records ≡ segment_bytes w.log offsets w.from to records
+  before to le = bytes_before w.log offsets w.synced_bytes w.from to w.sent records le
 
   pub begun_fits : (operation : Operation) → next_operation w.phase w.written goal ≡ Some operation
       → Starts (record { place = place_of_writer w; act = act_of operation }) w.side id old new
@@ -86,13 +99,18 @@ module _ (tells : Bool) (w : Writer) (queue : Queue) (goal : Goal) (old new : Di
       go Create is starts file =
           let was = in_phase New is in
           record {
+            offsets = offsets;
             ordered = record {
               log = ordered.log;
               from = ordered.from;
               synced = ordered.synced;
               written = ordered.written;
               sent = ordered.sent;
+              size = ordered.size;
               place = ordered.place;
+              covered = ordered.covered;
+              below = ordered.below;
+              fit = ordered.fit;
             };
             numbers = was.0;
             flight = flies_from old new w Create id was.1 starts;
@@ -101,13 +119,18 @@ module _ (tells : Bool) (w : Writer) (queue : Queue) (goal : Goal) (old new : Di
       go Sync is starts file =
           let was = in_phase Idle is in
           record {
+            offsets = offsets;
             ordered = record {
               log = ordered.log;
               from = ordered.from;
               synced = ordered.synced;
               written = ordered.written;
               sent = ordered.sent;
+              size = ordered.size;
               place = ordered.place;
+              covered = ordered.covered;
+              below = ordered.below;
+              fit = ordered.fit;
             };
             numbers = was.0;
             flight = flies_from old new w Sync id was.1 starts;
@@ -117,18 +140,27 @@ module _ (tells : Bool) (w : Writer) (queue : Queue) (goal : Goal) (old new : Di
           let was = in_phase Idle is.0 in
           let whole = completed was.0 is.1 in
           let frames : List ℕ = frames_of queue w goal.len in
+          let size : w.size + length frames ≡ length (segment_bytes w.log with_more w.from goal.len records) =
+          omega (arith, ordered.size, ap length whole, length-append (segment_bytes w.log offsets w.from w.sent records) frames) in
+          let written_same : segment_bytes w.log with_more w.from w.written records ≡ segment_bytes w.log offsets w.from w.written records =
+          before w.written (omega (arith, ordered.written)) in
           record {
+            offsets = with_more;
             ordered = record {
               log = ordered.log;
               from = ordered.from;
               synced = ordered.synced;
               written = omega (arith, is.1);
               sent = omega (arith, held.end, is_queue.start, ap length is_queue.holds, length-drop queue.start records);
-              place = omega (arith, ordered.place, ap length whole, length-append (segment_bytes w.log w.from w.sent records) frames);
+              size = size;
+              place = omega (arith, ordered.place);
+              covered = ordered.covered ∙ ap length (sym (before w.synced (omega (arith, ordered.synced, ordered.written))));
+              below = offsets_each (λ (n : ℕ). n ≤ w.synced_bytes) w.sent offsets w.synced_bytes ordered.below (omega arith);
+              fit = offsets_each (λ (n : ℕ). n < 2 ^ 64) w.sent offsets w.synced_bytes ordered.fit small;
             };
             numbers = tt;
             flight = flies_from old new w Write id was.1 starts;
-            file = λ told. (file told).here ∙ ap (after_start writing frames) (was.2 told) ∙ rw (← whole) refl;
+            file = λ told. (file told).here ∙ ap (after_start writing frames) (was.2 told) ∙ rw (← whole, ← written_same) refl;
           }
 
   pub begun_moments : (operation : Operation) → GoesOn old new → next_operation w.phase w.written goal ≡ Some operation

@@ -1,5 +1,5 @@
 -- What the calls of a writer promise, in words over its disk (docs/formats/journal.md, "The writer of a segment").
-use Rattle.std.specs.Prelude.{◌≡◌, ◌≢◌, ◌≤◌, ℕ, Bool, List, [], ◌∷◌, length, IsTrue}
+use Rattle.std.specs.Prelude.{◌≡◌, ◌≢◌, ◌≤◌, ℕ, Bool, Option, Some, None, List, [], ◌∷◌, length, IsTrue}
 use Rattle.disk_face.specs.declared.Side.{Side}
 use Rattle.disk_face.specs.declared.SegName.{SegName}
 use Rattle.disk_face.specs.declared.OpId.{OpId}
@@ -13,7 +13,7 @@ use Rattle.log_writer.specs.declared.phase.Operation.{Operation}
 use Rattle.log_writer.specs.declared.phase.Phase.{Phase}
 use Rattle.log_writer.specs.declared.phase.Phase.TheVariants.{New, InFlight}
 use Rattle.log_writer.specs.Writer.{Writer}
-use Rattle.log_writer.specs.Fits.{place_of_writer, flight_on, IsUnsent, Fits, SameFile}
+use Rattle.log_writer.specs.Fits.{place_of_writer, act_of, flight_on, IsUnsent, Fits, SameFile}
 use Rattle.log_writer.specs.Kept.{SegmentKept}
 use Rattle.log_writer.specs.Steps.{IsQueueOf, next_operation, BeginsJust, TakesPoll, after_answer}
 use Rattle.log_writer.specs.Sending.{frames_of}
@@ -30,6 +30,8 @@ unstarted side name log from = record {
   sent = from;
   written = from;
   synced = from;
+  size = 0;
+  synced_bytes = 0;
   place = 0;
   waiting = 0;
   phase = New;
@@ -105,6 +107,16 @@ AsksToStart act w before after id = Makes (was_started id (flight_on act w) ∷ 
 abbrev pub SendsUpTo : Bool → Act → Queue → ℕ → Writer → DiskView → DiskView → Type 0
 SendsUpTo tells act queue len w before after = IsTrue tells → ChangesFile (place_of_writer w)
     (λ f g. g ≡ after_start act (frames_of queue w len) f) before after
+
+-- The writer's file changes so where this operation is started.
+abbrev pub SendsJust : Option Operation → Bool → Queue → ℕ → Writer → DiskView → DiskView → Type 0
+SendsJust None tells queue len w before after = Unit {0}
+SendsJust (Some operation) tells queue len w before after = SendsUpTo tells (act_of operation) queue len w before after
+
+-- The writer's file changes as the next operation of the goal is started. A write sends all records up to `len`, each with what a
+-- completed sync covers of the file now as its sync offset.
+abbrev pub SendsForGoal : Bool → Queue → Goal → Writer → DiskView → DiskView → Type 0
+SendsForGoal tells queue goal w before after = SendsJust (next_operation w.phase w.written goal) tells queue goal.len w before after
 
 -- The next operation of the goal was started, and nothing where there is none.
 abbrev pub StartsForGoal : Goal → Writer → Writer → DiskView → DiskView → Bool → Type 0

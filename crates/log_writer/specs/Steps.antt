@@ -48,10 +48,11 @@ sent_with Sync len sent = sent
 -- One operation more is in flight, on the writer's file, and it is the writer's. The disk was asked for nothing else.
 pub record Begins (operation : Operation) (len : ℕ) (old new : Writer) (before after : DiskView) : Type 0 where
   pub id : OpId
+  pub size : ℕ
   pub place : ℕ
   pub starts : Starts (flight_on (act_of operation) old) old.side id before after
   pub noted : Makes (was_started id (flight_on (act_of operation) old) ∷ []) before after
-  pub moved : new ≡ record old { sent = sent_with operation len old.sent; place = place; waiting = 0; phase = InFlight operation id }
+  pub moved : new ≡ record old { sent = sent_with operation len old.sent; size = size; place = place; waiting = 0; phase = InFlight operation id }
 
 -- The operation was started, and nothing where there is none.
 abbrev pub BeginsJust : Option Operation → ℕ → Bool → Writer → Writer → DiskView → DiskView → Type 0
@@ -70,10 +71,16 @@ synced_with Create w = w.synced
 synced_with Write w = w.synced
 synced_with Sync w = w.written
 
+-- how many bytes a completed sync covers, once an operation is done: all that were sent as it started
+abbrev pub bytes_with : Operation → Writer → ℕ
+bytes_with Create w = w.synced_bytes
+bytes_with Write w = w.synced_bytes
+bytes_with Sync w = w.size
+
 -- the writer once its operation is answered
 abbrev pub after_answer : Operation → Progress → Writer → Writer
 after_answer operation Pending w = record w { waiting = min WAITING_MAX (w.waiting + 1) }
-after_answer operation Done w = record w { written = written_with operation w; synced = synced_with operation w; waiting = 0; phase = Idle }
+after_answer operation Done w = record w { written = written_with operation w; synced = synced_with operation w; synced_bytes = bytes_with operation w; waiting = 0; phase = Idle }
 after_answer operation Failed w = record w { phase = Broken }
 
 -- one poll where the answer is pending

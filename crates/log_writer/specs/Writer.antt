@@ -18,6 +18,10 @@ pub record Writer : Type 0 where
   pub written : ℕ
   -- the end of what a completed sync covers
   pub synced : ℕ
+  -- how many bytes writes were started for
+  pub size : ℕ
+  -- how many bytes a completed sync covers
+  pub synced_bytes : ℕ
   -- where the next record begins in its block
   pub place : ℕ
   -- how often the operation in flight was pending, counted to 1,000

@@ -9,8 +9,8 @@ ghost use Rattle.log_writer.specs.declared.phase.Operation.TheVariants.{Write};
 ghost use Rattle.log_writer.specs.declared.phase.Phase.TheVariants.{Broken};
 ghost use Rattle.log_writer.specs.Fits.{IsBusy, place_of_writer, act_of};
 ghost use Rattle.log_writer.specs.Steps.{HoldsPart, next_operation};
-ghost use Rattle.log_writer.specs.Sending.{frames_at, sending};
-ghost use Rattle.log_writer.specs.Promises.{MayStartOwn, StartsOn, AsksToStart, SendsUpTo, StartsForGoal};
+ghost use Rattle.log_writer.specs.Sending.{frames_at, HasFrames, sending};
+ghost use Rattle.log_writer.specs.Promises.{MayStartOwn, StartsOn, AsksToStart, SendsUpTo, SendsForGoal, StartsForGoal};
 ghost use Rattle.log_writer.specs.Promises.{FitsQueue, StaysFittingQueue, QueueKept};
 ghost use Rattle.log_writer.specs.Promises.{SameElsewhere, RestUntouched};
 
@@ -18,42 +18,52 @@ use crate::goal::Goal;
 use crate::phase::{Operation, Phase};
 use crate::writer::LogWriter;
 use block_record::Framer;
-use crc_chunk::{BLOCK, HEADER};
 use disk_face::{Disk, DiskOp, OpId};
 use record_queue::RecordQueue;
 use wal_base::{Buf, NoMemory};
 
-/// How many bytes the frames of the records from one number to below another have at the most. With so much room no
-/// byte is copied twice.
-fn room_for(queue: &RecordQueue, from: u64, to: u64) -> usize {
-    let mut room: usize = 0;
+/// How many bytes the frames of the records from one number to below another have, from where the framer stands. `Err`
+/// means that no memory is so large.
+fn frames_len(framer: &Framer, queue: &RecordQueue, from: u64, to: u64) -> Result<usize, NoMemory>
+    requires held { HoldsPart queue.now from to }
+    requires in_block { framer.now.place < BLOCK }
+    ensures { IfOk result (HasFrames queue.now framer.now from to) }
+{
+    let mut passed = *framer;
+    let mut len: usize = 0;
     for number in from..to {
-        let len = queue.get(number).map_or(0, |record| record.bytes().len());
-        // A chunk for each block that is filled, one in front and one after, and then the zeros of a block's end.
-        let headers = (len / (BLOCK - HEADER) + 3).saturating_mul(HEADER);
-        room = room.saturating_add(len).saturating_add(headers);
+        let Some(record) = queue.get(number) else {
+            unreachable!();
+        };
+        let framed = passed.pass_over(record.bytes().len());
+        let Some(more) = len.checked_add(framed) else {
+            return Err(NoMemory);
+        };
+        len = more;
     }
-    room
+    Ok(len)
 }
 
-/// Frames the records from one number to below another. After an error a part of them may stand in `out`.
+/// Frames the records from one number to below another, each with this sync offset. After an error a part of them may
+/// stand in `out`.
 fn frame_records(
     framer: &mut Framer,
     out: &mut Buf,
     queue: &RecordQueue,
+    offset: u64,
     from: u64,
     to: u64,
 ) -> Result<(), NoMemory>
     requires held { HoldsPart queue.now from to }
     requires in_block { framer.old.place < BLOCK }
-    ensures framed { OnOk result (out.new ≡ out.old ++ frames_at queue.now framer.old from to) }
-    ensures moved { OnOk result (framer.new ≡ standing_after framer.old (frames_at queue.now framer.old from to)) }
+    ensures framed { OnOk result (out.new ≡ out.old ++ frames_at queue.now framer.old offset from to) }
+    ensures moved { OnOk result (framer.new ≡ standing_after framer.old (frames_at queue.now framer.old offset from to)) }
 {
     for number in from..to {
         let Some(record) = queue.get(number) else {
             unreachable!();
         };
-        framer.frame(record.bytes(), out)?;
+        framer.frame(record.bytes(), offset, out)?;
     }
     Ok(())
 }
@@ -75,7 +85,7 @@ impl LogWriter {
         }
     }
 
-    /// Writes all records from `sent` up to `len`, framed in one buffer.
+    /// Writes all records from `sent` up to `len`, framed in one buffer, each with what a completed sync covers now.
     fn write<D: Disk>(
         &mut self,
         disk: &mut D,
@@ -95,8 +105,20 @@ impl LogWriter {
         ensures err { OnErr result ((self.new ≡ self.old) × (D.view disk.new ≡ D.view disk.old)) }
     {
         let mut framer = self.framer;
-        let mut frames = Buf::with_capacity(self.alloc, room_for(queue, self.sent, len))?;
-        frame_records(&mut framer, &mut frames, queue, self.sent, len)?;
+        // With so much room no byte is copied twice.
+        let room = frames_len(&framer, queue, self.sent, len)?;
+        let Some(size) = self.size.checked_add(room as u64) else {
+            return Err(NoMemory);
+        };
+        let mut frames = Buf::with_capacity(self.alloc, room)?;
+        frame_records(
+            &mut framer,
+            &mut frames,
+            queue,
+            self.synced_bytes,
+            self.sent,
+            len,
+        )?;
         let id = disk.start(DiskOp::Write {
             side: self.side,
             name: self.name,
@@ -104,6 +126,7 @@ impl LogWriter {
         })?;
         self.framer = framer;
         self.sent = len;
+        self.size = size;
         Ok(id)
     }
 
@@ -153,6 +176,7 @@ impl LogWriter {
         ensures goes_on { GoesOn (D.view disk.old) (D.view disk.new) }
         ensures stalls { (D.view disk.new).polls_left ≡ (D.view disk.old).polls_left }
         ensures starts { IfOk result (StartsForGoal goal.now self.old self.new (D.view disk.old) (D.view disk.new)) }
+        ensures sends { OnOk result (SendsForGoal D.tells queue.now goal.now self.old (D.view disk.old) (D.view disk.new)) }
         ensures err { OnErr result ((self.new ≡ self.old) × (D.view disk.new ≡ D.view disk.old)) }
         ensures fits { StaysFittingQueue D.tells queue.now self.old self.new (D.view disk.old) (D.view disk.new) }
 

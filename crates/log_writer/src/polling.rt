@@ -26,7 +26,10 @@ impl LogWriter {
                 match operation {
                     Operation::Create => {}
                     Operation::Write => self.written = self.sent,
-                    Operation::Sync => self.synced = self.written,
+                    Operation::Sync => {
+                        self.synced = self.written;
+                        self.synced_bytes = self.size;
+                    }
                 }
                 self.waiting = 0;
                 self.phase = Phase::Idle;

@@ -27,6 +27,9 @@ pub struct LogWriter {
     pub(crate) sent: u64,
     pub(crate) written: u64,
     pub(crate) synced: u64,
+    // How many bytes writes were started for.
+    pub(crate) size: u64,
+    pub(crate) synced_bytes: u64,
     pub(crate) waiting: u32,
     pub(crate) phase: Phase,
     // Stands after the records that were sent.
@@ -39,12 +42,12 @@ impl Model for LogWriter {
 
     ghost Value = { Writer };
 
-    ghost view = { λ a. record { side = a.side; name = a.name; log = a.framer.log; from = a.from; sent = a.sent; written = a.written; synced = a.synced; place = a.framer.place; waiting = a.waiting; phase = a.phase } };
+    ghost view = { λ a. record { side = a.side; name = a.name; log = a.framer.log; from = a.from; sent = a.sent; written = a.written; synced = a.synced; size = a.size; synced_bytes = a.synced_bytes; place = a.framer.place; waiting = a.waiting; phase = a.phase } };
 
-    ghost use Rattle.std.specs.Prelude.{◌≤◌};
+    ghost use Rattle.std.specs.Prelude.{◌≤◌, ◌<◌, ◌^◌};
     ghost use Rattle.log_writer.specs.declared.polling.TheConstants.{WAITING_MAX};
 
-    ghost invariant = { λ a. a.waiting ≤ WAITING_MAX };
+    ghost invariant = { λ a. (a.waiting ≤ WAITING_MAX) × (a.synced_bytes < 2 ^ 64) };
 }
 
 impl LogWriter {
@@ -68,6 +71,8 @@ impl LogWriter {
             sent: from,
             written: from,
             synced: from,
+            size: 0,
+            synced_bytes: 0,
             waiting: 0,
             phase: Phase::New,
             framer: Framer::new(log),
@@ -101,6 +106,13 @@ impl LogWriter {
         ensures { result ≡ self.now.synced }
     {
         self.synced
+    }
+
+    /// How many bytes of its file a completed sync covers: 0 at first.
+    pub fn synced_bytes(&self) -> u64
+        ensures { result ≡ self.now.synced_bytes }
+    {
+        self.synced_bytes
     }
 
     /// How often the operation in flight was answered `Pending`, counted to `WAITING_MAX` and no further. It is 0 after an

@@ -6,7 +6,7 @@ ghost use Rattle.disk_face.specs.Answers.{MayStartOn};
 ghost use Rattle.mem_disk.specs.Changes.{FlightsStay, IsPerformed};
 
 use crate::{CrashPick, FilePick, FilePicks, MemDisk};
-use crc_chunk::{ChunkKind, HEADER, put_chunk};
+use crc_chunk::{ChunkKind, HEADER, put_chunk, put_sync_chunk};
 use disk_face::{Disk, DiskErr, DiskOp, Listed, Progress, ScriptDisk, SegName, Side, StallDisk};
 use std::alloc::Global;
 use std::process::Abort;
@@ -196,6 +196,13 @@ fn chunk_of(first: u8) -> [u8; 28] {
     chunk
 }
 
+/// A record of nine bytes as a chunk of the log 1 with a sync offset.
+fn sync_chunk_of(offset: u64) -> [u8; 28] {
+    let mut chunk = [0; 28];
+    put_sync_chunk(&mut chunk, ChunkKind::Full, 1, offset, b"a record.");
+    chunk
+}
+
 /// A disk with a segment of which two chunks are stable, and a third one was sent.
 fn with_chunks(alloc: Global) -> Result<MemDisk, Stopped> {
     let chunks = [chunk_of(10), chunk_of(11), chunk_of(12)];
@@ -234,6 +241,11 @@ fn a_crash_leaves_the_stable_bytes_and_the_tail(rt: HostRuntime) -> Result<(), S
     // No chunk, by its checksum; and one that was not sent.
     assert!(rt; crash_to_tail(alloc, &changed)? == [true, true]);
     assert!(rt; crash_to_tail(alloc, &chunk_of(13))? == [false, true]);
+    // The checksum covers a sync offset.
+    let mut changed = sync_chunk_of(56);
+    changed[HEADER] = 28;
+    assert!(rt; crash_to_tail(alloc, &sync_chunk_of(56))? == [false, true]);
+    assert!(rt; crash_to_tail(alloc, &changed)? == [true, true]);
     Ok(())
 }
 

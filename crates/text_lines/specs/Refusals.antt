@@ -32,3 +32,7 @@ gap_line name expected found = codes "refused gap " ++ seg_text name ++ codes " 
 -- `refused conflict NAME F`
 abbrev pub conflict_line : SegName → ℕ → List ℕ
 conflict_line name first = codes "refused conflict " ++ seg_text name ++ codes " " ++ decimal first ++ 10 ∷ []
+
+-- `refused corrupt NAME AT SHOWN`
+abbrev pub corrupt_line : SegName → ℕ → ℕ → List ℕ
+corrupt_line name at shown_at = codes "refused corrupt " ++ seg_text name ++ codes " " ++ decimal at ++ codes " " ++ decimal shown_at ++ 10 ∷ []

@@ -19,6 +19,6 @@ mod tests;
 pub use batches::put_batch;
 pub use pieces::{Piece, put_pieces};
 pub use printed::{put_number, put_printed};
-pub use refusals::{put_bad_batch, put_conflict, put_duplicate, put_gap};
+pub use refusals::{put_bad_batch, put_conflict, put_corrupt, put_duplicate, put_gap};
 pub use segments::{SegmentLine, put_recovered_end, put_segment, side_name};
 pub use store::put_store;

@@ -2,7 +2,7 @@
 
 ghost use Rattle.std.specs.Prelude.{◌≡◌, ◌≢◌, ◌++◌, take, length, codes, decimal, OnOk, OnErr};
 ghost use Rattle.batch_repr.specs.declared.fault.BatchFault.TheVariants as faults;
-ghost use Rattle.text_lines.specs.Refusals.{duplicate_line, fault_words, bad_batch_line, gap_line, conflict_line};
+ghost use Rattle.text_lines.specs.Refusals.{duplicate_line, fault_words, bad_batch_line, gap_line, conflict_line, corrupt_line};
 
 use crate::pieces::whole_or_none;
 use crate::{Piece, put_pieces};
@@ -137,4 +137,22 @@ fn put_two(out: &mut Buf, word: &[u8], number: u64, other: u64) -> Result<(), No
         Piece::Number(other),
     ];
     put_pieces(out, &words)
+}
+
+/// Adds the line of a segment whose bytes at a place are corrupt, as a later chunk shows. On out of memory the text is as
+/// it was.
+pub fn put_corrupt(out: &mut Buf, name: SegName, at: u64, shown_at: u64) -> Result<(), NoMemory>
+    ensures ok { OnOk result (out.new ≡ out.old ++ corrupt_line name at shown_at) }
+    ensures err { OnErr result (out.new ≡ out.old) }
+{
+    let line = [
+        Piece::Text(b"refused corrupt "),
+        Piece::Name(name),
+        Piece::Text(b" "),
+        Piece::Number(at),
+        Piece::Text(b" "),
+        Piece::Number(shown_at),
+        Piece::Text(b"\n"),
+    ];
+    put_pieces(out, &line)
 }

@@ -1,6 +1,6 @@
 use crate::{
-    SegmentLine, put_bad_batch, put_batch, put_conflict, put_duplicate, put_gap, put_number,
-    put_printed, put_recovered_end, put_segment, put_store, side_name,
+    SegmentLine, put_bad_batch, put_batch, put_conflict, put_corrupt, put_duplicate, put_gap,
+    put_number, put_printed, put_recovered_end, put_segment, put_store, side_name,
 };
 use batch_repr::{Batch, BatchBuilder, BatchFault, BuildFault};
 use disk_face::{SegName, Side};
@@ -132,14 +132,15 @@ fn a_refusal_has_one_line(rt: HostRuntime) {
     let mut out = Buf::new(rt.alloc()).expect(&rt, "memory");
     let put = put_refusals(&mut out);
     let text =
-        b"refused duplicate 000001.log\nrefused gap 000001-001.log expected 13 found 15\nrefused conflict 000001-001.log 12\n";
+        b"refused duplicate 000001.log\nrefused gap 000001-001.log expected 13 found 15\nrefused conflict 000001-001.log 12\nrefused corrupt 000001.log 28 32768\n";
     assert!(rt; put.is_ok() && out.as_slice() == text.as_slice());
 }
 
 fn put_refusals(out: &mut Buf) -> Result<(), NoMemory> {
     put_duplicate(out, NAME)?;
     put_gap(out, LATER, 13, 15)?;
-    put_conflict(out, LATER, 12)
+    put_conflict(out, LATER, 12)?;
+    put_corrupt(out, NAME, 28, 32_768)
 }
 
 #[test]

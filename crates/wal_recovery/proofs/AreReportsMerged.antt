@@ -16,6 +16,7 @@ use Rattle.disk_face.specs.View.{Files}
 use Rattle.disk_face.specs.Image.{dirs_as_read, log_number}
 use Rattle.wal_recovery.specs.declared.fault.RecoverFault.{RecoverFault}
 use Rattle.wal_recovery.specs.declared.fault.RecoverFault.TheVariants as faults
+use Rattle.wal_recovery.specs.declared.reports.Mode.TheVariants.{Strict, Lenient}
 use Rattle.wal_recovery.specs.declared.reports.SegReport.{SegReport}
 use Rattle.wal_recovery.specs.declared.wals.FoundWal.{FoundWal}
 use Rattle.wal_recovery.specs.Listing.{Stored, Wal, IsListingOf}
@@ -29,13 +30,13 @@ use Rattle.wal_recovery.specs.OneWal.{HoldsRow, IsLenientlyRefusedWal}
 use Rattle.wal_recovery.proofs.IsReportOf.{row_holds, batches_by_index}
 use Rattle.wal_recovery.proofs.GathersWal.{counted_length, stored_length}
 use Rattle.wal_recovery.proofs.AtWal.{StandsAt, cut_at, listed_at}
-use Rattle.wal_recovery.proofs.OneWal.{own_of, bad_refused}
+use Rattle.wal_recovery.proofs.OneWal.{own_of, bad_in_wal}
 use Rattle.wal_recovery.proofs.ReportOnAll.{lenient_numbered}
 
 -- ---- reports hold the row of their segments
 
 wal_holds : (number : ℕ) (segments : List Stored) (own : List SegReport) → AllZip (IsReport number) segments own
-    → HoldRow (log_number number) segments (counted_in own)
+    → HoldRow Lenient (log_number number) segments (counted_in own)
 wal_holds number [] [] on = tt
 wal_holds number [] (r ∷ own) on = absurd on
 wal_holds number (s ∷ segments) [] on = absurd on
@@ -44,7 +45,9 @@ wal_holds number (s ∷ segments) (r ∷ own) on = (
     records = on.0.records;
     ends_at = r.ends_at;
     torn = r.torn;
+    shown = on.0.shown;
     read = on.0.read;
+    passes = tt;
     all = r.batches;
     spelled = on.0.batches;
     counted_are = refl;
@@ -63,7 +66,7 @@ reports_hold (wal ∷ wals) reports (own, later, on, rest, is) =
 
 -- ---- rows under indexes
 
-pub by_index_append : (log : ℕ) (segments more : List Stored) (own later : List (List Batch)) → HoldRow log segments own
+pub by_index_append : (log : ℕ) (segments more : List Stored) (own later : List (List Batch)) → HoldRow Lenient log segments own
     → by_index (segments ++ more) (own ++ later) ≡ by_index segments own ++ by_index more later
 by_index_append log [] more [] later h = refl
 by_index_append log [] more (b ∷ own) later h = absurd h
@@ -88,7 +91,7 @@ all_batches (wal ∷ wals) rows (own, later, here, rest, is) =
     ap (λ (r : List (List Batch)). batches_in (by_index (wal.segments ++ segments_of wals) r)) is
     ∙ ap batches_in (by_index_append (log_number wal.number) wal.segments (segments_of wals) own later here)
     ∙ batches_append (by_index wal.segments own) (by_index (segments_of wals) later)
-    ∙ ap (λ (r : List (List Batch)). r ++ batches_in (by_index (segments_of wals) later)) (batches_by_index (log_number wal.number) wal.segments own here)
+    ∙ ap (λ (r : List (List Batch)). r ++ batches_in (by_index (segments_of wals) later)) (batches_by_index Lenient (log_number wal.number) wal.segments own here)
     ∙ ap (λ (r : List (List Batch)). own ++ r) (all_batches wals later rest)
     ∙ sym is
 
@@ -120,13 +123,13 @@ reports_numbered reports merged a = lenient_numbered (as_row reports) merged
 module _ (tells : Bool) (files : Files) where
   -- with one WAL more
   pub reports_more : (wal : FoundWal) (old new : List SegReport) (row : List SegmentRead) (merged longer : List Batch)
-      → GathersWal tells files wal.segments.items old new row → AreReportsMerged old merged
+      → GathersWal tells Lenient files wal.segments.items old new row → AreReportsMerged old merged
       → AreMergedOf (as_row old ++ row) longer → AreReportsMerged new longer
   reports_more wal old new row merged longer g a m = record {
     merges =
         let own = g.added.own in
-        let many : length (counted_in own) ≡ length (map (stored_in files) wal.segments.items) = counted_length tells files own
-        ∙ g.added.as_many ∙ sym (stored_length tells files wal.segments.items) in
+        let many : length (counted_in own) ≡ length (map (stored_in files) wal.segments.items) = counted_length tells Lenient files own
+        ∙ g.added.as_many ∙ sym (stored_length tells Lenient files wal.segments.items) in
         let is : batches_in (as_row old ++ row) ≡ counted_in new =
         batches_append (as_row old) row
         ∙ ap (λ (r : List (List Batch)). r ++ batches_in row) (row_counted old)
@@ -141,14 +144,14 @@ module _ (tells : Bool) (files : Files) where
   module _ (wal : FoundWal) (own : IsOwnWal wal) where
     -- what refuses a merge of its row refuses the WAL
     pub row_refused_behind : (before : List SegmentRead) (old new : List SegReport) (row : List SegmentRead) (fault : MergeFault)
-        → GathersWal tells files wal.segments.items old new row → MemoryOrRefusal (lenient.IsRowLenientlyRefused (before ++ row)) fault
+        → GathersWal tells Lenient files wal.segments.items old new row → MemoryOrRefusal (lenient.IsRowLenientlyRefused (before ++ row)) fault
         → IsTrue tells → AreAsListed files wal.segments.items → DiskMemoryOr (IsLenientlyRefusedWal before (wal_in files wal)) (named_in_wal wal.number fault)
     row_refused_behind before old new row fault g wrong told listed = go fault wrong
       where
-        held : HoldsRow (wal_in files wal)
+        held : HoldsRow Lenient (wal_in files wal)
         held = record {
           row = counted_in g.added.own;
-          holds = row_holds files wal.number wal.segments.items g.added.own (own_of wal own)
+          holds = row_holds Lenient files wal.number wal.segments.items g.added.own (own_of wal own)
               (g.added.holds told listed);
         }
 
@@ -160,12 +163,13 @@ module _ (tells : Bool) (files : Files) where
 
     -- and so does its first bad record
     pub read_refused_behind : (before : List SegmentRead) (fault : RecoverFault)
-        → DiskMemoryOr (IsFirstBadOf files wal.segments.items) fault → DiskMemoryOr (IsLenientlyRefusedWal before (wal_in files wal)) fault
+        → DiskMemoryOr (IsFirstBadOf Lenient files wal.segments.items) fault → DiskMemoryOr (IsLenientlyRefusedWal before (wal_in files wal)) fault
     read_refused_behind before (faults.Disk side) h = tt
     read_refused_behind before faults.NoMemory h = tt
     read_refused_behind before (faults.DuplicateSegment number index) h = absurd h.bad
-    read_refused_behind before (faults.BadBatch number index place fault) h = bad_refused tells files wal own 0 (faults.BadBatch number index place fault) h
+    read_refused_behind before (faults.BadBatch number index place fault) h = bad_in_wal tells files wal own Lenient number index place fault h
     read_refused_behind before (faults.Gap number index expected found) h = absurd h.bad
+    read_refused_behind before (faults.Corrupt number index at_place shown_at) h = let no : Lenient ≡ Strict = h.bad.2 in absurd cc
     read_refused_behind before (faults.Conflict number index first) h = absurd h.bad
 
 -- ---- what refuses a WAL after those before it refuses the directories
@@ -209,6 +213,7 @@ module _ (files : Files) (wals : List FoundWal) (i : ℕ) (wal : FoundWal) (at :
           subst (λ (n : ℕ). IsLenientlyRefused (dirs_as_read files) (faults.BadBatch n index place bad)) (sym h.0)
           (record { segments = map (stored_in files) wal.segments.items; reached = reached; bad = h.1 })
       go (faults.Gap number index expected found) h = absurd h
+      go (faults.Corrupt number index at_place shown_at) h = absurd h
       go (faults.Conflict number index first) h =
           subst (λ (n : ℕ). IsLenientlyRefused (dirs_as_read files) (faults.Conflict n index first)) (sym h.0)
           (record { segments = map (stored_in files) wal.segments.items; reached = reached; own = h.1.row; holds = h.1.holds; wrong = h.2 })

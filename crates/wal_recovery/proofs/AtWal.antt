@@ -10,6 +10,7 @@ use Rattle.disk_face.specs.View.{Files}
 use Rattle.disk_face.specs.Image.{dirs_as_read}
 use Rattle.wal_recovery.specs.declared.fault.RecoverFault.{RecoverFault}
 use Rattle.wal_recovery.specs.declared.fault.RecoverFault.TheVariants as faults
+use Rattle.wal_recovery.specs.declared.reports.Mode.TheVariants.{Strict}
 use Rattle.wal_recovery.specs.declared.reports.SegReport.{SegReport}
 use Rattle.wal_recovery.specs.declared.wals.FoundWal.{FoundWal}
 use Rattle.wal_recovery.specs.Listing.{Wal, AreByIndex, AreByNumber, IsListingOf}
@@ -109,7 +110,7 @@ module _ (files : Files) where
               merged = before;
             }
 
-        row_of : HoldsRow (wal_in files wal) → ReachesRow (dirs_as_read files) wal.number
+        row_of : HoldsRow Strict (wal_in files wal) → ReachesRow (dirs_as_read files) wal.number
         row_of held = record { segments = map (stored_in files) wal.segments.items; base = base; reached = reached; row = held.row; holds = held.holds }
 
         go : (fault : RecoverFault) → DiskMemoryOr (IsRefusedWal (end_after NUMBER_FIRST base) (wal_in files wal)) fault
@@ -123,4 +124,7 @@ module _ (files : Files) where
             (faults.Gap n index expected found)) (sym h.0) (row_of h.1, h.2)
         go (faults.Conflict number index first) h = subst (λ (n : ℕ). IsRefused (dirs_as_read files) (faults.Conflict n index first))
             (sym h.0) (row_of h.1, h.2)
+        go (faults.Corrupt number index place shown_at) h =
+            subst (λ (n : ℕ). IsRefused (dirs_as_read files) (faults.Corrupt n index place shown_at)) (sym h.0)
+            (map (stored_in files) wal.segments.items, base, reached, h.1)
         go faults.NoMemory h = tt

@@ -10,6 +10,7 @@ use Rattle.disk_face.specs.View.{Files}
 use Rattle.wal_recovery.specs.declared.fault.RecoverFault.{RecoverFault}
 use Rattle.wal_recovery.specs.declared.fault.RecoverFault.TheVariants as faults
 use Rattle.wal_recovery.specs.declared.listing.Found.{Found}
+use Rattle.wal_recovery.specs.declared.reports.Mode.{Mode}
 use Rattle.wal_recovery.specs.declared.reports.SegReport.{SegReport}
 use Rattle.wal_recovery.specs.Listing.{Stored, AreByIndex}
 use Rattle.wal_recovery.specs.Recovering.{taking_numbers}
@@ -52,13 +53,13 @@ rises_ascend low (s ∷ t ∷ row) h (suc k) d lt =
     subst (λ (n : ℕ). (get_or (t ∷ row) k d).index < (get_or (s ∷ t ∷ row) n d).index) (sym e)
     (rises_ascend (suc s.index) (t ∷ row) h.1 k d (omega (arith, lt)))
 
-module _ (tells : Bool) (files : Files) where
-  pub adds_none : (old : List SegReport) → AddsSegments tells files [] old old
+module _ (tells : Bool) (mode : Mode) (files : Files) where
+  pub adds_none : (old : List SegReport) → AddsSegments tells mode files [] old old
   adds_none old = record { own = []; reports = sym (append-nil old); as_many = refl; numbered = All-nil IsNumberedReport; holds = λ told listed. tt }
 
   pub adds_more : (front : List Found) (f : Found) (index : ℕ) (old mid new : List SegReport) (row longer : List SegmentRead)
-      → AddsSegments tells files front old mid → AddsSegment tells files f index mid new row longer
-      → AddsSegments tells files (front ++ f ∷ []) old new
+      → AddsSegments tells mode files front old mid → AddsSegment tells mode files f index mid new row longer
+      → AddsSegments tells mode files (front ++ f ∷ []) old new
   adds_more front f index old mid new row longer a b = record {
     own = a.own ++ b.report ∷ [];
     reports = b.reports ∙ ap (λ (l : List SegReport). l ++ b.report ∷ []) a.reports ∙ append_assoc old a.own (b.report ∷ []);
@@ -84,13 +85,13 @@ module _ (tells : Bool) (files : Files) where
   stored_length [] = refl
   stored_length (f ∷ segments) = ap suc (stored_length segments)
 
-  pub wal_none : (old : List SegReport) → GathersWal tells files [] old old []
+  pub wal_none : (old : List SegReport) → GathersWal tells mode files [] old old []
   unfolding adds_none
   wal_none old = record { added = adds_none old; rows = refl }
 
   pub wal_more : (front : List Found) (f : Found) (old mid new : List SegReport) (row longer : List SegmentRead)
-      → GathersWal tells files front old mid row → AddsSegment tells files f f.name.index mid new row longer
-      → GathersWal tells files (front ++ f ∷ []) old new longer
+      → GathersWal tells mode files front old mid row → AddsSegment tells mode files f f.name.index mid new row longer
+      → GathersWal tells mode files (front ++ f ∷ []) old new longer
   unfolding adds_more
   wal_more front f old mid new row longer a b = record {
     added = adds_more front f f.name.index old mid new row longer a.added b;
@@ -118,7 +119,7 @@ module _ (tells : Bool) (files : Files) where
   index_numbered (s ∷ segments) (r ∷ own) h = (h.0, index_numbered segments own h.1)
 
   pub wal_row : (segments : List Found) (old new : List SegReport) (row : List SegmentRead) → AreByIndex 0 (map (stored_in files) segments)
-      → GathersWal tells files segments old new row → IsRow row
+      → GathersWal tells mode files segments old new row → IsRow row
   wal_row segments old new row by g = subst IsRow (sym g.rows) (record {
     indexes = rises_ascend 0 (by_index (map (stored_in files) segments) (counted_in g.added.own))
         (index_rises 0 (map (stored_in files) segments) (counted_in g.added.own) by);
@@ -129,13 +130,13 @@ module _ (tells : Bool) (files : Files) where
   -- ---- the segment at a place of a list
 
   pub wal_step : (before : Files) → before ≡ files → (segments : List Found) (i : ℕ) (d : Found) (old mid new : List SegReport)
-      (row longer : List SegmentRead) → i < length segments → GathersWal tells files (take i segments) old mid row
-      → AddsSegment tells before (get_or segments i d) (get_or segments i d).name.index mid new row longer
-      → GathersWal tells files (take (i + 1) segments) old new longer
+      (row longer : List SegmentRead) → i < length segments → GathersWal tells mode files (take i segments) old mid row
+      → AddsSegment tells mode before (get_or segments i d) (get_or segments i d).name.index mid new row longer
+      → GathersWal tells mode files (take (i + 1) segments) old new longer
   wal_step before same segments i d old mid new row longer lt a added =
-      let b : AddsSegment tells files (get_or segments i d) (get_or segments i d).name.index mid new row longer = subst
-      (λ (fs : Files). AddsSegment tells fs (get_or segments i d) (get_or segments i d).name.index mid new row longer) same added in
-      subst (λ (l : List Found). GathersWal tells files l old new longer) (sym (take_more segments i d lt))
+      let b : AddsSegment tells mode files (get_or segments i d) (get_or segments i d).name.index mid new row longer = subst
+      (λ (fs : Files). AddsSegment tells mode fs (get_or segments i d) (get_or segments i d).name.index mid new row longer) same added in
+      subst (λ (l : List Found). GathersWal tells mode files l old new longer) (sym (take_more segments i d lt))
       (wal_more (take i segments) (get_or segments i d) old mid new row longer a b)
 
   listed_prefix : (xs ys : List Found) → AreAsListed files (xs ++ ys) → AreAsListed files xs
@@ -147,8 +148,8 @@ module _ (tells : Bool) (files : Files) where
   cut_at segments i d lt = sym (ap (λ (l : List Found). take i segments ++ l) (sym (drop_more segments i d lt)) ∙ take-append-drop i segments)
 
   bad_here : (segments : List Found) (i : ℕ) (d : Found) (old mid : List SegReport) (fault : RecoverFault) → i < length segments
-      → AddsSegments tells files (take i segments) old mid → IsTrue tells → AreAsListed files segments
-      → IsBadIn (get_or segments i d) (bytes_at files (place_listed (get_or segments i d))) fault → IsFirstBadOf files segments fault
+      → AddsSegments tells mode files (take i segments) old mid → IsTrue tells → AreAsListed files segments
+      → IsBadIn mode (get_or segments i d) (bytes_at files (place_listed (get_or segments i d))) fault → IsFirstBadOf mode files segments fault
   bad_here segments i d old mid fault lt a told listed bad = record {
     before = take i segments;
     here = get_or segments i d;
@@ -162,24 +163,25 @@ module _ (tells : Bool) (files : Files) where
 
   -- a segment that is refused is the first that is
   pub first_bad : (before : Files) → before ≡ files → (segments : List Found) (i : ℕ) (d : Found) (old mid : List SegReport)
-      (fault : RecoverFault) → i < length segments → AddsSegments tells files (take i segments) old mid → IsTrue tells
+      (fault : RecoverFault) → i < length segments → AddsSegments tells mode files (take i segments) old mid → IsTrue tells
       → AreAsListed files segments
       → (IsAsListed before (get_or segments i d) → DiskMemoryOr
-      (IsBadIn (get_or segments i d) (bytes_at before (place_listed (get_or segments i d)))) fault)
-      → DiskMemoryOr (IsFirstBadOf files segments) fault
+      (IsBadIn mode (get_or segments i d) (bytes_at before (place_listed (get_or segments i d)))) fault)
+      → DiskMemoryOr (IsFirstBadOf mode files segments) fault
   first_bad before same segments i d old mid fault lt a told listed bad_before = go fault (bad (listed i d lt))
       (bad_here segments i d old mid fault lt a told listed)
     where
-      bad : IsAsListed files (get_or segments i d) → DiskMemoryOr (IsBadIn (get_or segments i d) (bytes_at files (place_listed (get_or segments i d)))) fault
+      bad : IsAsListed files (get_or segments i d) → DiskMemoryOr (IsBadIn mode (get_or segments i d) (bytes_at files (place_listed (get_or segments i d)))) fault
       bad = subst (λ (fs : Files). IsAsListed fs (get_or segments i d)
-          → DiskMemoryOr (IsBadIn (get_or segments i d) (bytes_at fs (place_listed (get_or segments i d)))) fault) same bad_before
+          → DiskMemoryOr (IsBadIn mode (get_or segments i d) (bytes_at fs (place_listed (get_or segments i d)))) fault) same bad_before
 
-      go : (f : RecoverFault) → DiskMemoryOr (IsBadIn (get_or segments i d) (bytes_at files (place_listed (get_or segments i d)))) f
-          → (IsBadIn (get_or segments i d) (bytes_at files (place_listed (get_or segments i d))) f → IsFirstBadOf files segments f)
-          → DiskMemoryOr (IsFirstBadOf files segments) f
+      go : (f : RecoverFault) → DiskMemoryOr (IsBadIn mode (get_or segments i d) (bytes_at files (place_listed (get_or segments i d)))) f
+          → (IsBadIn mode (get_or segments i d) (bytes_at files (place_listed (get_or segments i d))) f → IsFirstBadOf mode files segments f)
+          → DiskMemoryOr (IsFirstBadOf mode files segments) f
       go (faults.Disk side) h k = tt
       go (faults.DuplicateSegment wal index) h k = k h
       go (faults.BadBatch wal index place fault_) h k = k h
       go (faults.Gap wal index expected found) h k = k h
+      go (faults.Corrupt wal index at shown_at) h k = k h
       go (faults.Conflict wal index first) h k = k h
       go faults.NoMemory h k = tt

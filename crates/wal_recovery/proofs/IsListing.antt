@@ -134,6 +134,7 @@ module _ (files : Files) (ones others : List Listed) (up : IsAscending ones) (do
   met_refused (faults.DuplicateSegment wal index) met = meets_duplicate wal index met
   met_refused (faults.BadBatch wal index place fault) met = absurd met
   met_refused (faults.Gap wal index expected found) met = absurd met
+  met_refused (faults.Corrupt wal index place shown_at) met = absurd met
   met_refused (faults.Conflict wal index first) met = absurd met
   met_refused faults.NoMemory met = tt
 

@@ -1,6 +1,6 @@
 -- Directories recover to at most one list of batches.
 use Rattle.batch_repr.specs.declared.limits.TheConstants.{NUMBER_FIRST}
-use Rattle.std.proofs.Common.{◌≡◌, inl, inr, ℕ, suc, ◌≤◌, ◌<◌, Bool, List, [], ◌∷◌, ◌++◌, sym, subst, ap, ◌∙◌, refl, arith}
+use Rattle.std.proofs.Common.{◌≡◌, inl, inr, ℕ, suc, ◌≤◌, ◌<◌, Bool, Option, List, [], ◌∷◌, ◌++◌, sym, subst, ap, ◌∙◌, refl, arith}
 use Rattle.std.specs.Prelude.{Contains}
 use Rattle.std.specs.List.{filter}
 use Rattle.disk_face.specs.Image.{log_number}
@@ -8,10 +8,13 @@ use Rattle.batch_repr.specs.declared.batch.Batch.{Batch}
 use Rattle.batch_repr.specs.Batches.{end_after}
 use Rattle.batch_repr.specs.Spelling.{SpellsBatch}
 use Rattle.block_record.specs.declared.records.Rec.{Rec}
+use Rattle.block_record.specs.declared.records.Shown.{Shown}
 use Rattle.block_record.specs.ReadOut.{ReadsOut}
 use Rattle.disk_face.specs.View.{Dirs}
 use Rattle.segment_merge.proofs.Laws.{none_within, within_head, within_tail, within_cases, one_merged}
 use Rattle.segment_merge.specs.Merging.{Merged}
+use Rattle.wal_recovery.specs.declared.reports.Mode.{Mode}
+use Rattle.wal_recovery.specs.declared.reports.Mode.TheVariants.{Strict}
 use Rattle.wal_recovery.specs.Listing.{Stored, Wal, AreByIndex, AreByNumber, IsOf, IsListingOf}
 use Rattle.wal_recovery.specs.Recovering.{takes_number, Spell, HoldsBatches, HoldRow, WalsMerge, Recovers}
 use Rattle.wal_recovery.proofs.WalsMerge.{listed_some}
@@ -109,7 +112,7 @@ one_listing dirs ws vs lw lv = same_wals 0 0 ws vs lw.order lv.order (λ n s h. 
 
 -- ---- one answer, where read-out and spelling give one
 
-module _ (one_read : (bytes : List ℕ) (log : ℕ) (r s : List Rec) (d e : ℕ) (t u : Bool) → ReadsOut bytes log r d t → ReadsOut bytes log s e u → r ≡ s)
+module _ (one_read : (bytes : List ℕ) (log : ℕ) (r s : List Rec) (d e : ℕ) (t u : Bool) (x y : Option Shown) → ReadsOut bytes log r d t x → ReadsOut bytes log s e u y → r ≡ s)
     (one_spelled : (bytes : List ℕ) (b c : Batch) → SpellsBatch bytes b → SpellsBatch bytes c → b ≡ c) where
   one_spell : (records : List Rec) (bs cs : List Batch) → Spell records bs → Spell records cs → bs ≡ cs
   one_spell [] [] [] h k = refl
@@ -119,25 +122,25 @@ module _ (one_read : (bytes : List ℕ) (log : ℕ) (r s : List Rec) (d e : ℕ)
   one_spell (r ∷ records) (b ∷ bs) [] h k = absurd k
   one_spell (r ∷ records) (b ∷ bs) (c ∷ cs) h k = ap (λ l. b ∷ l) (one_spell records bs cs h.1 k.1) ∙ ap (λ x. x ∷ cs) (one_spelled r.bytes b c h.0 k.0)
 
-  one_holds : (log : ℕ) (content : List ℕ) (bs cs : List Batch) → HoldsBatches log content bs → HoldsBatches log content cs → bs ≡ cs
-  one_holds log content bs cs h k =
-      let records : h.records ≡ k.records = one_read content log h.records k.records h.ends_at k.ends_at h.torn k.torn h.read k.read in
+  one_holds : (mode : Mode) (log : ℕ) (content : List ℕ) (bs cs : List Batch) → HoldsBatches mode log content bs → HoldsBatches mode log content cs → bs ≡ cs
+  one_holds mode log content bs cs h k =
+      let records : h.records ≡ k.records = one_read content log h.records k.records h.ends_at k.ends_at h.torn k.torn h.shown k.shown h.read k.read in
       h.counted_are ∙ ap (filter takes_number) (one_spell k.records h.all k.all (subst (λ r. Spell r h.all) records h.spelled) k.spelled) ∙ sym k.counted_are
 
-  pub one_row : (log : ℕ) (segments : List Stored) (rows others : List (List Batch)) → HoldRow log segments rows → HoldRow log segments others → rows ≡ others
-  one_row log [] [] [] h k = refl
-  one_row log [] [] (c ∷ cs) h k = absurd k
-  one_row log [] (b ∷ bs) cs h k = absurd h
-  one_row log (s ∷ segments) [] cs h k = absurd h
-  one_row log (s ∷ segments) (b ∷ bs) [] h k = absurd k
-  one_row log (s ∷ segments) (b ∷ bs) (c ∷ cs) h k = ap (λ l. b ∷ l) (one_row log segments bs cs h.1 k.1)
-      ∙ ap (λ x. x ∷ cs) (one_holds log s.content b c h.0 k.0)
+  pub one_row : (mode : Mode) (log : ℕ) (segments : List Stored) (rows others : List (List Batch)) → HoldRow mode log segments rows → HoldRow mode log segments others → rows ≡ others
+  one_row mode log [] [] [] h k = refl
+  one_row mode log [] [] (c ∷ cs) h k = absurd k
+  one_row mode log [] (b ∷ bs) cs h k = absurd h
+  one_row mode log (s ∷ segments) [] cs h k = absurd h
+  one_row mode log (s ∷ segments) (b ∷ bs) [] h k = absurd k
+  one_row mode log (s ∷ segments) (b ∷ bs) (c ∷ cs) h k = ap (λ l. b ∷ l) (one_row mode log segments bs cs h.1 k.1)
+      ∙ ap (λ x. x ∷ cs) (one_holds mode log s.content b c h.0 k.0)
 
   pub one_wals : (first : ℕ) (wals : List Wal) (as_one as_two : List Batch) → WalsMerge first wals as_one → WalsMerge first wals as_two → as_one ≡ as_two
   unfolding WalsMerge
   one_wals first [] a b h k = h ∙ sym k
   one_wals first (wal ∷ wals) a b (own, later, here, rest, is) (own2, later2, here2, rest2, is2) =
-      let rows : here.row ≡ here2.row = one_row (log_number wal.number) wal.segments here.row here2.row here.holds here2.holds in
+      let rows : here.row ≡ here2.row = one_row Strict (log_number wal.number) wal.segments here.row here2.row here.holds here2.holds in
       let owns : own ≡ own2 = one_merged first here2.row own own2 (subst (λ r. Merged first r own) rows here.merges) here2.merges in
       let laters : later ≡ later2 = one_wals (end_after first own2) wals later later2 (subst (λ o. WalsMerge (end_after first o) wals later) owns rest) rest2 in
       is ∙ ap (λ o. o ++ later) owns ∙ ap (λ l. own2 ++ l) laters ∙ sym is2

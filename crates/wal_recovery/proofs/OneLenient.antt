@@ -11,6 +11,7 @@ use Rattle.segment_merge.proofs.Laws.{one_lenient, merged_or_conflict, one_confl
 use Rattle.disk_face.specs.View.{Dirs}
 use Rattle.wal_recovery.specs.declared.fault.RecoverFault.{RecoverFault}
 use Rattle.wal_recovery.specs.declared.fault.RecoverFault.TheVariants as faults
+use Rattle.wal_recovery.specs.declared.reports.Mode.TheVariants.{Lenient}
 use Rattle.wal_recovery.specs.Listing.{Wal}
 use Rattle.wal_recovery.specs.Recovering.{HoldAll, RecoversLenient}
 use Rattle.wal_recovery.specs.Refused.{by_index, segments_of, ReachesLenient, IsLenientlyRefused}
@@ -29,14 +30,14 @@ one_all : (wals : List Wal) (rows others : List (List Batch)) → HoldAll wals r
 unfolding HoldAll
 one_all [] rows others h k = h ∙ sym k
 one_all (wal ∷ wals) rows others (own, more, here, rest, is) (own2, more2, here2, rest2, is2) =
-    let owns : own ≡ own2 = one_row reading.one_read reading.one_spelled (log_number wal.number) wal.segments own own2 here here2 in
+    let owns : own ≡ own2 = one_row reading.one_read reading.one_spelled Lenient (log_number wal.number) wal.segments own own2 here here2 in
     let mores : more ≡ more2 = one_all wals more more2 rest rest2 in
     is ∙ ap (λ (l : List (List Batch)). l ++ more) owns ∙ ap (λ (l : List (List Batch)). own2 ++ l) mores ∙ sym is2
 
 -- the rows of WALs, up to one of them
 record HoldsUpTo (before : List Wal) (wal : Wal) (rows : List (List Batch)) : Type 0 where
   earlier : List (List Batch)
-  held : HoldsRow wal
+  held : HoldsRow Lenient wal
   more : List (List Batch)
   hold : HoldAll before earlier
   is : rows ≡ earlier ++ (held.row ++ more)
@@ -89,7 +90,7 @@ batches_plain : (rows : List (List Batch)) → batches_in (plain rows) ≡ rows
 batches_plain [] = refl
 batches_plain (b ∷ rows) = ap (λ (l : List (List Batch)). b ∷ l) (batches_plain rows)
 
-merged_or_conflict_behind : (before : List Wal) (wal : Wal) (rows more : List (List Batch)) (held : HoldsRow wal) (merged : List Batch)
+merged_or_conflict_behind : (before : List Wal) (wal : Wal) (rows more : List (List Batch)) (held : HoldsRow Lenient wal) (merged : List Batch)
     (index first : ℕ) → HoldAll before rows → MergedLenient (rows ++ (held.row ++ more)) merged
     → IsLenientConflict (by_index (segments_of before) rows ++ by_index wal.segments held.row) index first → ⊥
 merged_or_conflict_behind before wal rows more held merged index first hold m wrong =
@@ -100,23 +101,24 @@ merged_or_conflict_behind before wal rows more held merged index first hold m wr
     ∙ ap (λ (l : List (List Batch)). l ++ batches_in (plain more)) (map-append (λ (s : SegmentRead). s.batches) front here)
     ∙ append_assoc (batches_in front) (batches_in here) (batches_in (plain more))
     ∙ ap (λ (l : List (List Batch)). l ++ (batches_in here ++ batches_in (plain more))) (all_batches before rows hold)
-    ∙ ap (λ (l : List (List Batch)). rows ++ (l ++ batches_in (plain more))) (batches_by_index (log_number wal.number) wal.segments held.row held.holds)
+    ∙ ap (λ (l : List (List Batch)). rows ++ (l ++ batches_in (plain more))) (batches_by_index Lenient (log_number wal.number) wal.segments held.row held.holds)
     ∙ ap (λ (l : List (List Batch)). rows ++ (held.row ++ l)) (batches_plain more) in
     merged_or_conflict ((front ++ here) ++ plain more) merged index first
     (subst (λ (r : List (List Batch)). MergedLenient r merged) (sym is) m) (conflict_on (front ++ here) (plain more) index first wrong)
 
-merged_or_wrong : (before : List Wal) (wal : Wal) (rows more : List (List Batch)) (held : HoldsRow wal) (merged : List Batch)
+merged_or_wrong : (before : List Wal) (wal : Wal) (rows more : List (List Batch)) (held : HoldsRow Lenient wal) (merged : List Batch)
     (fault : RecoverFault) → HoldAll before rows → MergedLenient (rows ++ (held.row ++ more)) merged
     → IsLenientlyRefusedWal (by_index (segments_of before) rows) wal fault → ⊥
 merged_or_wrong before wal rows more held merged (faults.Disk side) hold m w = w
 merged_or_wrong before wal rows more held merged (faults.DuplicateSegment number index) hold m w = w
-merged_or_wrong before wal rows more held merged (faults.BadBatch number index place fault) hold m w = held_or_bad
+merged_or_wrong before wal rows more held merged (faults.BadBatch number index place fault) hold m w = held_or_bad Lenient
     (log_number wal.number) wal.segments held.row index place fault held.holds w.1
 merged_or_wrong before wal rows more held merged (faults.Gap number index expected found) hold m w = w
 merged_or_wrong before wal rows more held merged (faults.Conflict number index first) hold m w =
     merged_or_conflict_behind before wal rows more held merged index first hold m
     (subst (λ (row : List (List Batch)). IsLenientConflict (by_index (segments_of before) rows ++ by_index wal.segments row) index first)
-    (same_row wal w.1 held) w.2)
+    (same_row Lenient wal w.1 held) w.2)
+merged_or_wrong before wal rows more held merged (faults.Corrupt number index at shown_at) hold m w = w
 merged_or_wrong before wal rows more held merged faults.NoMemory hold m w = w
 
 one_wrong : (before : List SegmentRead) (wal : Wal) (f g : RecoverFault) → IsLenientlyRefusedWal before wal f → IsLenientlyRefusedWal before wal g → f ≡ g
@@ -124,23 +126,26 @@ one_wrong before wal (faults.Disk side) g a b = absurd a
 one_wrong before wal (faults.DuplicateSegment w i) g a b = absurd a
 one_wrong before wal (faults.Gap w i e x) g a b = absurd a
 one_wrong before wal faults.NoMemory g a b = absurd a
+one_wrong before wal (faults.Corrupt w i p x) g a b = absurd a
+one_wrong before wal (faults.BadBatch w i p f) (faults.Corrupt v j q y) a b = absurd b
+one_wrong before wal (faults.Conflict w i x) (faults.Corrupt v j q y) a b = absurd b
 one_wrong before wal (faults.BadBatch w i p f) (faults.Disk side) a b = absurd b
 one_wrong before wal (faults.BadBatch w i p f) (faults.DuplicateSegment v j) a b = absurd b
 one_wrong before wal (faults.BadBatch w i p f) (faults.Gap v j e x) a b = absurd b
 one_wrong before wal (faults.BadBatch w i p f) faults.NoMemory a b = absurd b
 one_wrong before wal (faults.BadBatch w i p f) (faults.BadBatch v j q g) a b =
-    let same = one_bad_batch (log_number wal.number) wal.segments i p j q f g a.1 b.1 in
+    let same = one_bad_batch Lenient (log_number wal.number) wal.segments i p j q f g a.1 b.1 in
     let wals : w ≡ v = a.0 ∙ sym b.0 in
     λ k. faults.BadBatch (wals k) (same.0 k) (same.1 k) (same.2 k)
-one_wrong before wal (faults.BadBatch w i p f) (faults.Conflict v j x) a b = absurd (bad_or_held wal i p f a.1 b.1)
+one_wrong before wal (faults.BadBatch w i p f) (faults.Conflict v j x) a b = absurd (bad_or_held Lenient wal i p f a.1 b.1)
 one_wrong before wal (faults.Conflict w i x) (faults.Disk side) a b = absurd b
 one_wrong before wal (faults.Conflict w i x) (faults.DuplicateSegment v j) a b = absurd b
 one_wrong before wal (faults.Conflict w i x) (faults.Gap v j e y) a b = absurd b
 one_wrong before wal (faults.Conflict w i x) faults.NoMemory a b = absurd b
-one_wrong before wal (faults.Conflict w i x) (faults.BadBatch v j q g) a b = absurd (bad_or_held wal j q g b.1 a.1)
+one_wrong before wal (faults.Conflict w i x) (faults.BadBatch v j q g) a b = absurd (bad_or_held Lenient wal j q g b.1 a.1)
 one_wrong before wal (faults.Conflict w i x) (faults.Conflict v j y) a b =
     let wrong : IsLenientConflict (before ++ by_index wal.segments b.1.row) i x = subst
-    (λ (row : List (List Batch)). IsLenientConflict (before ++ by_index wal.segments row) i x) (same_row wal a.1 b.1) a.2 in
+    (λ (row : List (List Batch)). IsLenientConflict (before ++ by_index wal.segments row) i x) (same_row Lenient wal a.1 b.1) a.2 in
     one_named wal.number w v (merges.Conflict i x) (merges.Conflict j y) a.0 b.0 (one_conflict (before ++ by_index wal.segments b.1.row) i x j y wrong b.2)
 
 -- ---- all WALs
@@ -189,6 +194,7 @@ why : (dirs : Dirs) (fault : RecoverFault) → IsLenientlyRefused dirs fault →
 why dirs (faults.Disk side) r = absurd r
 why dirs (faults.DuplicateSegment w i) r = inl (w, i, refl, r)
 why dirs (faults.BadBatch w i p f) r = inr (record { wal = wal_of w r.segments; reached = r.reached; wrong = (refl, r.bad) })
+why dirs (faults.Corrupt w i p x) r = absurd r
 why dirs (faults.Gap w i e x) r = absurd r
 why dirs (faults.Conflict w i x) r = inr (record {
   wal = wal_of w r.segments;

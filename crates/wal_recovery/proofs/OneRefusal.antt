@@ -14,46 +14,53 @@ use Rattle.segment_merge.proofs.Laws.{one_refusal, merged_or_refused, Places, so
 use Rattle.disk_face.specs.View.{Dirs}
 use Rattle.wal_recovery.specs.declared.fault.RecoverFault.{RecoverFault}
 use Rattle.wal_recovery.specs.declared.fault.RecoverFault.TheVariants as faults
+use Rattle.wal_recovery.specs.declared.reports.Mode.{Mode}
+use Rattle.wal_recovery.specs.declared.reports.Mode.TheVariants.{Strict}
 use Rattle.wal_recovery.specs.Listing.{Stored, Wal, IsDuplicate}
 use Rattle.wal_recovery.specs.Recovering.{WalMerges, WalsMerge, Recovers}
-use Rattle.wal_recovery.specs.Refused.{IsBadBatch, Reaches, by_index, IsRefused}
+use Rattle.wal_recovery.specs.Refused.{IsBadBatch, IsCorrupt, Reaches, by_index, IsRefused}
 use Rattle.wal_recovery.specs.Gathered.{named_in_wal}
 use Rattle.wal_recovery.specs.OneWal.{HoldsRow, IsRefusedWal}
 use Rattle.wal_recovery.proofs.IsReportOf.{batches_by_index}
 use Rattle.wal_recovery.proofs.Duplicates.{listed_or_twice, one_duplicate}
-use Rattle.wal_recovery.proofs.OneBad.{held_or_bad, one_bad_batch}
+use Rattle.wal_recovery.proofs.OneBad.{held_or_bad, held_or_corrupt, one_bad_batch, one_corrupt, not_bad_and_corrupt}
 use Rattle.wal_recovery.proofs.OneAnswer.{one_listing, one_row, one_wals}
 use Rattle.wal_recovery.proofs.OneReading as reading
 
 -- ---- one WAL
 
-pub same_row : (wal : Wal) (a b : HoldsRow wal) → a.row ≡ b.row
-same_row wal a b = one_row reading.one_read reading.one_spelled (log_number wal.number) wal.segments a.row b.row a.holds b.holds
+pub same_row : (mode : Mode) (wal : Wal) (a b : HoldsRow mode wal) → a.row ≡ b.row
+same_row mode wal a b = one_row reading.one_read reading.one_spelled mode (log_number wal.number) wal.segments a.row b.row a.holds b.holds
 
-merged_or_row_refused : (from : ℕ) (wal : Wal) (own : List Batch) (held : HoldsRow wal) (fault : MergeFault) → WalMerges from wal own
+merged_or_row_refused : (from : ℕ) (wal : Wal) (own : List Batch) (held : HoldsRow Strict wal) (fault : MergeFault) → WalMerges from wal own
     → IsRowRefused from (by_index wal.segments held.row) fault → ⊥
 merged_or_row_refused from wal own held fault m refused =
-    let rows : m.row ≡ held.row = same_row wal (record { row = m.row; holds = m.holds }) held in
-    let batches = batches_by_index (log_number wal.number) wal.segments held.row held.holds in
+    let rows : m.row ≡ held.row = same_row Strict wal (record { row = m.row; holds = m.holds }) held in
+    let batches = batches_by_index Strict (log_number wal.number) wal.segments held.row held.holds in
     merged_or_refused from (by_index wal.segments held.row) own fault
     (subst (λ (row : List (List Batch)). Merged from row own) (rows ∙ sym batches) m.merges) refused
 
 merged_or_wrong : (from : ℕ) (wal : Wal) (own : List Batch) (fault : RecoverFault) → WalMerges from wal own → IsRefusedWal from wal fault → ⊥
 merged_or_wrong from wal own (faults.Disk side) m w = w
 merged_or_wrong from wal own (faults.DuplicateSegment number index) m w = w
-merged_or_wrong from wal own (faults.BadBatch number index place fault) m w = held_or_bad (log_number wal.number) wal.segments m.row index
+merged_or_wrong from wal own (faults.BadBatch number index place fault) m w = held_or_bad Strict (log_number wal.number) wal.segments m.row index
     place fault m.holds w.1
 merged_or_wrong from wal own (faults.Gap number index expected found) m w = merged_or_row_refused from wal own w.1 (merges.Gap index expected found) m w.2
 merged_or_wrong from wal own (faults.Conflict number index first) m w = merged_or_row_refused from wal own w.1 (merges.Conflict index first) m w.2
+merged_or_wrong from wal own (faults.Corrupt number index at shown_at) m w = held_or_corrupt (log_number wal.number) wal.segments m.row index
+    at shown_at m.holds w.1
 merged_or_wrong from wal own faults.NoMemory m w = w
 
-one_row_refused : (from : ℕ) (wal : Wal) (a b : HoldsRow wal) (f g : MergeFault) → IsRowRefused from (by_index wal.segments a.row) f
+one_row_refused : (from : ℕ) (wal : Wal) (a b : HoldsRow Strict wal) (f g : MergeFault) → IsRowRefused from (by_index wal.segments a.row) f
     → IsRowRefused from (by_index wal.segments b.row) g → f ≡ g
 one_row_refused from wal a b f g p q = one_refusal from (by_index wal.segments b.row) f g
-    (subst (λ (row : List (List Batch)). IsRowRefused from (by_index wal.segments row) f) (same_row wal a b) p) q
+    (subst (λ (row : List (List Batch)). IsRowRefused from (by_index wal.segments row) f) (same_row Strict wal a b) p) q
 
-pub bad_or_held : (wal : Wal) (index place : ℕ) (fault : BatchFault) → IsBadBatch (log_number wal.number) wal.segments index place fault → HoldsRow wal → ⊥
-bad_or_held wal index place fault bad held = held_or_bad (log_number wal.number) wal.segments held.row index place fault held.holds bad
+pub bad_or_held : (mode : Mode) (wal : Wal) (index place : ℕ) (fault : BatchFault) → IsBadBatch mode (log_number wal.number) wal.segments index place fault → HoldsRow mode wal → ⊥
+bad_or_held mode wal index place fault bad held = held_or_bad mode (log_number wal.number) wal.segments held.row index place fault held.holds bad
+
+corrupt_or_held : (wal : Wal) (index at shown_at : ℕ) → IsCorrupt (log_number wal.number) wal.segments index at shown_at → HoldsRow Strict wal → ⊥
+corrupt_or_held wal index at shown_at bad held = held_or_corrupt (log_number wal.number) wal.segments held.row index at shown_at held.holds bad
 
 -- one refusal of the row, so one of the WAL
 pub one_named : (number w v : ℕ) (f g : MergeFault) → w ≡ number → v ≡ number → f ≡ g → named_in_wal w f ≡ named_in_wal v g
@@ -67,15 +74,30 @@ one_wrong from wal (faults.BadBatch w i p f) (faults.Disk side) a b = absurd b
 one_wrong from wal (faults.BadBatch w i p f) (faults.DuplicateSegment v j) a b = absurd b
 one_wrong from wal (faults.BadBatch w i p f) faults.NoMemory a b = absurd b
 one_wrong from wal (faults.BadBatch w i p f) (faults.BadBatch v j q g) a b =
-    let same = one_bad_batch (log_number wal.number) wal.segments i p j q f g a.1 b.1 in
+    let same = one_bad_batch Strict (log_number wal.number) wal.segments i p j q f g a.1 b.1 in
     let wals : w ≡ v = a.0 ∙ sym b.0 in
     λ k. faults.BadBatch (wals k) (same.0 k) (same.1 k) (same.2 k)
-one_wrong from wal (faults.BadBatch w i p f) (faults.Gap v j e x) a b = absurd (bad_or_held wal i p f a.1 b.1)
-one_wrong from wal (faults.BadBatch w i p f) (faults.Conflict v j x) a b = absurd (bad_or_held wal i p f a.1 b.1)
+one_wrong from wal (faults.BadBatch w i p f) (faults.Gap v j e x) a b = absurd (bad_or_held Strict wal i p f a.1 b.1)
+one_wrong from wal (faults.BadBatch w i p f) (faults.Conflict v j x) a b = absurd (bad_or_held Strict wal i p f a.1 b.1)
+one_wrong from wal (faults.BadBatch w i p f) (faults.Corrupt v j q y) a b =
+    absurd (not_bad_and_corrupt (log_number wal.number) wal.segments i p j q y f a.1 b.1)
+one_wrong from wal (faults.Corrupt w i p x) (faults.Disk side) a b = absurd b
+one_wrong from wal (faults.Corrupt w i p x) (faults.DuplicateSegment v j) a b = absurd b
+one_wrong from wal (faults.Corrupt w i p x) faults.NoMemory a b = absurd b
+one_wrong from wal (faults.Corrupt w i p x) (faults.BadBatch v j q g) a b =
+    absurd (not_bad_and_corrupt (log_number wal.number) wal.segments j q i p x g b.1 a.1)
+one_wrong from wal (faults.Corrupt w i p x) (faults.Gap v j e y) a b = absurd (corrupt_or_held wal i p x a.1 b.1)
+one_wrong from wal (faults.Corrupt w i p x) (faults.Conflict v j y) a b = absurd (corrupt_or_held wal i p x a.1 b.1)
+one_wrong from wal (faults.Corrupt w i p x) (faults.Corrupt v j q y) a b =
+    let same = one_corrupt (log_number wal.number) wal.segments i p x j q y a.1 b.1 in
+    let wals : w ≡ v = a.0 ∙ sym b.0 in
+    λ k. faults.Corrupt (wals k) (same.0 k) (same.1 k) (same.2 k)
+one_wrong from wal (faults.Gap w i d x) (faults.Corrupt v j q y) a b = absurd (corrupt_or_held wal j q y b.1 a.1)
+one_wrong from wal (faults.Conflict w i x) (faults.Corrupt v j q y) a b = absurd (corrupt_or_held wal j q y b.1 a.1)
 one_wrong from wal (faults.Gap w i d x) (faults.Disk side) a b = absurd b
 one_wrong from wal (faults.Gap w i d x) (faults.DuplicateSegment v j) a b = absurd b
 one_wrong from wal (faults.Gap w i d x) faults.NoMemory a b = absurd b
-one_wrong from wal (faults.Gap w i d x) (faults.BadBatch v j q g) a b = absurd (bad_or_held wal j q g b.1 a.1)
+one_wrong from wal (faults.Gap w i d x) (faults.BadBatch v j q g) a b = absurd (bad_or_held Strict wal j q g b.1 a.1)
 one_wrong from wal (faults.Gap w i d x) (faults.Gap v j e y) a b =
     one_named wal.number w v (merges.Gap i d x) (merges.Gap j e y) a.0 b.0 (one_row_refused from wal a.1 b.1 (merges.Gap i d x) (merges.Gap j e y) a.2 b.2)
 one_wrong from wal (faults.Gap w i d x) (faults.Conflict v j y) a b =
@@ -83,7 +105,7 @@ one_wrong from wal (faults.Gap w i d x) (faults.Conflict v j y) a b =
 one_wrong from wal (faults.Conflict w i x) (faults.Disk side) a b = absurd b
 one_wrong from wal (faults.Conflict w i x) (faults.DuplicateSegment v j) a b = absurd b
 one_wrong from wal (faults.Conflict w i x) faults.NoMemory a b = absurd b
-one_wrong from wal (faults.Conflict w i x) (faults.BadBatch v j q g) a b = absurd (bad_or_held wal j q g b.1 a.1)
+one_wrong from wal (faults.Conflict w i x) (faults.BadBatch v j q g) a b = absurd (bad_or_held Strict wal j q g b.1 a.1)
 one_wrong from wal (faults.Conflict w i x) (faults.Gap v j e y) a b =
     let no : merges.Conflict i x ≡ merges.Gap j e y = one_row_refused from wal a.1 b.1 (merges.Conflict i x) (merges.Gap j e y) a.2 b.2 in absurd cc
 one_wrong from wal (faults.Conflict w i x) (faults.Conflict v j y) a b =
@@ -160,6 +182,8 @@ why : (dirs : Dirs) (fault : RecoverFault) → IsRefused dirs fault → IsTwiceN
 why dirs (faults.Disk side) r = absurd r
 why dirs (faults.DuplicateSegment w i) r = inl (w, i, refl, r)
 why dirs (faults.BadBatch w i p f) (segments, base, reached, bad) = inr
+    (record { wal = wal_of w segments; base = base; reached = reached; wrong = (refl, bad) })
+why dirs (faults.Corrupt w i p x) (segments, base, reached, bad) = inr
     (record { wal = wal_of w segments; base = base; reached = reached; wrong = (refl, bad) })
 why dirs (faults.Gap w i e x) (r, gap) = inr (record {
   wal = wal_of w r.segments;

@@ -38,6 +38,7 @@ twice_refused Strict dirs (faults.DuplicateSegment w i) r = r
 twice_refused Lenient dirs (faults.DuplicateSegment w i) r = r
 twice_refused mode dirs (faults.BadBatch w i p f) r = absurd r
 twice_refused mode dirs (faults.Gap w i e x) r = absurd r
+twice_refused mode dirs (faults.Corrupt w i p x) r = absurd r
 twice_refused mode dirs (faults.Conflict w i x) r = absurd r
 twice_refused mode dirs faults.NoMemory r = tt
 
@@ -51,6 +52,7 @@ module _ (mode : Mode) (dirs : Dirs) (tells : Bool) (told : IsTrue tells) where
   only_recovered (Err (faults.BadBatch w i p f)) is why merged h = not_both mode dirs merged (faults.BadBatch w i p f) h (why told)
   only_recovered (Err (faults.Gap w i e x)) is why merged h = not_both mode dirs merged (faults.Gap w i e x) h (why told)
   only_recovered (Err (faults.Conflict w i x)) is why merged h = not_both mode dirs merged (faults.Conflict w i x) h (why told)
+  only_recovered (Err (faults.Corrupt w i p x)) is why merged h = not_both mode dirs merged (faults.Corrupt w i p x) h (why told)
   only_recovered (Err faults.NoMemory) is why merged h = tt
 
   pub only_refused : (result : Result Recovered RecoverFault) → IfOk result (λ (found : Recovered). IsTrue tells → RecoversBy mode dirs found.batches)
@@ -62,6 +64,7 @@ module _ (mode : Mode) (dirs : Dirs) (tells : Bool) (told : IsTrue tells) where
   only_refused (Err (faults.BadBatch w i p f)) is why fault r = one_reason mode dirs (faults.BadBatch w i p f) fault (why told) r
   only_refused (Err (faults.Gap w i e x)) is why fault r = one_reason mode dirs (faults.Gap w i e x) fault (why told) r
   only_refused (Err (faults.Conflict w i x)) is why fault r = one_reason mode dirs (faults.Conflict w i x) fault (why told) r
+  only_refused (Err (faults.Corrupt w i p x)) is why fault r = one_reason mode dirs (faults.Corrupt w i p x) fault (why told) r
   only_refused (Err faults.NoMemory) is why fault r = tt
 
 -- ---- an arm of the mode, after a listing that changes no file

@@ -1,8 +1,9 @@
 -- What recovery gathers while it reads segments one after another (docs/formats/journal.md, "Recovery").
-use Rattle.std.specs.Prelude.{◌≡◌, ℕ, Bool, List, [], ◌∷◌, ◌++◌, length, map, All, IsTrue}
+use Rattle.std.specs.Prelude.{◌≡◌, ℕ, Bool, Option, List, [], ◌∷◌, ◌++◌, length, map, All, IsTrue}
 use Rattle.std.specs.List.{AllZip}
 use Rattle.batch_repr.specs.declared.batch.Batch.{Batch}
 use Rattle.block_record.specs.declared.records.Rec.{Rec}
+use Rattle.block_record.specs.declared.records.Shown.{Shown}
 use Rattle.block_record.specs.ReadOut.{ReadsOut}
 use Rattle.segment_merge.specs.declared.segment.SegmentRead.{SegmentRead}
 use Rattle.segment_merge.specs.declared.fault.MergeFault.{MergeFault}
@@ -15,11 +16,13 @@ use Rattle.disk_face.specs.Listing.{HasLength}
 use Rattle.wal_recovery.specs.declared.fault.RecoverFault.{RecoverFault}
 use Rattle.wal_recovery.specs.declared.fault.RecoverFault.TheVariants as faults
 use Rattle.wal_recovery.specs.declared.listing.Found.{Found}
+use Rattle.wal_recovery.specs.declared.reports.Mode.{Mode}
+use Rattle.wal_recovery.specs.declared.reports.Mode.TheVariants.{Strict}
 use Rattle.wal_recovery.specs.declared.reports.SegReport.{SegReport}
 use Rattle.wal_recovery.specs.declared.wals.FoundWal.{FoundWal}
 use Rattle.wal_recovery.specs.Listing.{IsListingOf}
-use Rattle.wal_recovery.specs.Recovering.{taking_numbers, Spell}
-use Rattle.wal_recovery.specs.Refused.{IsBadRecord, by_index}
+use Rattle.wal_recovery.specs.Recovering.{taking_numbers, Spell, PassesOver}
+use Rattle.wal_recovery.specs.Refused.{HasBadRecord, IsShownCorrupt, by_index}
 use Rattle.wal_recovery.specs.Rows.{place_listed, bytes_at, stored_in, wals_in}
 
 -- The segment has as many bytes as it was listed with.
@@ -30,21 +33,24 @@ IsAsListed files segment = HasLength files (place_listed segment) segment.len
 abbrev pub AreAsListed : Files → List Found → Type 0
 AreAsListed files segments = All (IsAsListed files) segments
 
--- The report says how these bytes of a listed segment read.
-pub record IsReportOf (segment : Found) (bytes : List ℕ) (report : SegReport) : Type 0 where
+-- The report says how these bytes of a listed segment read. Nothing shows it corrupt, or gaps are accepted.
+pub record IsReportOf (mode : Mode) (segment : Found) (bytes : List ℕ) (report : SegReport) : Type 0 where
   pub side : report.side ≡ segment.side
   pub name : report.name ≡ segment.name
   pub len : report.len ≡ segment.len
   pub records : List Rec
-  pub read : ReadsOut bytes (log_number segment.name.wal) records report.ends_at report.torn
+  pub shown : Option Shown
+  pub read : ReadsOut bytes (log_number segment.name.wal) records report.ends_at report.torn shown
+  pub passes : PassesOver mode shown
   pub batches : Spell records report.batches
 
--- The fault is the first bad record of these bytes of a listed segment.
-abbrev pub IsBadIn : Found → List ℕ → RecoverFault → Type 0
-IsBadIn segment bytes (faults.BadBatch wal index place fault) =
-    (wal ≡ segment.name.wal) × (index ≡ segment.name.index)
-    × (records : List Rec) × (ends_at : ℕ) × (torn : Bool) × ReadsOut bytes (log_number segment.name.wal) records ends_at torn × IsBadRecord records place fault
-IsBadIn segment bytes fault = ⊥
+-- The fault is the first bad record of these bytes of a listed segment, or, where no gap is accepted, that a chunk shows it corrupt.
+abbrev pub IsBadIn : Mode → Found → List ℕ → RecoverFault → Type 0
+IsBadIn mode segment bytes (faults.BadBatch wal index place fault) =
+    (wal ≡ segment.name.wal) × (index ≡ segment.name.index) × HasBadRecord (log_number segment.name.wal) place fault bytes
+IsBadIn mode segment bytes (faults.Corrupt wal index at shown_at) =
+    (wal ≡ segment.name.wal) × (index ≡ segment.name.index) × (mode ≡ Strict) × IsShownCorrupt (log_number segment.name.wal) at shown_at bytes
+IsBadIn mode segment bytes fault = ⊥
 
 -- the batches of a report that take a number, under an index
 abbrev pub read_as : ℕ → SegReport → SegmentRead
@@ -55,12 +61,13 @@ abbrev pub IsNumberedReport : SegReport → Type 0
 IsNumberedReport report = All IsNumbered (taking_numbers report.batches)
 
 -- One segment more: its report is added, and the batches of it that take a number.
-pub record AddsSegment (tells : Bool) (files : Files) (segment : Found) (index : ℕ) (old new : List SegReport) (row longer : List SegmentRead) : Type 0 where
+pub record AddsSegment (tells : Bool) (mode : Mode) (files : Files) (segment : Found) (index : ℕ) (old new : List SegReport)
+    (row longer : List SegmentRead) : Type 0 where
   pub report : SegReport
   pub reports : new ≡ old ++ report ∷ []
   pub rows : longer ≡ row ++ read_as index report ∷ []
   pub numbered : IsNumberedReport report
-  pub holds : IsTrue tells → IsAsListed files segment → IsReportOf segment (bytes_at files (place_listed segment)) report
+  pub holds : IsTrue tells → IsAsListed files segment → IsReportOf mode segment (bytes_at files (place_listed segment)) report
 
 -- the batches of reports that take a number
 abbrev pub counted_in : List SegReport → List (List Batch)
@@ -72,27 +79,29 @@ pub record AreReportsMerged (reports : List SegReport) (merged : List Batch) : T
   pub numbered : All IsNumberedReport reports
 
 -- Segments more, in their order.
-pub record AddsSegments (tells : Bool) (files : Files) (segments : List Found) (old new : List SegReport) : Type 0 where
+pub record AddsSegments (tells : Bool) (mode : Mode) (files : Files) (segments : List Found) (old new : List SegReport) : Type 0 where
   pub own : List SegReport
   pub reports : new ≡ old ++ own
   pub as_many : length own ≡ length segments
   pub numbered : All IsNumberedReport own
-  pub holds : IsTrue tells → AreAsListed files segments → AllZip (λ (f : Found) (r : SegReport). IsReportOf f (bytes_at files (place_listed f)) r) segments own
+  pub holds : IsTrue tells → AreAsListed files segments
+      → AllZip (λ (f : Found) (r : SegReport). IsReportOf mode f (bytes_at files (place_listed f)) r) segments own
 
 -- The row of a WAL, each segment under its own index.
-pub record GathersWal (tells : Bool) (files : Files) (segments : List Found) (old new : List SegReport) (row : List SegmentRead) : Type 0 where
-  pub added : AddsSegments tells files segments old new
+pub record GathersWal (tells : Bool) (mode : Mode) (files : Files) (segments : List Found) (old new : List SegReport)
+    (row : List SegmentRead) : Type 0 where
+  pub added : AddsSegments tells mode files segments old new
   pub rows : row ≡ by_index (map (stored_in files) segments) (counted_in added.own)
 
--- The first bad record of the segments: those before its segment read well.
-pub record IsFirstBadOf (files : Files) (segments : List Found) (fault : RecoverFault) : Type 0 where
+-- The first bad record of the segments, or the first that is corrupt: those before its segment read well.
+pub record IsFirstBadOf (mode : Mode) (files : Files) (segments : List Found) (fault : RecoverFault) : Type 0 where
   pub before : List Found
   pub here : Found
   pub after : List Found
   pub cut : segments ≡ before ++ here ∷ after
   pub reports : List SegReport
-  pub right : AllZip (λ (f : Found) (r : SegReport). IsReportOf f (bytes_at files (place_listed f)) r) before reports
-  pub bad : IsBadIn here (bytes_at files (place_listed here)) fault
+  pub right : AllZip (λ (f : Found) (r : SegReport). IsReportOf mode f (bytes_at files (place_listed f)) r) before reports
+  pub bad : IsBadIn mode here (bytes_at files (place_listed here)) fault
 
 -- Each segment is of the WAL.
 abbrev pub IsOwnWal : FoundWal → Type 0

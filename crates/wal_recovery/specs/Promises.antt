@@ -118,10 +118,10 @@ AreBytesOf tells v segment len bytes = IsTrue tells → HasLength (files v) (pla
 abbrev pub FillsBuffer : Bool → DiskView → Found → List ℕ → List ℕ → ℕ → Type 0
 FillsBuffer tells v segment old new count = AreBytesOf tells v segment (length old) (take count new)
 
--- The fault is the first bad record of the segment, the disk's or out of memory.
-abbrev pub IsBadSegment : Bool → DiskView → Found → RecoverFault → Type 0
-IsBadSegment tells v segment fault = IsTrue tells → IsAsListed (files v) segment
-    → DiskMemoryOr (IsBadIn segment (bytes_at (files v) (place_listed segment))) fault
+-- The fault is the first bad record of the segment, or that it is corrupt, or the disk's or out of memory.
+abbrev pub IsBadSegment : Bool → Mode → DiskView → Found → RecoverFault → Type 0
+IsBadSegment tells mode v segment fault = IsTrue tells → IsAsListed (files v) segment
+    → DiskMemoryOr (IsBadIn mode segment (bytes_at (files v) (place_listed segment))) fault
 
 -- ---- one WAL
 
@@ -130,12 +130,13 @@ abbrev pub IsWalByIndex : DiskView → FoundWal → Type 0
 IsWalByIndex v wal = AreByIndex 0 (map (stored_in (files v)) wal.segments.items)
 
 -- The row is that of the WAL, whose reports are added.
-abbrev pub IsRowOfWal : Bool → DiskView → FoundWal → List SegReport → List SegReport → List SegmentRead → Type 0
-IsRowOfWal tells v wal old new row = GathersWal tells (files v) wal.segments.items old new row
+abbrev pub IsRowOfWal : Bool → Mode → DiskView → FoundWal → List SegReport → List SegReport → List SegmentRead → Type 0
+IsRowOfWal tells mode v wal old new row = GathersWal tells mode (files v) wal.segments.items old new row
 
--- The fault is the first bad record of the WAL, the disk's or out of memory.
-abbrev pub IsBadWal : Bool → DiskView → FoundWal → RecoverFault → Type 0
-IsBadWal tells v wal fault = IsTrue tells → AreAsListed (files v) wal.segments.items → DiskMemoryOr (IsFirstBadOf (files v) wal.segments.items) fault
+-- The fault is the first bad record of the WAL, or that a segment of it is corrupt, or the disk's or out of memory.
+abbrev pub IsBadWal : Bool → Mode → DiskView → FoundWal → RecoverFault → Type 0
+IsBadWal tells mode v wal fault = IsTrue tells → AreAsListed (files v) wal.segments.items
+    → DiskMemoryOr (IsFirstBadOf mode (files v) wal.segments.items) fault
 
 -- The WAL merges to these batches, from this number on.
 abbrev pub MergesWal : Bool → DiskView → FoundWal → ℕ → List Batch → Type 0

@@ -1,6 +1,6 @@
 -- Why the directories are refused, in the order in which it is looked for (docs/formats/journal.md, "Recovery").
 use Rattle.batch_repr.specs.declared.limits.TheConstants.{NUMBER_FIRST}
-use Rattle.std.specs.Prelude.{◌≡◌, ℕ, ◌++◌, Bool, List, [], ◌∷◌}
+use Rattle.std.specs.Prelude.{◌≡◌, ℕ, ◌++◌, Bool, Option, Some, List, [], ◌∷◌}
 use Rattle.std.specs.List.{flat_map}
 use Rattle.disk_face.specs.Image.{log_number}
 use Rattle.batch_repr.specs.declared.batch.Batch.{Batch}
@@ -8,6 +8,7 @@ use Rattle.batch_repr.specs.declared.fault.BatchFault.{BatchFault}
 use Rattle.batch_repr.specs.Batches.{end_after}
 use Rattle.batch_repr.specs.Reading.{IsFirstFault}
 use Rattle.block_record.specs.declared.records.Rec.{Rec}
+use Rattle.block_record.specs.declared.records.Shown.{Shown}
 use Rattle.block_record.specs.ReadOut.{ReadsOut}
 use Rattle.segment_merge.specs.declared.segment.SegmentRead.{SegmentRead}
 use Rattle.segment_merge.specs.Refusals.{IsGap, IsConflict}
@@ -15,6 +16,8 @@ use Rattle.segment_merge.specs.Lenient.{MergedLenient, IsLenientConflict}
 use Rattle.disk_face.specs.View.{Dirs}
 use Rattle.wal_recovery.specs.declared.fault.RecoverFault.{RecoverFault}
 use Rattle.wal_recovery.specs.declared.fault.RecoverFault.TheVariants as faults
+use Rattle.wal_recovery.specs.declared.reports.Mode.{Mode}
+use Rattle.wal_recovery.specs.declared.reports.Mode.TheVariants.{Strict, Lenient}
 use Rattle.wal_recovery.specs.Listing.{Stored, Wal, IsListingOf, IsDuplicate}
 use Rattle.wal_recovery.specs.Recovering.{Spell, HoldRow, WalsMerge, HoldAll}
 
@@ -29,20 +32,42 @@ pub record IsBadRecord (records : List Rec) (place : ℕ) (fault : BatchFault) :
   pub place_is : place ≡ bad.at
   pub fault_is : IsFirstFault bad.bytes fault
 
--- The first record of the segments that spells no batch: those before it do, in the earlier segments too.
-pub record IsBadBatch (log : ℕ) (segments : List Stored) (index place : ℕ) (fault : BatchFault) : Type 0 where
+-- A segment with these bytes reads as records of which one spells no batch: the first such stands at this place.
+pub record HasBadRecord (log place : ℕ) (fault : BatchFault) (content : List ℕ) : Type 0 where
+  pub records : List Rec
+  pub ends_at : ℕ
+  pub torn : Bool
+  pub shown : Option Shown
+  pub read : ReadsOut content log records ends_at torn shown
+  pub bad : IsBadRecord records place fault
+
+-- A segment with these bytes reads as records that spell batches, and a chunk shows it corrupt after them.
+pub record IsShownCorrupt (log at shown_at : ℕ) (content : List ℕ) : Type 0 where
+  pub records : List Rec
+  pub ends_at : ℕ
+  pub torn : Bool
+  pub read : ReadsOut content log records ends_at torn (Some (record { at = at; shown_at = shown_at }))
+  pub all : List Batch
+  pub spelled : Spell records all
+
+-- The first of the segments that holds no batches, and this is wrong with it: those before it hold some.
+pub record IsFirstWrongSegment (mode : Mode) (log : ℕ) (segments : List Stored) (index : ℕ) (Wrong : List ℕ → Type 0) : Type 0 where
   pub before : List Stored
   pub here : Stored
   pub after : List Stored
   pub segments_are : segments ≡ before ++ here ∷ after
   pub index_is : index ≡ here.index
   pub rows : List (List Batch)
-  pub right : HoldRow log before rows
-  pub records : List Rec
-  pub ends_at : ℕ
-  pub torn : Bool
-  pub read : ReadsOut here.content log records ends_at torn
-  pub bad : IsBadRecord records place fault
+  pub right : HoldRow mode log before rows
+  pub wrong : Wrong here.content
+
+-- The first record of the segments that spells no batch: those before it do, in the earlier segments too.
+abbrev pub IsBadBatch : Mode → ℕ → List Stored → ℕ → ℕ → BatchFault → Type 0
+IsBadBatch mode log segments index place fault = IsFirstWrongSegment mode log segments index (HasBadRecord log place fault)
+
+-- The first segment that a chunk shows corrupt, and the place at which: all records before it spell batches.
+abbrev pub IsCorrupt : ℕ → List Stored → ℕ → ℕ → ℕ → Type 0
+IsCorrupt log segments index at shown_at = IsFirstWrongSegment Strict log segments index (IsShownCorrupt log at shown_at)
 
 -- The WALs before this one recover to these batches.
 pub record Reaches (dirs : Dirs) (number : ℕ) (segments : List Stored) (base : List Batch) : Type 0 where
@@ -62,14 +87,16 @@ pub record ReachesRow (dirs : Dirs) (number : ℕ) : Type 0 where
   pub base : List Batch
   pub reached : Reaches dirs number segments base
   pub row : List (List Batch)
-  pub holds : HoldRow (log_number number) segments row
+  pub holds : HoldRow Strict (log_number number) segments row
 
 -- Why strict recovery refuses.
 abbrev pub IsRefused : Dirs → RecoverFault → Type 0
 IsRefused dirs (faults.Disk side) = ⊥
 IsRefused dirs (faults.DuplicateSegment wal index) = IsDuplicate dirs wal index
 IsRefused dirs (faults.BadBatch wal index place fault) =
-    (segments : List Stored) × (base : List Batch) × Reaches dirs wal segments base × IsBadBatch (log_number wal) segments index place fault
+    (segments : List Stored) × (base : List Batch) × Reaches dirs wal segments base × IsBadBatch Strict (log_number wal) segments index place fault
+IsRefused dirs (faults.Corrupt wal index at shown_at) =
+    (segments : List Stored) × (base : List Batch) × Reaches dirs wal segments base × IsCorrupt (log_number wal) segments index at shown_at
 IsRefused dirs (faults.Gap wal index expected found) = (r : ReachesRow dirs wal)
     × IsGap (end_after NUMBER_FIRST r.base) (by_index r.segments r.row) index expected found
 IsRefused dirs (faults.Conflict wal index first) = (r : ReachesRow dirs wal)
@@ -100,14 +127,14 @@ row_up_to {segments = segments} reached own = by_index (segments_of reached.befo
 pub record IsFirstBadBatch (dirs : Dirs) (number index place : ℕ) (fault : BatchFault) : Type 0 where
   pub segments : List Stored
   pub reached : ReachesLenient dirs number segments
-  pub bad : IsBadBatch (log_number number) segments index place fault
+  pub bad : IsBadBatch Lenient (log_number number) segments index place fault
 
 -- The first batch in the row up to this WAL that begins below the end of one before it and is none of those: the segments of this WAL hold batches, and the WALs before it are merged.
 pub record IsConflictOfAll (dirs : Dirs) (number index first : ℕ) : Type 0 where
   pub segments : List Stored
   pub reached : ReachesLenient dirs number segments
   pub own : List (List Batch)
-  pub holds : HoldRow (log_number number) segments own
+  pub holds : HoldRow Lenient (log_number number) segments own
   pub wrong : IsLenientConflict (row_up_to reached own) index first
 
 -- Why recovery with gaps refuses.

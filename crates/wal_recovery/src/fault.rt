@@ -44,6 +44,15 @@ pub enum RecoverFault {
     /// Memory ran out.
     #[error("out of memory")]
     NoMemory,
+    /// The bytes of the segment at `at` are corrupt: a sync had covered them when the chunk at `shown_at` was written.
+    /// Both places are counted from the segment's front. Only where no gap is accepted.
+    #[error("segment {index} of WAL {wal} is corrupt at {at}, as the chunk at {shown_at} shows")]
+    Corrupt {
+        wal: u64,
+        index: u32,
+        at: u64,
+        shown_at: u64,
+    },
 }
 
 impl From<NoMemory> for RecoverFault {

@@ -1,11 +1,12 @@
 //! Directories in which several things are wrong: the first reason is answered, in the order of the WALs.
 //!
 //! A batch is its first number and a digit; another digit under one number is another batch. The expected answers are
-//! worked out by hand: duplicates before all; then WAL by WAL the first record that is cut short, by index and place;
-//! then the first batch that leaves a gap (only where none is accepted) or that denies one before it.
+//! worked out by hand: duplicates before all; then WAL by WAL the first record that is cut short, by index and place,
+//! or the first segment that lost synced bytes and has no such record (only where no gap is accepted); then the first
+//! batch that leaves a gap (only where none is accepted) or that denies one before it.
 
 use crate::RecoverFault;
-use crate::tests::{CUT, Summary, primary, secondary, see};
+use crate::tests::{CUT, LOST, Summary, primary, secondary, see};
 use batch_repr::BatchFault;
 
 const fn twice(wal: u64, index: u32) -> Summary {
@@ -20,6 +21,16 @@ const fn bad(wal: u64, index: u32, place: u64) -> Summary {
         index,
         place,
         fault,
+    })
+}
+
+/// The bytes from this place on are lost, as the chunk that begins the second block shows.
+const fn corrupt(wal: u64, index: u32, at: u64) -> Summary {
+    Err(RecoverFault::Corrupt {
+        wal,
+        index,
+        at,
+        shown_at: 32_768,
     })
 }
 
@@ -202,5 +213,75 @@ fn a_gap_and_a_conflict_are_named_by_their_places(rt: HostRuntime) {
         &only_a_gap,
         gap(2, 0, 11, 12),
         Ok((3, Some(b'3'), 14, 4)),
+    );
+}
+
+/// Within a segment a bad batch comes first, and of two segments of a WAL the one of the lesser index.
+#[test]
+fn of_a_bad_batch_and_lost_bytes_the_first_is_named(rt: HostRuntime) {
+    let within = [primary(1, 0, &[(10, CUT), (11, LOST)])];
+    see(&rt, rt.alloc(), &within, bad(1, 0, 0), bad(1, 0, 0));
+    let behind_bad = [
+        primary(1, 0, &[(10, 1), (11, CUT)]),
+        secondary(1, 1, &[(11, LOST)]),
+    ];
+    see(&rt, rt.alloc(), &behind_bad, bad(1, 0, 28), bad(1, 0, 28));
+    let ahead_of_bad = [
+        primary(1, 0, &[(10, 1), (11, LOST)]),
+        secondary(1, 1, &[(11, CUT)]),
+    ];
+    see(
+        &rt,
+        rt.alloc(),
+        &ahead_of_bad,
+        corrupt(1, 0, 28),
+        bad(1, 1, 0),
+    );
+    let twice_lost = [
+        primary(1, 0, &[(10, 1)]),
+        secondary(1, 1, &[(11, 2), (12, LOST)]),
+        primary(1, 2, &[(11, 2), (12, 3), (13, LOST)]),
+    ];
+    see(
+        &rt,
+        rt.alloc(),
+        &twice_lost,
+        corrupt(1, 1, 28),
+        Ok((3, Some(b'3'), 13, 2)),
+    );
+}
+
+/// Lost bytes are looked for before the row of their WAL is merged, and once the WALs before it are.
+#[test]
+fn lost_bytes_come_before_what_their_own_wal_merges_to(rt: HostRuntime) {
+    let behind_gap = [
+        primary(1, 0, &[(10, 1), (12, 1)]),
+        secondary(1, 3, &[(12, 1), (13, LOST)]),
+    ];
+    see(
+        &rt,
+        rt.alloc(),
+        &behind_gap,
+        corrupt(1, 3, 28),
+        Ok((2, Some(b'1'), 13, 2)),
+    );
+    let behind_conflict = [primary(1, 0, &[(10, 1), (10, 2), (11, LOST)])];
+    see(
+        &rt,
+        rt.alloc(),
+        &behind_conflict,
+        corrupt(1, 0, 56),
+        conflict(1, 0, 10),
+    );
+    let of_a_later_wal = [
+        primary(1, 0, &[(10, 1), (12, 1)]),
+        primary(2, 0, &[(13, 1), (14, LOST)]),
+    ];
+    see(
+        &rt,
+        rt.alloc(),
+        &of_a_later_wal,
+        gap(1, 0, 11, 12),
+        Ok((3, Some(b'1'), 14, 3)),
     );
 }

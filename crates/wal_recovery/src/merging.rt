@@ -1,6 +1,6 @@
 //! The segments of WALs as rows of batches, and the rows as one list.
 
-ghost use Rattle.std.specs.Prelude.{◌≡◌, ◌≤◌, ◌∷◌, ◌++◌, [], All, IfOk, IfErr, OnOk};
+ghost use Rattle.std.specs.Prelude.{◌≡◌, ◌≤◌, ◌∷◌, ◌++◌, [], All, Some, IfSome, IfNone, IfOk, IfErr, OnOk};
 ghost use Rattle.batch_repr.specs.declared.limits.TheConstants.{NUMBER_FIRST, NUMBER_MAX};
 ghost use Rattle.batch_repr.specs.Batches.{end_after, IsContiguous};
 ghost use Rattle.segment_merge.specs.Rows.{IsNumbered, IsRow};
@@ -8,6 +8,7 @@ ghost use Rattle.disk_face.specs.View.{files};
 ghost use Rattle.disk_face.specs.Calls.{GoesOn, SameDisk};
 ghost use Rattle.wal_recovery.specs.declared.reports.Mode.TheVariants.{Strict, Lenient};
 ghost use Rattle.wal_recovery.specs.Listing.{AreByNumber};
+ghost use Rattle.wal_recovery.specs.Recovering.{PassesOver};
 ghost use Rattle.wal_recovery.specs.Answers.{FaultRose, NoFaultRose, DiskMemoryOr};
 ghost use Rattle.wal_recovery.specs.Rows.{wals_in};
 ghost use Rattle.wal_recovery.specs.Gathered.{IsReportOf, IsBadIn, AddsSegment};
@@ -22,40 +23,67 @@ use crate::decoding::{DecodeFault, batches_of, counted_of};
 use crate::fault::RecoverFault;
 use crate::listing::Found;
 use crate::reading::read_bytes;
-use crate::reports::{SegReport, SegReports};
+use crate::reports::{Mode, SegReport, SegReports};
 use crate::wals::{FoundWal, FoundWals};
 use batch_repr::{Batch, Batches, NUMBER_FIRST};
-use block_record::read_out_shared;
+use block_record::{Shown, read_out_shared};
 use disk_face::Disk;
 use segment_merge::{LenientMerge, MergeFault, SegmentRead, Segments, merge};
 use std::alloc::Global;
 
+/// What shows a segment corrupt, where it is not passed over.
+fn refused_shown(mode: Mode, shown: Option<Shown>) -> Option<Shown>
+    ensures refused { IfSome result (λ s. (mode ≡ Strict) × (shown ≡ Some s)) }
+    ensures passes { IfNone result (PassesOver mode shown) }
+{
+    match mode {
+        Mode::Strict => shown,
+        Mode::Lenient => None,
+    }
+}
+
 /// The report on a segment with these bytes.
-fn report_of(alloc: Global, segment: Found, bytes: Vec<u8>) -> Result<SegReport, RecoverFault>
-    ensures report { IfOk result (IsReportOf segment bytes.items) }
-    ensures bad { IfErr result (DiskMemoryOr (IsBadIn segment bytes.items)) }
+fn report_of(
+    alloc: Global,
+    segment: Found,
+    mode: Mode,
+    bytes: Vec<u8>,
+) -> Result<SegReport, RecoverFault>
+    ensures report { IfOk result (IsReportOf mode segment bytes.items) }
+    ensures bad { IfErr result (DiskMemoryOr (IsBadIn mode segment bytes.items)) }
     ensures rose { IfErr result IsNoDisk }
 {
     let Found { side, name, len } = segment;
     let log = name.log();
     let out = read_out_shared(alloc, log, bytes)?;
-    match batches_of(alloc, out.records.as_slice()) {
-        Ok(batches) => Ok(SegReport {
-            side,
-            name,
-            len,
-            ends_at: out.ends_at,
-            torn: out.torn,
-            batches,
-        }),
-        Err(DecodeFault::Bad { place, fault }) => Err(RecoverFault::BadBatch {
+    let batches = match batches_of(alloc, out.records.as_slice()) {
+        Ok(batches) => batches,
+        Err(DecodeFault::Bad { place, fault }) => {
+            return Err(RecoverFault::BadBatch {
+                wal: name.wal,
+                index: name.index,
+                place,
+                fault,
+            });
+        }
+        Err(DecodeFault::NoMemory) => return Err(RecoverFault::NoMemory),
+    };
+    if let Some(shown) = refused_shown(mode, out.shown) {
+        return Err(RecoverFault::Corrupt {
             wal: name.wal,
             index: name.index,
-            place,
-            fault,
-        }),
-        Err(DecodeFault::NoMemory) => Err(RecoverFault::NoMemory),
+            at: shown.at,
+            shown_at: shown.shown_at,
+        });
     }
+    Ok(SegReport {
+        side,
+        name,
+        len,
+        ends_at: out.ends_at,
+        torn: out.torn,
+        batches,
+    })
 }
 
 /// Reads one segment more: adds its report, and its batches to the row under this index.
@@ -63,6 +91,7 @@ fn read_segment<D: Disk>(
     alloc: Global,
     disk: &mut D,
     segment: Found,
+    mode: Mode,
     index: u32,
     reports: &mut SegReports,
     row: &mut Segments,
@@ -72,11 +101,12 @@ fn read_segment<D: Disk>(
     ensures same { SameDisk (D.view disk.old) (D.view disk.new) }
     ensures rose { IfErr result (FaultRose (D.view disk.old) (D.view disk.new)) }
     ensures calm { OnOk result (NoFaultRose (D.view disk.old) (D.view disk.new)) }
-    ensures added { OnOk result (AddsSegment D.tells (files (D.view disk.old)) segment index reports.old reports.new row.old row.new) }
-    ensures bad { IfErr result (IsBadSegment D.tells (D.view disk.old) segment) }
+    ensures added { OnOk result (AddsSegment D.tells mode (files (D.view disk.old)) segment index
+        reports.old reports.new row.old row.new) }
+    ensures bad { IfErr result (IsBadSegment D.tells mode (D.view disk.old) segment) }
 {
     let bytes = read_bytes(alloc, disk, segment)?;
-    let report = report_of(alloc, segment, bytes)?;
+    let report = report_of(alloc, segment, mode, bytes)?;
     let batches = counted_of(alloc, report.batches.as_slice())?;
     if reports.push(report).is_err() {
         return Err(RecoverFault::NoMemory);
@@ -92,6 +122,7 @@ fn read_wal<D: Disk>(
     alloc: Global,
     disk: &mut D,
     wal: &FoundWal,
+    mode: Mode,
     reports: &mut SegReports,
 ) -> Result<Segments, RecoverFault>
     requires { IsWalByIndex (D.view disk.old) wal.now }
@@ -101,12 +132,21 @@ fn read_wal<D: Disk>(
     ensures rose { IfErr result (FaultRose (D.view disk.old) (D.view disk.new)) }
     ensures calm { OnOk result (NoFaultRose (D.view disk.old) (D.view disk.new)) }
     ensures row { IfOk result IsRow }
-    ensures gathered { IfOk result (IsRowOfWal D.tells (D.view disk.old) wal.now reports.old reports.new) }
-    ensures bad { IfErr result (IsBadWal D.tells (D.view disk.old) wal.now) }
+    ensures gathered { IfOk result
+        (IsRowOfWal D.tells mode (D.view disk.old) wal.now reports.old reports.new) }
+    ensures bad { IfErr result (IsBadWal D.tells mode (D.view disk.old) wal.now) }
 {
     let mut row = Segments::new(alloc);
     for segment in &wal.segments {
-        read_segment(alloc, disk, *segment, segment.name.index, reports, &mut row)?;
+        read_segment(
+            alloc,
+            disk,
+            *segment,
+            mode,
+            segment.name.index,
+            reports,
+            &mut row,
+        )?;
     }
     Ok(row)
 }
@@ -152,7 +192,7 @@ fn merge_wal<D: Disk>(
     ensures reports { OnOk result (ReportsOnWal D.tells (D.view disk.old) wal.now reports.old reports.new) }
     ensures refused { IfErr result (IsWalRefused D.tells (D.view disk.old) wal.now next) }
 {
-    let row = read_wal(alloc, disk, wal, reports)?;
+    let row = read_wal(alloc, disk, wal, Mode::Strict, reports)?;
     match merge(alloc, next, row) {
         Ok(own) => Ok(own),
         Err(fault) => Err(refusal(wal.number, fault)),
@@ -246,7 +286,7 @@ fn add_wal<D: Disk>(
     ensures reports { OnOk result (ReportsOnWal D.tells (D.view disk.old) wal.now reports.old reports.new) }
     ensures refused { RefusesWalLeniently D.tells (D.view disk.old) wal.now so_far result }
 {
-    let row = read_wal(alloc, disk, wal, reports)?;
+    let row = read_wal(alloc, disk, wal, Mode::Lenient, reports)?;
     match so_far.add(row) {
         Ok(more) => Ok(more),
         Err(fault) => Err(refusal(wal.number, fault)),

@@ -114,9 +114,11 @@ fn recover_lenient<D: Disk>(
 /// Each side is listed once, the primary one first. `DuplicateSegment` is looked for over all names, before any
 /// segment is read. Then the WALs are read, decoded and merged in ascending order, each only once those before it are
 /// merged, and the first refusal met is the answer. `Strict` merges each WAL from the end of those before it, and syncs
-/// every segment before it answers `Ok`. `Lenient` merges the segments of all WALs as one row, accepts gaps, and starts
-/// no operation. `Disk` is answered at the call that failed, which is not tried again: a second sync may be answered
-/// well though bytes are lost. `NoMemory` may come at any time. Nothing is in flight at the end, whatever is answered.
+/// every segment before it answers `Ok`. It refuses a segment that a chunk shows corrupt, once all its records are known
+/// to be batches, and before its WAL is merged. `Lenient` merges the segments of all WALs as one row, accepts gaps and
+/// corrupt segments, and starts no operation. `Disk` is answered at the call that failed, which is not tried again: a
+/// second sync may be answered well though bytes are lost. `NoMemory` may come at any time. Nothing is in flight at the
+/// end, whatever is answered.
 pub fn recover<D: Disk>(alloc: Global, disk: &mut D, mode: Mode) -> Result<Recovered, RecoverFault>
     requires { NothingInFlight (D.view disk.old) }
     ensures goes_on { GoesOn (D.view disk.old) (D.view disk.new) }

@@ -2,12 +2,12 @@ use batch_repr::Batches;
 use disk_face::{SegName, Side};
 use wal_base::ListOf;
 
-/// Whether gaps between the numbers are accepted.
+/// Whether gaps between the numbers are accepted, and segments that are corrupt.
 #[derive(Clone, Copy, Debug, PartialEq, Eq)]
 pub enum Mode {
-    /// No gap is accepted, and what is read is synced.
+    /// No gap is accepted and no corrupt segment, and what is read is synced.
     Strict,
-    /// Gaps are accepted, and nothing is synced.
+    /// Gaps are accepted, corrupt segments are read up to where they are corrupt, and nothing is synced.
     Lenient,
 }
 

@@ -1,6 +1,6 @@
 use crate::{Mode, RecoverFault, Recovered, recover};
 use batch_repr::{BatchFault, Batches};
-use crc_chunk::{ChunkKind, put_chunk};
+use crc_chunk::{BLOCK, ChunkKind, put_chunk, put_sync_chunk};
 use disk_face::{Disk, SegName, Side};
 use mem_disk::MemDisk;
 use std::alloc::Global;
@@ -38,6 +38,9 @@ pub(crate) fn secondary<'a>(wal: u64, index: u32, batches: &'a [(u8, u8)]) -> Se
 /// In place of a digit: the record ends within its batch, in the entry at 12.
 pub(crate) const CUT: u8 = 10;
 
+/// In place of a digit, and last: the bytes up to the second block are lost, which a sync had covered before it began.
+pub(crate) const LOST: u8 = 11;
+
 /// The record of a batch.
 fn record_of(first: u8, digit: u8) -> [u8; 17] {
     let mut record = *b"\x0a\0\0\0\0\0\0\0\x01\0\0\0\x01\x01a\x010";
@@ -57,11 +60,31 @@ fn append(rt: &impl Abort, bytes: &mut Buf, log: u32, record: &[u8; 17]) {
     bytes.append(&chunk).expect(rt, "memory");
 }
 
+/// Adds the sync chunk of a record.
+fn append_sync(rt: &impl Abort, bytes: &mut Buf, log: u32, offset: u64, record: &[u8; 17]) {
+    let mut chunk = [0u8; 36];
+    put_sync_chunk(&mut chunk, ChunkKind::Full, log, offset, record);
+    bytes.append(&chunk).expect(rt, "memory");
+}
+
+/// Adds zeros up to the second block.
+fn lose_rest(rt: &impl Abort, bytes: &mut Buf) {
+    let zeros = [0u8; BLOCK];
+    if let Some(rest) = zeros.get(bytes.as_slice().len()..) {
+        bytes.append(rest).expect(rt, "memory");
+    }
+}
+
 /// The bytes of a segment.
 fn bytes_of(rt: &impl Abort, alloc: Global, log: u32, batches: &[(u8, u8)]) -> Buf {
     let mut bytes = Buf::new(alloc).expect(rt, "memory");
     for (first, digit) in batches {
-        append(rt, &mut bytes, log, &record_of(*first, *digit));
+        if *digit == LOST {
+            lose_rest(rt, &mut bytes);
+            append_sync(rt, &mut bytes, log, 32_768, &record_of(*first, 0));
+        } else {
+            append(rt, &mut bytes, log, &record_of(*first, *digit));
+        }
     }
     bytes
 }
@@ -316,6 +339,59 @@ fn a_record_that_is_no_batch_is_refused(rt: HostRuntime) {
     });
     gives(&rt, rt.alloc(), &mut rig, Mode::Strict, &bad);
     gives(&rt, rt.alloc(), &mut rig, Mode::Lenient, &bad);
+}
+
+/// A disk with a segment of two old chunks and two sync chunks. The last one has this offset, and what is lost, if
+/// anything, is the rest of the block before it.
+fn of_both_forms(rt: &impl Abort, alloc: Global, is_lost: bool, offset: u64) -> Rig {
+    let mut rig = Rig::new(rt, alloc);
+    let mut bytes = bytes_of(rt, alloc, 1, &[(10, 1), (11, 2)]);
+    append_sync(rt, &mut bytes, 1, 56, &record_of(12, 3));
+    if is_lost {
+        lose_rest(rt, &mut bytes);
+    }
+    append_sync(rt, &mut bytes, 1, offset, &record_of(13, 4));
+    rig.put(rt, Side::Primary, FIRST, bytes.as_slice());
+    rig
+}
+
+/// What is told of the segment of both forms.
+const fn of_first(len: u64, ends_at: u64, torn: bool, batches: usize) -> Told {
+    Told {
+        side: Side::Primary,
+        name: FIRST,
+        len,
+        ends_at,
+        torn,
+        batches,
+    }
+}
+
+#[test]
+fn old_chunks_and_sync_chunks_make_one_segment(rt: HostRuntime) {
+    let mut rig = of_both_forms(&rt, rt.alloc(), false, 56);
+    let whole = of_first(128, 128, false, 4);
+    let all = Ok((4, Some(b'4'), 14, 2));
+    tells(&rt, rt.alloc(), &mut rig, Mode::Strict, 0, whole, &all);
+    tells(&rt, rt.alloc(), &mut rig, Mode::Lenient, 0, whole, &all);
+}
+
+/// What is lost at 92 was synced only if the offset is above 92.
+#[test]
+fn lost_bytes_that_were_synced_are_refused(rt: HostRuntime) {
+    let read = of_first(32_804, 92, true, 3);
+    let three = Ok((3, Some(b'3'), 13, 2));
+    let mut torn = of_both_forms(&rt, rt.alloc(), true, 92);
+    tells(&rt, rt.alloc(), &mut torn, Mode::Strict, 0, read, &three);
+    let mut lost = of_both_forms(&rt, rt.alloc(), true, 93);
+    tells(&rt, rt.alloc(), &mut lost, Mode::Lenient, 0, read, &three);
+    let corrupt = Err(RecoverFault::Corrupt {
+        wal: 1,
+        index: 0,
+        at: 92,
+        shown_at: 32_768,
+    });
+    gives(&rt, rt.alloc(), &mut lost, Mode::Strict, &corrupt);
 }
 
 #[test]

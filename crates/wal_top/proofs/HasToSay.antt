@@ -70,6 +70,8 @@ module _ (c : Invocation) (mode : Mode) (words : RecoversIn c.words mode) (reach
       (refuses (faults.Gap wal index expected found) text t tt is (same tt))
   says_unrecovered (faults.Conflict wal index first) status text (s, t) rose is same = as_status c text status _ s
       (refuses (faults.Conflict wal index first) text t tt is (same tt))
+  says_unrecovered (faults.Corrupt wal index at shown_at) status text (s, t) rose is same = as_status c text status _ s
+      (refuses (faults.Corrupt wal index at shown_at) text t tt is (same tt))
   says_unrecovered faults.NoMemory status text says rose is same = absurd says
 
 -- work says that its journal died, that a reply told a limit, or that it is done

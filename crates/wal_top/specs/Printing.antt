@@ -5,7 +5,7 @@ use Rattle.std.specs.Fmt.{decimal}
 use Rattle.disk_face.specs.declared.Side.{Side}
 use Rattle.disk_face.specs.declared.Side.TheVariants.{Primary, Secondary}
 use Rattle.text_lines.specs.Lines.{segment_line, batch_lines}
-use Rattle.text_lines.specs.Refusals.{duplicate_line, bad_batch_line, gap_line, conflict_line}
+use Rattle.text_lines.specs.Refusals.{duplicate_line, bad_batch_line, gap_line, conflict_line, corrupt_line}
 use Rattle.wal_recovery.specs.declared.reports.SegReport.{SegReport}
 use Rattle.wal_recovery.specs.declared.fault.RecoverFault.{RecoverFault}
 use Rattle.wal_recovery.specs.declared.fault.RecoverFault.TheVariants as faults
@@ -52,6 +52,7 @@ refusal_text (faults.BadBatch wal index place fault) = bad_batch_line (name_in w
 refusal_text (faults.Gap wal index expected found) = gap_line (name_in wal index) expected found
 refusal_text (faults.Conflict wal index first) = conflict_line (name_in wal index) first
 refusal_text faults.NoMemory = []
+refusal_text (faults.Corrupt wal index at shown_at) = corrupt_line (name_in wal index) at shown_at
 
 -- the whole text where the last WAL is taken
 abbrev pub limit_wal_text : List ℕ

@@ -8,7 +8,7 @@ use crate::status::Status;
 use batch_repr::BatchFault;
 use disk_face::{SegName, Side};
 use std::alloc::Global;
-use text_lines::{put_bad_batch, put_conflict, put_duplicate, put_gap};
+use text_lines::{put_bad_batch, put_conflict, put_corrupt, put_duplicate, put_gap};
 use wal_base::{Buf, NoMemory};
 use wal_recovery::RecoverFault;
 
@@ -75,6 +75,12 @@ pub(crate) fn unrecovered(alloc: Global, fault: RecoverFault) -> Result<Said, No
         RecoverFault::Conflict { wal, index, first } => {
             put_conflict(&mut text, SegName { wal, index }, first)?;
         }
+        RecoverFault::Corrupt {
+            wal,
+            index,
+            at,
+            shown_at,
+        } => put_corrupt(&mut text, SegName { wal, index }, at, shown_at)?,
     }
     Ok(Said {
         status: Status::Refused,

@@ -14,7 +14,7 @@ mod stalls;
 mod statuses;
 
 use crate::{NoGate, Ran, Status, run};
-use crc_chunk::{ChunkKind, put_chunk};
+use crc_chunk::{ChunkKind, put_chunk, put_sync_chunk};
 use disk_face::{Disk, SegName, Side, StallDisk};
 use mem_disk::{CrashPick, FilePick, FilePicks, MemDisk};
 use std::alloc::{AllocError, Global};
@@ -245,7 +245,8 @@ fn check_log<R: Threads + Wait + Sync + Abort>(
 }
 
 /// The log of one batch that sets `a` to `1`.
-const FIRST_LOG: &[u8] = b"\x5e\x28\x29\x10\x11\x00\x05\x01\x00\x00\x00\
+const FIRST_LOG: &[u8] = b"\x1a\x4a\xb2\xe4\x11\x00\x09\x01\x00\x00\x00\
+    \x00\x00\x00\x00\x00\x00\x00\x00\
     \x0a\x00\x00\x00\x00\x00\x00\x00\x01\x00\x00\x00\
     \x01\x01\x61\x01\x31";
 
@@ -267,7 +268,25 @@ fn append(segment: &mut Buf, log: u32, payload: &[u8]) -> Result<(), NoMemory>
     segment.append(&chunk[..len])
 }
 
-/// A segment of such batches.
+/// Adds one sync chunk of a log to a segment, as the program writes it.
+fn append_sync(segment: &mut Buf, log: u32, offset: u64, payload: &[u8]) -> Result<(), NoMemory>
+    requires { length payload.now ≤ 100 }
+{
+    let mut chunk = [0u8; 119];
+    let len = put_sync_chunk(&mut chunk, ChunkKind::Full, log, offset, payload);
+    segment.append(&chunk[..len])
+}
+
+/// A segment of batches that set `a`, as the program writes it: each has a sync offset.
+fn written_of(alloc: Global, log: u32, batches: &[(u8, u8, u64)]) -> Result<Buf, NoMemory> {
+    let mut segment = Buf::new(alloc)?;
+    for (first, digit, offset) in batches {
+        append_sync(&mut segment, log, *offset, &record_of(*first, b'a', *digit))?;
+    }
+    Ok(segment)
+}
+
+/// A segment of such batches without sync offsets.
 fn segment_of(alloc: Global, log: u32, batches: &[(u8, u8)]) -> Result<Buf, NoMemory> {
     let mut segment = Buf::new(alloc)?;
     for (first, digit) in batches {

@@ -1,4 +1,6 @@
-use super::{Rig, append, check_command, check_crash, check_replay, log_at, record_of, tail_of};
+use super::{
+    Rig, append_sync, check_command, check_crash, check_replay, log_at, record_of, tail_of,
+};
 use crate::Status;
 use disk_face::{SegName, Side};
 use mem_disk::MemDisk;
@@ -77,16 +79,21 @@ fn a_replay_goes_on_where_a_halted_one_crashed(rt: HostRuntime) -> Result<(), Fa
         s1 get a = 3 @12\n\
         end visible 12 batches 1 acked 1 segments 1 closed\n";
     let disk = check_command(&rt, alloc, rig, &["replay"], script, Status::Done, text)?;
-    assert_eq!(rt; log_at(&disk, 1).map(|log| log.len()), Some(28));
-    assert_eq!(rt; log_at(&disk, 2).map(|log| log.len()), Some(28));
+    assert_eq!(rt; log_at(&disk, 1).map(|log| log.len()), Some(36));
+    assert_eq!(rt; log_at(&disk, 2).map(|log| log.len()), Some(36));
     check_crash(&rt, alloc, disk, "a = 3\nend batches 2 next 12\n")
 }
 
-/// The log of three batches, which set `a` to `1`, `b` to `2` and `c` to `3`.
-fn three_batches(alloc: Global) -> Result<Buf, NoMemory> {
+/// The log of three batches, which set `a` to `1`, `b` to `2` and `c` to `3`. So many bytes were synced as the third was
+/// written.
+fn three_batches(alloc: Global, synced: u64) -> Result<Buf, NoMemory> {
     let mut log = Buf::new(alloc)?;
-    for (first, key, digit) in [(10, b'a', b'1'), (11, b'b', b'2'), (12, b'c', b'3')] {
-        append(&mut log, 1, &record_of(first, key, digit))?;
+    for (first, key, digit, offset) in [
+        (10, b'a', b'1', 0),
+        (11, b'b', b'2', 0),
+        (12, b'c', b'3', synced),
+    ] {
+        append_sync(&mut log, 1, offset, &record_of(first, key, digit))?;
     }
     Ok(log)
 }
@@ -115,17 +122,17 @@ fn store_of(batches: usize) -> &'static str {
     }
 }
 
-/// Asserts that all three batches were sent, and how many of them are recovered once a crash left a tail after the stable
+/// Asserts that this log was sent, and how many of them are recovered once a crash left a tail after the stable
 /// bytes. The crash meets the premise on checksums.
 fn check_tail<R: Threads + Wait + Sync + Abort>(
     rt: &R,
     alloc: Global,
     disk: MemDisk,
+    sent: &Buf,
     tail: &[u8],
     batches: usize,
 ) -> Result<(), Fail> {
     let name = SegName { wal: 1, index: 0 };
-    let sent = three_batches(alloc)?;
     assert!(rt; disk.sent(Side::Primary, name) == Some(sent.as_slice()));
     let pick = tail_of(alloc, tail)?;
     assert!(rt; disk.chance_free(&pick)?);
@@ -144,18 +151,18 @@ fn a_crash_leaves_a_front_of_what_was_not_synced(rt: HostRuntime) -> Result<(), 
         s0 commit 11 1\n\
         s0 commit 12 1\n\
         end visible 13 batches 3 acked 0 segments 1 halted\n";
-    let log = three_batches(alloc)?;
+    let log = three_batches(alloc, 0)?;
     let wrong = changed(alloc, &log, 0, 40)?;
     for (tail, batches) in [
-        (part(&log, 0, 84), 3),
-        (part(&log, 0, 83), 2),
-        (part(&log, 0, 56), 2),
-        (part(&log, 0, 28), 1),
+        (part(&log, 0, 108), 3),
+        (part(&log, 0, 107), 2),
+        (part(&log, 0, 72), 2),
+        (part(&log, 0, 36), 1),
         (b"".as_slice(), 0),
         (wrong.as_slice(), 1),
     ] {
         let disk = check_replay(&rt, alloc, script, Status::Done, text)?;
-        check_tail(&rt, alloc, disk, tail, batches)?;
+        check_tail(&rt, alloc, disk, &log, tail, batches)?;
     }
     Ok(())
 }
@@ -170,30 +177,31 @@ fn two_synced<R: Threads + Wait + Sync + Abort>(rt: &R, alloc: Global) -> Result
     check_replay(rt, alloc, script, Status::Done, text)
 }
 
-/// Asserts how many of those batches are recovered where a crash leaves this tail after what is stable.
+/// Asserts how many of those batches are recovered of their log, where a crash leaves this tail after what is stable.
 fn check_left<R: Threads + Wait + Sync + Abort>(
     rt: &R,
     alloc: Global,
+    log: &Buf,
     tail: &[u8],
     batches: usize,
 ) -> Result<(), Fail> {
     let disk = two_synced(rt, alloc)?;
-    check_tail(rt, alloc, disk, tail, batches)
+    check_tail(rt, alloc, disk, log, tail, batches)
 }
 
 #[test]
 fn a_crash_leaves_all_that_was_synced(rt: HostRuntime) -> Result<(), Fail> {
     let alloc = rt.alloc();
-    let log = three_batches(alloc)?;
-    let wrong = changed(alloc, &log, 56, 83)?;
-    check_left(&rt, alloc, part(&log, 56, 84), 3)?;
-    check_left(&rt, alloc, part(&log, 56, 83), 2)?;
-    check_left(&rt, alloc, b"", 2)?;
-    check_left(&rt, alloc, b"\0\0\0\0\0\0\0\0\0\0\0\0", 2)?;
-    check_left(&rt, alloc, wrong.as_slice(), 2)?;
+    let log = three_batches(alloc, 72)?;
+    let wrong = changed(alloc, &log, 72, 107)?;
+    check_left(&rt, alloc, &log, part(&log, 72, 108), 3)?;
+    check_left(&rt, alloc, &log, part(&log, 72, 107), 2)?;
+    check_left(&rt, alloc, &log, b"", 2)?;
+    check_left(&rt, alloc, &log, b"\0\0\0\0\0\0\0\0\0\0\0\0", 2)?;
+    check_left(&rt, alloc, &log, wrong.as_slice(), 2)?;
     // Where the tail has a whole chunk of another place, the premise is not met.
     let disk = two_synced(&rt, alloc)?;
-    let pick = tail_of(alloc, part(&log, 0, 28))?;
+    let pick = tail_of(alloc, part(&log, 0, 36))?;
     assert!(rt; !disk.chance_free(&pick)?);
     Ok(())
 }

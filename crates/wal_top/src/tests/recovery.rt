@@ -1,8 +1,9 @@
 use super::{FIRST_LOG, Rig, append, check_command, log_at, record_of, rig_of, segment_of};
 use crate::Status;
 use disk_face::{SegName, Side};
+use std::alloc::Global;
 use std::test::Fail;
-use wal_base::Buf;
+use wal_base::{Buf, NoMemory};
 
 #[test]
 fn segments_are_recovered(rt: HostRuntime) -> Result<(), Fail> {
@@ -138,6 +139,50 @@ fn an_index_may_be_missing(rt: HostRuntime) -> Result<(), Fail> {
     let script = b"commit 0 nosync set a 4\n";
     let text = "s0 commit 13 1\nend visible 14 batches 1 acked 1 segments 1 closed\n";
     let disk = check_command(&rt, alloc, rig, &["replay"], script, Status::Done, text)?;
-    assert_eq!(rt; log_at(&disk, 4).map(|log| log.len()), Some(28));
+    assert_eq!(rt; log_at(&disk, 4).map(|log| log.len()), Some(36));
+    Ok(())
+}
+
+/// A script that syncs a batch and then commits one of so many letters, which goes over a block's end.
+fn two_commits(alloc: Global, letters: usize) -> Result<Buf, NoMemory> {
+    let mut script = Buf::new(alloc)?;
+    script.append(b"commit 0 sync set a 1\ncommit 0 sync set b ")?;
+    for _ in 0..letters {
+        script.append(b"v")?;
+    }
+    script.append(b"\n")?;
+    Ok(script)
+}
+
+#[test]
+fn a_chunk_shows_what_was_synced_and_is_corrupt(rt: HostRuntime) -> Result<(), Fail> {
+    let alloc = rt.alloc();
+    let script = two_commits(alloc, 40_000)?;
+    let text = "s0 commit 10 1 synced\n\
+        s0 commit 11 1 synced\n\
+        end visible 12 batches 2 acked 2 segments 1 closed\n";
+    let rig = Rig::new(alloc)?;
+    let disk = check_command(
+        &rt,
+        alloc,
+        rig,
+        &["replay"],
+        script.as_slice(),
+        Status::Done,
+        text,
+    )?;
+    let mut log = Buf::new(alloc)?;
+    log.append(log_at(&disk, 1).unwrap_or(&[]))?;
+    let mut wrong = Buf::new(alloc)?;
+    wrong.append(&log.as_slice()[..20.min(log.as_slice().len())])?;
+    wrong.append(b"\xff")?;
+    wrong.append(log.as_slice().get(21..).unwrap_or(&[]))?;
+    let rig = rig_of(&rt, alloc, wrong.as_slice(), None)?;
+    let text = "refused corrupt 000001.log 0 32768\n";
+    let disk = check_command(&rt, alloc, rig, &["recover"], b"", Status::Refused, text)?;
+    let rig = Rig::after_crash(&rt, alloc, disk);
+    let text =
+        "segment 000001.log primary bytes 40092 records 0 ends 0 torn\nend batches 0 next 10\n";
+    check_command(&rt, alloc, rig, &["dump"], b"", Status::Done, text)?;
     Ok(())
 }

@@ -316,7 +316,7 @@ fn a_replay_goes_on_where_one_stopped(rt: HostRuntime) -> Result<(), Fail> {
     let text = "s0 get b = 2 @12\nend visible 12 batches 0 acked 0 segments 0 closed\n";
     let disk = check_command(&rt, alloc, rig, words, script, Status::Done, text)?;
     assert!(rt; log_at(&disk, 1) == Some(FIRST_LOG));
-    assert_eq!(rt; log_at(&disk, 2).map(|log| log.len()), Some(28));
+    assert_eq!(rt; log_at(&disk, 2).map(|log| log.len()), Some(36));
     assert!(rt; log_at(&disk, 3).is_none());
     check_crash(&rt, alloc, disk, "a = 1\nb = 2\nend batches 2 next 12\n")
 }
@@ -368,28 +368,28 @@ fn logged<R: Threads + Wait + Sync + Abort>(
 }
 
 // Before its value a record has 18 bytes, or 16 where the value is short. So the first script has one record of
-// 70,000 bytes, and the others one of 32,746 or 32,757 bytes and one of 17. A chunk's type is its byte 6.
+// 70,000 bytes, and the others one of 32,730 or 32,749 bytes and one of 17. A chunk's type is its byte 6.
 #[test]
 fn a_log_goes_on_in_the_next_block(rt: HostRuntime) -> Result<(), Fail> {
     let alloc = rt.alloc();
-    let types = [Some(6), Some(7), Some(8)];
-    check_blocks(&rt, alloc, &[69_982], &[6, 32_774, 65_542], types, 70_033)?;
-    let types = [Some(5), Some(6), Some(8)];
+    let types = [Some(10), Some(11), Some(12)];
+    check_blocks(&rt, alloc, &[69_982], &[6, 32_774, 65_542], types, 70_057)?;
+    let types = [Some(9), Some(10), Some(12)];
     check_blocks(
         &rt,
         alloc,
-        &[32_728, 1],
-        &[6, 32_763, 32_774],
+        &[32_712, 1],
+        &[6, 32_755, 32_774],
         types,
-        32_796,
+        32_804,
     )?;
-    let types = [Some(5), Some(5), None];
+    let types = [Some(9), Some(9), None];
     check_blocks(
         &rt,
         alloc,
-        &[32_739, 1],
-        &[6, 32_774, 32_796],
+        &[32_731, 1],
+        &[6, 32_774, 32_804],
         types,
-        32_796,
+        32_804,
     )
 }

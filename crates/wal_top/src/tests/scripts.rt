@@ -1,4 +1,4 @@
-use super::{Rig, check_command, check_crash, check_replay, log_at, segment_at, segment_of};
+use super::{Rig, check_command, check_crash, check_replay, log_at, segment_at, written_of};
 use crate::Status;
 use std::test::Fail;
 
@@ -56,7 +56,7 @@ fn a_stalled_round_is_written_to_both_segments(rt: HostRuntime) -> Result<(), Fa
         end visible 12 batches 2 acked 2 segments 2 closed\n";
     let disk = check_replay(&rt, alloc, script, Status::Done, text)?;
     // The write that hung is done as the journal is closed.
-    let both = segment_of(alloc, 1, &[(10, b'1'), (11, b'2')])?;
+    let both = written_of(alloc, 1, &[(10, b'1', 0), (11, b'2', 0)])?;
     assert!(rt; segment_at(&disk, 0) == Some(both.as_slice()));
     assert!(rt; segment_at(&disk, 1) == Some(both.as_slice()));
     assert!(rt; segment_at(&disk, 2).is_none());
@@ -84,7 +84,7 @@ fn a_transfer_is_recovered_dumped_and_gone_on_from(rt: HostRuntime) -> Result<()
         ("recover", "acct/2 = 110\nend batches 2 next 13\n"),
         (
             "dump",
-            "segment 000001.log primary bytes 81 records 2 ends 81 clean\n\
+            "segment 000001.log primary bytes 97 records 2 ends 97 clean\n\
                 batch 10 2\n\
                 set acct/1 90\n\
                 set acct/2 110\n\
@@ -101,8 +101,8 @@ fn a_transfer_is_recovered_dumped_and_gone_on_from(rt: HostRuntime) -> Result<()
     let script = b"commit 0 sync set b 1\n";
     let text = "s0 commit 13 1 synced\nend visible 14 batches 1 acked 1 segments 1 closed\n";
     let disk = check_command(&rt, alloc, rig, &["replay"], script, Status::Done, text)?;
-    assert_eq!(rt; log_at(&disk, 1).map(|log| log.len()), Some(81));
-    assert_eq!(rt; log_at(&disk, 2).map(|log| log.len()), Some(28));
+    assert_eq!(rt; log_at(&disk, 1).map(|log| log.len()), Some(97));
+    assert_eq!(rt; log_at(&disk, 2).map(|log| log.len()), Some(36));
     check_crash(
         &rt,
         alloc,

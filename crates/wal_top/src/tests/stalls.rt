@@ -1,4 +1,4 @@
-use super::{Rig, check_command, check_crash, check_replay, segment_at, segment_of};
+use super::{Rig, check_command, check_crash, check_replay, segment_at, written_of};
 use crate::Status;
 use disk_face::Side;
 use std::test::Fail;
@@ -112,9 +112,9 @@ fn the_log_moves_to_and_fro_from_round_to_round(rt: HostRuntime) -> Result<(), F
         end visible 14 batches 4 acked 4 segments 4 closed\n";
     let disk = check_replay(&rt, alloc, script, Status::Done, text)?;
     // Each segment begins with what was not synced as it was begun, and an operation that hung is done in the end.
-    let second = segment_of(alloc, 1, &[(10, b'1'), (11, b'2'), (12, b'3')])?;
-    let third = segment_of(alloc, 1, &[(12, b'3'), (13, b'4')])?;
-    let fourth = segment_of(alloc, 1, &[(13, b'4')])?;
+    let second = written_of(alloc, 1, &[(10, b'1', 0), (11, b'2', 36), (12, b'3', 72)])?;
+    let third = written_of(alloc, 1, &[(12, b'3', 0), (13, b'4', 36)])?;
+    let fourth = written_of(alloc, 1, &[(13, b'4', 0)])?;
     assert!(rt; segment_at(&disk, 0) == Some(b"".as_slice()));
     assert!(rt; segment_at(&disk, 1) == Some(second.as_slice()));
     assert!(rt; segment_at(&disk, 2) == Some(third.as_slice()));
@@ -128,7 +128,7 @@ fn the_tenth_segment_waits(rt: HostRuntime) -> Result<(), Fail> {
     let script = "stall p 60\nstall s 60\ncommit 0 sync set a 1\n";
     let text = "s0 commit 10 1 synced\nend visible 11 batches 1 acked 1 segments 10 closed\n";
     let disk = check_replay(&rt, alloc, script, Status::Done, text)?;
-    let one = segment_of(alloc, 1, &[(10, b'1')])?;
+    let one = written_of(alloc, 1, &[(10, b'1', 0)])?;
     assert!(rt; segment_at(&disk, 9) == Some(one.as_slice()));
     check_crash(&rt, alloc, disk, "a = 1\nend batches 1 next 11\n")
 }

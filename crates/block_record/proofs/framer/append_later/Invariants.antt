@@ -4,7 +4,7 @@ use Rattle.block_record.proofs.framer.append_later.Given as goal
 
 abbrev pub invariant-loop-rest : goal.invariant-loop-rest
 invariant-loop-rest l = record {
-  left : l.out ++ later_chunks l.log (later_fragments l.rest) ≡ l.fn.out ++ later_chunks l.log (later_fragments l.bytes);
+  left : l.out ++ later_chunks l.log l.offset (later_fragments l.rest) ≡ l.fn.out ++ later_chunks l.log l.offset (later_fragments l.bytes);
   some : 0 < length l.rest;
   kept : take (length l.fn.out) l.out ≡ l.fn.out;
 }

@@ -4,6 +4,7 @@ use Rattle.std.specs.Prelude.{IfErr, Result}
 use Rattle.batch_repr.specs.declared.batch.Batch.{Batch}
 use Rattle.disk_face.specs.View.{files}
 use Rattle.wal_recovery.specs.declared.fault.RecoverFault.{RecoverFault}
+use Rattle.wal_recovery.specs.declared.reports.Mode.TheVariants.{Strict}
 use Rattle.wal_recovery.specs.Answers.{FaultRose, DiskMemoryOr}
 use Rattle.wal_recovery.specs.Rows.{wal_in}
 use Rattle.wal_recovery.specs.Gathered.{AreAsListed}
@@ -29,7 +30,7 @@ returns-in-Ok-clause-merged g c =
 
 pub returns-in-Ok-clause-reports : goal.returns-in-Ok-clause-reports
 returns-in-Ok-clause-reports g c =
-    wal_reports g.D.Disk.tells (files (g.D.Disk.view c.args.disk.now)) c.args.wal.now c.requires.own c.args.reports.now c.read_wal.new.reports c.in_ok-row.ensures.gathered.added
+    wal_reports g.D.Disk.tells (files (g.D.Disk.view c.args.disk.now)) c.args.wal.now c.requires.own Strict c.args.reports.now c.read_wal.new.reports c.in_ok-row.ensures.gathered.added
 
 pub returns-in-Err-clause-rose : goal.returns-in-Err-clause-rose
 returns-in-Err-clause-rose g c =

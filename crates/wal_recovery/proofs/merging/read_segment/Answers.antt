@@ -15,8 +15,8 @@ pub returns-in_err-report-clause-bad : goal.returns-in_err-report-clause-bad
 returns-in_err-report-clause-bad g c =
     let is : c.from_residual-in_err-report.result ≡ Err c.in_err-report.field-0.0 = search rules in
     subst (λ (r : Result (Unit {0}) RecoverFault). IfErr r (λ fault. IsTrue g.D.Disk.tells → IsAsListed (files (g.D.Disk.view c.args.disk.now)) c.args.segment
-    → DiskMemoryOr (IsBadIn c.args.segment (bytes_at (files (g.D.Disk.view c.args.disk.now)) (place_listed c.args.segment))) fault)) (sym is)
-    (λ told listed. subst (λ (bytes : List ℕ). DiskMemoryOr (IsBadIn c.args.segment bytes) c.in_err-report.field-0.0) (c.in_ok-bytes.ensures.bytes told listed) c.in_err-report.ensures.bad)
+    → DiskMemoryOr (IsBadIn c.args.mode c.args.segment (bytes_at (files (g.D.Disk.view c.args.disk.now)) (place_listed c.args.segment))) fault)) (sym is)
+    (λ told listed. subst (λ (bytes : List ℕ). DiskMemoryOr (IsBadIn c.args.mode c.args.segment bytes) c.in_err-report.field-0.0) (c.in_ok-bytes.ensures.bytes told listed) c.in_err-report.ensures.bad)
 
 pub returns-clause-added : goal.returns-clause-added
 returns-clause-added g c =
@@ -28,5 +28,5 @@ returns-clause-added g c =
       reports = reports;
       rows = pushed ∙ ap (λ (b : List Batch). c.args.row.now ++ record { index = c.args.index; batches = b } ∷ []) copies;
       numbered = counted_numbered c.in_ok-report.ensures.report.records c.in_ok-report.report.batches c.in_ok-report.ensures.report.batches;
-      holds = λ told listed. subst (λ (bytes : List ℕ). IsReportOf c.args.segment bytes c.in_ok-report.report) (c.in_ok-bytes.ensures.bytes told listed) c.in_ok-report.ensures.report;
+      holds = λ told listed. subst (λ (bytes : List ℕ). IsReportOf c.args.mode c.args.segment bytes c.in_ok-report.report) (c.in_ok-bytes.ensures.bytes told listed) c.in_ok-report.ensures.report;
     }

@@ -21,8 +21,8 @@ loop-segment-init g c =
       same = same_from v;
       calm = calm_from v;
       asks = reads_none [] v;
-      gathered = subst (λ (r : List SegmentRead). GathersWal g.D.Disk.tells (files v) [] c.args.reports.now c.args.reports.now r)
-          (sym c.new-row.ensures) (wal_none g.D.Disk.tells (files v) c.args.reports.now);
+      gathered = subst (λ (r : List SegmentRead). GathersWal g.D.Disk.tells c.args.mode (files v) [] c.args.reports.now c.args.reports.now r)
+          (sym c.new-row.ensures) (wal_none g.D.Disk.tells c.args.mode (files v) c.args.reports.now);
     }
 
 pub loop-segment-preserved : goal.loop-segment-preserved
@@ -37,7 +37,7 @@ loop-segment-preserved g c =
       calm = calm_further first mid new c.loop-segment.invariant.calm c.in_ok-read_segment.ensures.calm;
       asks = reads_taken c.deref-segment-items.result.now c.loop-segment.segment-index _ first mid new c.loop-segment-test.true
           c.loop-segment.invariant.asks c.in_ok-read_segment.ensures.asks;
-      gathered = wal_step g.D.Disk.tells (files first) (files mid) now c.deref-segment-items.result.now c.loop-segment.segment-index _
+      gathered = wal_step g.D.Disk.tells c.args.mode (files first) (files mid) now c.deref-segment-items.result.now c.loop-segment.segment-index _
           c.args.reports.now c.loop-segment.reports c.read_segment.new.reports c.loop-segment.row c.read_segment.new.row
           c.loop-segment-test.true c.loop-segment.invariant.gathered c.in_ok-read_segment.ensures.added;
     }
@@ -50,25 +50,25 @@ returns-in_err-read_segment-clause-bad g c =
     let fault = c.in_err-read_segment.field-0.0 in
     let is : c.from_residual.result ≡ Err fault = search rules in
     subst (λ (l : List Found). IfErr c.from_residual.result (λ fault. IsTrue g.D.Disk.tells → AreAsListed (files first) l
-    → DiskMemoryOr (IsFirstBadOf (files first) l) fault)) c.deref-segment-items.ensures.value
+    → DiskMemoryOr (IsFirstBadOf c.args.mode (files first) l) fault)) c.deref-segment-items.ensures.value
     (subst (λ (r : Result (List SegmentRead) RecoverFault). IfErr r
     (λ fault. IsTrue g.D.Disk.tells → AreAsListed (files first) c.deref-segment-items.result.now
-    → DiskMemoryOr (IsFirstBadOf (files first) c.deref-segment-items.result.now) fault)) (sym is)
-    (λ told listed. first_bad g.D.Disk.tells (files first) (files mid) now c.deref-segment-items.result.now c.loop-segment.segment-index _
+    → DiskMemoryOr (IsFirstBadOf c.args.mode (files first) c.deref-segment-items.result.now) fault)) (sym is)
+    (λ told listed. first_bad g.D.Disk.tells c.args.mode (files first) (files mid) now c.deref-segment-items.result.now c.loop-segment.segment-index _
     c.args.reports.now c.loop-segment.reports fault c.loop-segment-test.true c.loop-segment.invariant.gathered.added told listed
     (c.in_err-read_segment.ensures.bad told)))
 
 pub returns-clause-gathered : goal.returns-clause-gathered
 returns-clause-gathered g c =
-    subst (λ (l : List Found). GathersWal g.D.Disk.tells (files (g.D.Disk.view c.args.disk.now)) l c.args.reports.now c.loop-segment.reports
+    subst (λ (l : List Found). GathersWal g.D.Disk.tells c.args.mode (files (g.D.Disk.view c.args.disk.now)) l c.args.reports.now c.loop-segment.reports
     c.loop-segment.row) c.deref-segment-items.ensures.value
-    (subst (λ (l : List Found). GathersWal g.D.Disk.tells (files (g.D.Disk.view c.args.disk.now)) l c.args.reports.now
+    (subst (λ (l : List Found). GathersWal g.D.Disk.tells c.args.mode (files (g.D.Disk.view c.args.disk.now)) l c.args.reports.now
     c.loop-segment.reports c.loop-segment.row)
     (take_all c.loop-segment.segment-index c.deref-segment-items.result.now c.loop-segment-test.false) c.loop-segment.invariant.gathered)
 
 pub returns-clause-row : goal.returns-clause-row
 returns-clause-row g c =
-    wal_row g.D.Disk.tells (files (g.D.Disk.view c.args.disk.now)) c.args.wal.now.segments.items c.args.reports.now c.loop-segment.reports
+    wal_row g.D.Disk.tells c.args.mode (files (g.D.Disk.view c.args.disk.now)) c.args.wal.now.segments.items c.args.reports.now c.loop-segment.reports
     c.loop-segment.row c.requires (returns-clause-gathered g c)
 
 pub returns-in_err-read_segment-clause-asks : goal.returns-in_err-read_segment-clause-asks

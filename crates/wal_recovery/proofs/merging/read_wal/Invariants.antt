@@ -12,5 +12,5 @@ invariant-loop-segment g l = record {
   asks : ReadsOnly (take l.segment-index l.segment-items) (g.D.Disk.view l.initial.disk) (g.D.Disk.view l.disk);
   same : SameDisk (g.D.Disk.view l.initial.disk) (g.D.Disk.view l.disk);
   calm : NoFaultRose (g.D.Disk.view l.initial.disk) (g.D.Disk.view l.disk);
-  gathered : GathersWal g.D.Disk.tells (files (g.D.Disk.view l.initial.disk)) (take l.segment-index l.segment-items) l.initial.reports l.reports l.row;
+  gathered : GathersWal g.D.Disk.tells l.mode (files (g.D.Disk.view l.initial.disk)) (take l.segment-index l.segment-items) l.initial.reports l.reports l.row;
 }

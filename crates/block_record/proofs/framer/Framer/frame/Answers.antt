@@ -9,5 +9,5 @@ invariant_of-self c =
       ap length c.as_slice.ensures,
       ap length c.as_slice-kept.ensures,
       c.self.invariant,
-      room_after _ c.self.inside.place c.args.out.now c.append_framed.new.out c.args.bytes.now c.in-Ok.ensures.ok,
+      room_after _ c.self.inside.place c.args.offset c.args.out.now c.append_framed.new.out c.args.bytes.now c.in-Ok.ensures.ok,
     )

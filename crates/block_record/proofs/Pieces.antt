@@ -1,0 +1,30 @@
+-- Chunks in bytes that changed before them.
+use Rattle.std.proofs.Common.{◌≡◌, ℕ, ◌+◌, ◌-◌, ◌≤◌, List, length, take, drop, sym, ap, ◌∙◌, arith, Option}
+use Rattle.std.proofs.lemmas.List.{drop-drop, length-take, length-drop}
+use Rattle.crc_chunk.specs.declared.chunk.ChunkKind.{ChunkKind}
+use Rattle.crc_chunk.specs.Chunk.{chunk, ChunkAt}
+use Rattle.block_record.specs.declared.joining.Found.{Found}
+use Rattle.block_record.specs.Promises.{IsFoundAt}
+use Rattle.block_record.specs.Joined.{link_in}
+use Rattle.block_record.specs.ReadOut.{chunk_end}
+
+-- What is after a place is so after each later one.
+pub behind_later : (old new : List ℕ) (at later : ℕ) → at ≤ later → drop at new ≡ drop at old → drop later new ≡ drop later old
+behind_later old new at later le e =
+    let more : ℕ = later - at in
+    let place : at + more ≡ later = omega arith in
+    ap (λ (k : ℕ). drop k new) (sym place) ∙ sym (drop-drop more at new) ∙ ap (drop more) e ∙ drop-drop more at old ∙ ap (λ (k : ℕ). drop k old) place
+
+-- A chunk that stands there stands in what was there before.
+pub chunk_behind : {kind : ChunkKind} {offset : Option ℕ} {payload : List ℕ} {log : ℕ} (old new : List ℕ) (at later : ℕ) → at ≤ later
+    → drop at new ≡ drop at old → ChunkAt new later log kind offset payload → ChunkAt old later log kind offset payload
+chunk_behind {kind} {offset} {payload} {log} old new at later le e h = record {
+  stands = record { is = ap (take (length (chunk kind log offset payload))) (sym (behind_later old new at later le e)) ∙ h.stands.is };
+  fits = h.fits;
+  within = h.within;
+}
+
+-- A chunk that was found ends where it was found to end.
+pub found_len : (bytes : List ℕ) (at : ℕ) (found : Found) → IsFoundAt bytes at found → chunk_end at (link_in bytes found) ≡ found.end
+found_len bytes at found place =
+    omega (arith, place.1, place.2, place.3, length-take (found.end - found.from) (drop found.from bytes), length-drop found.from bytes)
