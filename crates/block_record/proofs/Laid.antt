@@ -1,19 +1,20 @@
 -- Records laid one after another.
+use Rattle.crc_chunk.specs.declared.chunk.TheConstants.{BLOCK, SYNC_HEADER}
 use Rattle.std.proofs.Common.{◌≡◌, ℕ, ◌+◌, ◌%◌, List, [], ◌∷◌, ◌++◌, length, take, drop, replicate, sym, ap, ◌∙◌, add-zero, append_assoc, arith, nat_lt}
 use Rattle.std.specs.Prelude.{if◌then◌else◌}
 use Rattle.std.proofs.lemmas.List.{length-append, append-nil}
 use Rattle.block_record.specs.Framing.{Marked, left_in_block, room_at, later_fragments, fragments, chunks, padding, framed, laid}
 
 -- A record is framed by where it begins in its block.
-pub framed_in_block : (log at off : ℕ) (bytes : List ℕ) → framed log (at % 32768) off bytes ≡ framed log at off bytes
+pub framed_in_block : (log at off : ℕ) (bytes : List ℕ) → framed log (at % BLOCK) off bytes ≡ framed log at off bytes
 unfolding framed
 framed_in_block log at off bytes =
     let all : List ℕ = chunks log off (fragments at bytes) in
-    let room : room_at (at % 32768) ≡ room_at at = omega arith in
-    let left : left_in_block (at % 32768 + length all) ≡ left_in_block (at + length all) = omega arith in
-    let same : chunks log off (fragments (at % 32768) bytes) ≡ all = ap (λ (n : ℕ). chunks log off (take n bytes ∷ later_fragments (drop n bytes))) room in
-    ap (λ (t : List ℕ). t ++ padding (at % 32768 + length t)) same
-    ∙ ap (λ (n : ℕ). all ++ (if nat_lt n 19 then replicate n 0 else [])) left
+    let room : room_at (at % BLOCK) ≡ room_at at = omega arith in
+    let left : left_in_block (at % BLOCK + length all) ≡ left_in_block (at + length all) = omega arith in
+    let same : chunks log off (fragments (at % BLOCK) bytes) ≡ all = ap (λ (n : ℕ). chunks log off (take n bytes ∷ later_fragments (drop n bytes))) room in
+    ap (λ (t : List ℕ). t ++ padding (at % BLOCK + length t)) same
+    ∙ ap (λ (n : ℕ). all ++ (if nat_lt n SYNC_HEADER then replicate n 0 else [])) left
 
 laid-push : (log at : ℕ) (records : List Marked) (next : Marked)
     → laid log at (records ++ next ∷ []) ≡ laid log at records ++ framed log (at + length (laid log at records)) next.offset next.bytes
@@ -27,7 +28,7 @@ laid-push log at (first ∷ records) next =
     ∙ ap (λ (n : ℕ). (one ++ others) ++ framed log n next.offset next.bytes) place
 
 pub one_more : (log : ℕ) (records : List Marked) (next : Marked)
-    → laid log 0 (records ++ next ∷ []) ≡ laid log 0 records ++ framed log (length (laid log 0 records) % 32768) next.offset next.bytes
+    → laid log 0 (records ++ next ∷ []) ≡ laid log 0 records ++ framed log (length (laid log 0 records) % BLOCK) next.offset next.bytes
 one_more log records next =
     let place : 0 + length (laid log 0 records) ≡ length (laid log 0 records) = omega arith in
     laid-push log 0 records next ∙ ap (λ (n : ℕ). laid log 0 records ++ framed log n next.offset next.bytes) place

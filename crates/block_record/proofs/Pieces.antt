@@ -1,8 +1,7 @@
 -- Chunks in bytes that changed before them.
-use Rattle.std.proofs.Common.{◌≡◌, ℕ, ◌+◌, ◌-◌, ◌≤◌, List, length, take, drop, sym, ap, ◌∙◌, arith, Option}
+use Rattle.std.proofs.Common.{◌≡◌, ℕ, ◌+◌, ◌-◌, ◌≤◌, List, length, take, drop, sym, ap, ◌∙◌, arith}
 use Rattle.std.proofs.lemmas.List.{drop-drop, length-take, length-drop}
-use Rattle.crc_chunk.specs.declared.chunk.ChunkKind.{ChunkKind}
-use Rattle.crc_chunk.specs.Chunk.{chunk, ChunkAt}
+use Rattle.crc_chunk.specs.Chunk.{Chunk, chunk_bytes, ChunkAt}
 use Rattle.block_record.specs.declared.joining.Found.{Found}
 use Rattle.block_record.specs.Promises.{IsFoundAt}
 use Rattle.block_record.specs.Joined.{link_in}
@@ -16,10 +15,10 @@ behind_later old new at later le e =
     ap (λ (k : ℕ). drop k new) (sym place) ∙ sym (drop-drop more at new) ∙ ap (drop more) e ∙ drop-drop more at old ∙ ap (λ (k : ℕ). drop k old) place
 
 -- A chunk that stands there stands in what was there before.
-pub chunk_behind : {kind : ChunkKind} {offset : Option ℕ} {payload : List ℕ} {log : ℕ} (old new : List ℕ) (at later : ℕ) → at ≤ later
-    → drop at new ≡ drop at old → ChunkAt new later log kind offset payload → ChunkAt old later log kind offset payload
-chunk_behind {kind} {offset} {payload} {log} old new at later le e h = record {
-  stands = record { is = ap (take (length (chunk kind log offset payload))) (sym (behind_later old new at later le e)) ∙ h.stands.is };
+pub chunk_behind : {c : Chunk} {log : ℕ} (old new : List ℕ) (at later : ℕ) → at ≤ later
+    → drop at new ≡ drop at old → ChunkAt new later log c → ChunkAt old later log c
+chunk_behind {c} {log} old new at later le e h = record {
+  stands = record { is = ap (take (length (chunk_bytes log c))) (sym (behind_later old new at later le e)) ∙ h.stands.is };
   fits = h.fits;
   within = h.within;
 }

@@ -1,20 +1,23 @@
 -- What is read of a segment that begins as records were laid.
+use Rattle.crc_chunk.specs.declared.chunk.TheConstants.{BLOCK, SYNC_HEADER}
 use Rattle.crc_chunk.proofs.Laws.{header_bounds, within_segment}
 use Rattle.std.proofs.Common.{◌≡◌, ℕ, suc, ◌+◌, ◌%◌, ◌^◌, ◌<◌, ◌≤◌, List, [], ◌∷◌, ◌++◌, length, take, drop, refl, sym, ap, ◌∙◌, append_assoc, arith, Bool, false, inl, inr, Option, Some, None}
 use Rattle.std.proofs.lemmas.List.{length-take, length-drop, length-append, take-take, take_at, take-append-drop, append-nil, map-append}
 use Rattle.std.proofs.lemmas.List.Elements.{All-head, All-tail, All-take}
 use Rattle.crc_chunk.specs.declared.chunk.ChunkKind.{ChunkKind}
 use Rattle.crc_chunk.specs.declared.chunk.ChunkKind.TheVariants.{Full, First, Middle, Last}
+use Rattle.crc_chunk.specs.Chunk.{Chunk}
+use Rattle.block_record.specs.declared.records.ReadOut.{ReadOut}
 use Rattle.block_record.specs.declared.records.Rec.{Rec}
 use Rattle.block_record.specs.declared.records.Shown.{Shown}
 use Rattle.block_record.specs.Framing.{Marked, OffsetsFit, framed, laid}
-use Rattle.block_record.specs.ReadOut.{Link, chunk_end, place_after, stopped_at, IsChain, Spelled, ended, after_link, spelled_from, nothing, bytes_of, bytes_marked, ChunksStandIn, OffsetsAreWithin, block_front, IsChunkRow, ShowsCorrupt, TellsShown, ReadsOut, ReadsPrefix}
+use Rattle.block_record.specs.ReadOut.{chunk_end, place_after, stopped_at, IsChain, Spelled, ended, after_link, spelled_from, nothing, bytes_of, bytes_marked, ChunksStandIn, OffsetsAreWithin, block_front, IsChunkRow, ShowsCorrupt, TellsShown, ReadsOut, ReadsPrefix}
 use Rattle.block_record.proofs.Chains.{goes_on}
 use Rattle.block_record.proofs.Laid.{laid-append}
 use Rattle.block_record.proofs.Replay.{Outcome, chunks_end, behind, framed_read, room_framed, Replayed, laid_read, none_left}
-use Rattle.block_record.proofs.Tiles.{offset_of_shown}
+use Rattle.block_record.proofs.Tiles.{OffsetIs, covered_by, offset_of_shown}
 
-one_more : (start : ℕ) (so_far : Spelled) (link : Link) → (extra : List Rec) × ((after_link start so_far link).records ≡ so_far.records ++ extra)
+one_more : (start : ℕ) (so_far : Spelled) (link : Chunk) → (extra : List Rec) × ((after_link start so_far link).records ≡ so_far.records ++ extra)
 one_more start so_far link = go link.kind refl
   where
     go : (kind : ChunkKind) → link.kind ≡ kind → (extra : List Rec) × ((after_link start so_far link).records ≡ so_far.records ++ extra)
@@ -24,7 +27,7 @@ one_more start so_far link = go link.kind refl
     go Last e = (record { at = so_far.rest.at; bytes = so_far.rest.bytes ++ link.payload } ∷ [], rw e refl)
 
 -- Records that are spelled stay.
-grows : (at : ℕ) (so_far : Spelled) (links : List Link) → (extra : List Rec) × ((spelled_from at so_far links).records ≡ so_far.records ++ extra)
+grows : (at : ℕ) (so_far : Spelled) (links : List Chunk) → (extra : List Rec) × ((spelled_from at so_far links).records ≡ so_far.records ++ extra)
 grows at so_far [] = ([], sym (append-nil so_far.records))
 grows at so_far (link ∷ links) =
     let step : (extra : List Rec) × ((after_link at so_far link).records ≡ so_far.records ++ extra) = one_more at so_far link in
@@ -37,13 +40,13 @@ map_len [] = refl
 map_len (first ∷ records) = ap suc (map_len records)
 
 -- The chain spells a prefix of these records, and nothing else.
-abbrev SpellsFirst : ℕ → Spelled → List Link → List Marked → Type 0
+abbrev SpellsFirst : ℕ → Spelled → List Chunk → List Marked → Type 0
 SpellsFirst at so_far links records = (count : ℕ) × (bytes_of (spelled_from at so_far links).records ≡ bytes_of so_far.records ++ take count (bytes_marked records))
 
-one_first : (bytes : List ℕ) (log at to : ℕ) (links : List Link) (so_far more : Spelled) (placed : Rec) (first : Marked) (records : List Marked)
+one_first : (bytes : List ℕ) (log at to : ℕ) (links : List Chunk) (so_far more : Spelled) (placed : Rec) (first : Marked) (records : List Marked)
     → placed.bytes ≡ first.bytes → more.records ≡ so_far.records ++ placed ∷ []
     → Outcome false bytes log at links so_far to false more
-    → ((rest : List Link) → IsChain bytes log to false rest → SpellsFirst to more rest records)
+    → ((rest : List Chunk) → IsChain bytes log to false rest → SpellsFirst to more rest records)
     → SpellsFirst at so_far links (first ∷ records)
 one_first bytes log at to links so_far more placed first records same one (inl g) f =
     let n : SpellsFirst to more g.rest records = f g.rest g.still in (
@@ -56,13 +59,13 @@ one_first bytes log at to links so_far more placed first records same one (inl g
     )
 one_first bytes log at to links so_far more placed first records same one (inr n) f = (0, ap bytes_of n.same ∙ sym (append-nil (bytes_of so_far.records)))
 
-laid_first : (records : List Marked) (bytes : List ℕ) (log place : ℕ) (so_far : Spelled) (links : List Link)
-    → OffsetsFit records → place % 32768 + 19 ≤ 32768
+laid_first : (records : List Marked) (bytes : List ℕ) (log place : ℕ) (so_far : Spelled) (links : List Chunk)
+    → OffsetsFit records → place % BLOCK + SYNC_HEADER ≤ BLOCK
     → drop place bytes ≡ laid log place records → IsChain bytes log place false links → SpellsFirst place so_far links records
 laid_first [] bytes log place so_far links fit room e h =
-    let over : links ≡ [] = none_left bytes log place false links (λ kind offset payload here. omega
-    (arith, within_segment here, (header_bounds offset).0, ap length e, length-drop place bytes)) h in
-    (0, ap (λ (l : List Link). bytes_of (spelled_from place so_far l).records) over ∙ sym (append-nil (bytes_of so_far.records)))
+    let over : links ≡ [] = none_left bytes log place false links (λ c here. omega
+    (arith, within_segment here, (header_bounds c).0, ap length e, length-drop place bytes)) h in
+    (0, ap (λ (l : List Chunk). bytes_of (spelled_from place so_far l).records) over ∙ sym (append-nil (bytes_of so_far.records)))
 laid_first (part ∷ records) bytes log place so_far links fit room e h =
     let one : List ℕ = framed log place part.offset part.bytes in
     let others : List ℕ = laid log (place + length one) records in
@@ -73,29 +76,27 @@ laid_first (part ∷ records) bytes log place so_far links fit room e h =
     (λ rest chain. laid_first records bytes log (place + length one) more rest (All-tail (λ (r : Marked). r.offset < 2 ^ 64) part records fit)
     (room_framed log part.offset place part.bytes) (behind bytes one others place (length one) e refl) chain)
 
-chain_in : (bytes whole : List ℕ) (log at : ℕ) (is_open : Bool) (links : List Link) → ChunksStandIn whole log bytes
+chain_in : (bytes whole : List ℕ) (log at : ℕ) (is_open : Bool) (links : List Chunk) → ChunksStandIn whole log bytes
     → IsChain bytes log at is_open links → IsChain whole log at is_open links
 chain_in bytes whole log at is_open [] all h = tt
 chain_in bytes whole log at is_open (link ∷ links) all h = (
   h.0,
-  all at link.kind link.offset link.payload h.1,
+  all at link h.1,
   chain_in bytes whole log (place_after at link) _ links all h.2,
 )
 
-row_in : (bytes whole : List ℕ) (log from to : ℕ) (row : List Link) → ChunksStandIn whole log bytes → IsChunkRow bytes log from row to → IsChunkRow whole log from row to
+row_in : (bytes whole : List ℕ) (log from to : ℕ) (row : List Chunk) → ChunksStandIn whole log bytes → IsChunkRow bytes log from row to → IsChunkRow whole log from row to
 row_in bytes whole log from to [] all r = r
 row_in bytes whole log from to (link ∷ row) all r =
-    (all from link.kind link.offset link.payload r.0, row_in bytes whole log (chunk_end from link) to row all r.1)
+    (all from link r.0, row_in bytes whole log (chunk_end from link) to row all r.1)
 
 shows_in : (bytes whole : List ℕ) (log at place : ℕ) → ChunksStandIn whole log bytes → ShowsCorrupt bytes log at place → ShowsCorrupt whole log at place
 shows_in bytes whole log at place all s = record {
   behind = s.behind;
   row = s.row;
   in_row = row_in bytes whole log (block_front place) place s.row all s.in_row;
-  kind = s.kind;
-  offset = s.offset;
-  payload = s.payload;
-  stands = all place s.kind (Some s.offset) s.payload s.stands;
+  chunk = s.chunk;
+  stands = all place s.chunk s.stands;
   above = s.above;
 }
 
@@ -108,18 +109,18 @@ begins bytes whole some more within same e fits =
     ∙ take_at some more n refl in
     sym (take-append-drop n bytes) ∙ ap (λ (t : List ℕ). t ++ drop n bytes) front
 
-pub first_are_read : (log within : ℕ) (records : List Marked) (bytes : List ℕ) (found : List Rec) (ends_at : ℕ) (torn : Bool) (shown : Option Shown)
+pub first_are_read : (log within : ℕ) (records : List Marked) (bytes : List ℕ) (read : ReadOut)
     → OffsetsFit records → within ≤ length (laid log 0 records)
     → take within bytes ≡ take within (laid log 0 records) → ChunksStandIn (laid log 0 records) log bytes → OffsetsAreWithin log within records
-    → ReadsOut bytes log found ends_at torn shown → ReadsPrefix log within records (bytes_of found) × (shown ≡ None)
-first_are_read log within records bytes found ends_at torn shown fit short same all covered h = (
+    → ReadsOut bytes log read → ReadsPrefix log within records (bytes_of read.records) × (read.shown ≡ None)
+first_are_read log within records bytes read fit short same all covered h = (
   record {
     count = front.0;
     first = ap bytes_of h.records_are
         ∙ front.1;
     all_within = among;
   },
-  nothing_shown shown h.shown_is,
+  nothing_shown read.shown h.shown_is,
 )
   where
     whole : List ℕ
@@ -160,6 +161,6 @@ first_are_read log within records bytes found ends_at torn shown fit short same 
     nothing_shown (Some told) t =
         let length_of : ℕ = length (laid log 0 (take covered.count records)) in
         let s : ShowsCorrupt whole log (stopped_at 0 h.links) told.shown_at = shows_in bytes whole log (stopped_at 0 h.links) told.shown_at all t.shows in
-        let below : s.offset ≤ length_of = offset_of_shown log (stopped_at 0 h.links) told.shown_at records (λ (n : ℕ). n ≤ length_of) fit covered.below s in
+        let below : OffsetIs (λ (n : ℕ). n ≤ length_of) s.chunk = offset_of_shown log (stopped_at 0 h.links) told.shown_at records (λ (n : ℕ). n ≤ length_of) fit covered.below s in
         let r : Replayed bytes log h.links nothing 0 (take covered.count records) = replayed covered.count covered.among covered.whole in
-        absurd (omega (arith, below, s.above, r.goes.stops, goes_on (0 + length_of) r.goes.rest))
+        absurd (omega (arith, covered_by length_of (stopped_at 0 h.links) s.chunk below s.above, r.goes.stops, goes_on (0 + length_of) r.goes.rest))

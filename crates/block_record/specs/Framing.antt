@@ -1,10 +1,10 @@
 -- How records are laid into the blocks of a segment (docs/formats/log.md, "Framing").
 use Rattle.crc_chunk.specs.declared.chunk.TheConstants.{BLOCK, SYNC_HEADER}
-use Rattle.std.specs.Prelude.{ℕ, Some, zero, suc, ◌+◌, ◌-◌, ◌%◌, ◌<◌, ◌^◌, List, [], ◌∷◌, ◌++◌, length, replicate, take, drop, nat_lt, if◌then◌else◌}
+use Rattle.std.specs.Prelude.{ℕ, zero, suc, ◌+◌, ◌-◌, ◌%◌, ◌<◌, ◌^◌, List, [], ◌∷◌, ◌++◌, length, replicate, take, drop, nat_lt, if◌then◌else◌}
 use Rattle.std.specs.Int.{div_ceil}
 use Rattle.std.specs.List.{All}
 use Rattle.crc_chunk.specs.declared.chunk.ChunkKind.TheVariants.{Full, First, Middle, Last}
-use Rattle.crc_chunk.specs.Chunk.{chunk}
+use Rattle.crc_chunk.specs.Chunk.{sync_chunk, chunk_bytes}
 
 -- Where a framer stands: the log number of its chunks, and the place of the next one in its block.
 pub record Standing : Type 0 where
@@ -48,14 +48,14 @@ fragments at bytes = take (room_at at) bytes ∷ later_fragments (drop (room_at 
 -- the chunks of the fragments after the first
 abbrev pub later_chunks : ℕ → ℕ → List (List ℕ) → List ℕ
 later_chunks log offset [] = []
-later_chunks log offset (part ∷ []) = chunk Last log (Some offset) part
-later_chunks log offset (part ∷ next ∷ parts) = chunk Middle log (Some offset) part ++ later_chunks log offset (next ∷ parts)
+later_chunks log offset (part ∷ []) = chunk_bytes log (sync_chunk Last offset part)
+later_chunks log offset (part ∷ next ∷ parts) = chunk_bytes log (sync_chunk Middle offset part) ++ later_chunks log offset (next ∷ parts)
 
 -- the chunks of a record's fragments, each with its sync offset
 abbrev pub chunks : ℕ → ℕ → List (List ℕ) → List ℕ
 chunks log offset [] = []
-chunks log offset (part ∷ []) = chunk Full log (Some offset) part
-chunks log offset (part ∷ next ∷ parts) = chunk First log (Some offset) part ++ later_chunks log offset (next ∷ parts)
+chunks log offset (part ∷ []) = chunk_bytes log (sync_chunk Full offset part)
+chunks log offset (part ∷ next ∷ parts) = chunk_bytes log (sync_chunk First offset part) ++ later_chunks log offset (next ∷ parts)
 
 -- zeros where no header of a sync chunk fits
 abbrev pub padding : ℕ → List ℕ

@@ -4,7 +4,8 @@ use Rattle.std.specs.List.{slice_range}
 use Rattle.block_record.specs.declared.records.Rec.{Rec}
 use Rattle.block_record.specs.declared.joining.Place.{Place}
 use Rattle.block_record.specs.declared.joining.Found.{Found}
-use Rattle.block_record.specs.ReadOut.{Link, Spelled}
+use Rattle.crc_chunk.specs.Chunk.{Chunk}
+use Rattle.block_record.specs.ReadOut.{Spelled}
 
 -- the record whose bytes stand there
 abbrev pub rec_in : List ℕ → Place → Rec
@@ -15,7 +16,7 @@ abbrev pub spelled_in : List ℕ → List Place → ℕ → Place → Spelled
 spelled_in bytes whole ends_at rest = record { records = map (rec_in bytes) whole; ends_at = ends_at; rest = rec_in bytes rest }
 
 -- the chunk that was found in these bytes, as one of a chain
-abbrev pub link_in : List ℕ → Found → Link
+abbrev pub link_in : List ℕ → Found → Chunk
 link_in bytes found = record { kind = found.kind; offset = found.offset; payload = slice_range bytes found.from found.end }
 
 -- the record whose bytes stand there in a segment of which these bytes were cut off

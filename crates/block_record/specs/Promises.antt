@@ -1,11 +1,10 @@
 -- What the writer and the reader of records promise (docs/formats/log.md, "Framing" and "Reading a segment").
-use Rattle.std.specs.Prelude.{◌≡◌, ℕ, ◌+◌, ◌≤◌, Bool, Option, List, ◌++◌, length}
+use Rattle.std.specs.Prelude.{◌≡◌, ℕ, ◌+◌, ◌≤◌, Bool, List, ◌++◌, length}
 use Rattle.std.specs.List.{slice_range}
-use Rattle.crc_chunk.specs.declared.chunk.ChunkKind.{ChunkKind}
-use Rattle.crc_chunk.specs.Chunk.{header_len, ChunkAt}
+use Rattle.crc_chunk.specs.Chunk.{Chunk, header_with, ChunkAt}
 use Rattle.block_record.specs.declared.joining.Found.{Found}
 use Rattle.block_record.specs.Framing.{Standing, framed}
-use Rattle.block_record.specs.ReadOut.{MayFollow, LinkAt, Spelled, ended, after_link, next_place}
+use Rattle.block_record.specs.ReadOut.{MayFollow, Spelled, ended, after_link, next_place}
 use Rattle.block_record.specs.Joined.{Joined, link_in}
 
 -- ---- a writer
@@ -22,19 +21,19 @@ FramesTo standing len size = (offset : ℕ) (bytes : List ℕ) → length bytes 
 
 -- A chunk of the log, as it was found, stands at this place.
 abbrev pub IsChunkFound : List ℕ → ℕ → ℕ → Found → Type 0
-IsChunkFound bytes log at found = LinkAt bytes log at (link_in bytes found)
+IsChunkFound bytes log at found = ChunkAt bytes at log (link_in bytes found)
 
 -- What is found stands at this place, and has a header, and ends within the bytes.
 abbrev pub IsFoundAt : List ℕ → ℕ → Found → Type 0
-IsFoundAt bytes at found = (found.at ≡ at) × (found.from ≡ at + header_len found.offset) × (found.from ≤ found.end) × (found.end ≤ length bytes)
+IsFoundAt bytes at found = (found.at ≡ at) × (found.from ≡ at + header_with found.offset) × (found.from ≤ found.end) × (found.end ≤ length bytes)
 
 -- No chunk of the log that may follow stands at this place.
 abbrev pub NoChunkFollows : List ℕ → ℕ → ℕ → Bool → Type 0
-NoChunkFollows bytes log at is_open = (kind : ChunkKind) (offset : Option ℕ) (payload : List ℕ) → MayFollow is_open kind → ¬ ChunkAt bytes at log kind offset payload
+NoChunkFollows bytes log at is_open = (c : Chunk) → MayFollow is_open c.kind → ¬ ChunkAt bytes at log c
 
 -- where the chunk after the one that was found would stand
 abbrev pub place_behind : Found → ℕ
-place_behind found = next_place (header_len found.offset) found.end
+place_behind found = next_place (header_with found.offset) found.end
 
 -- what is spelled once a record has begun with these bytes
 abbrev pub spelled_begun : ℕ → ℕ → ℕ → Joined → Spelled

@@ -1,8 +1,8 @@
 //! The writer of records: where it stands, and what it appends.
 
 ghost use Rattle.crc_chunk.specs.declared.chunk.TheConstants.{BLOCK, SYNC_HEADER};
-ghost use Rattle.std.specs.Prelude.{◌≡◌, ℕ, Some, ◌+◌, ◌%◌, ◌≤◌, ◌<◌, ◌++◌, length, take, replicate, OnOk, OnErr};
-ghost use Rattle.crc_chunk.specs.Chunk.{chunk};
+ghost use Rattle.std.specs.Prelude.{◌≡◌, ℕ, ◌+◌, ◌%◌, ◌≤◌, ◌<◌, ◌++◌, length, take, replicate, OnOk, OnErr};
+ghost use Rattle.crc_chunk.specs.Chunk.{sync_chunk, chunk_bytes};
 ghost use Rattle.block_record.specs.Framing.{fragments, later_fragments, chunks, later_chunks, padding, framed, standing_after};
 ghost use Rattle.block_record.specs.Promises.{framed_by, FramesTo};
 
@@ -50,7 +50,7 @@ fn append_chunk(
     payload: &[u8],
 ) -> Result<(), NoMemory>
     requires { SYNC_HEADER + length payload.now ≤ BLOCK }
-    ensures ok { OnOk result (out.new ≡ out.old ++ chunk kind log (Some offset) payload.now) }
+    ensures ok { OnOk result (out.new ≡ out.old ++ chunk_bytes log (sync_chunk kind offset payload.now)) }
     ensures kept { take (length out.old) out.new ≡ out.old }
 {
     out.append(&sync_header_of(kind, log, offset, payload))?;

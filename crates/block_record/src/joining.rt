@@ -2,7 +2,7 @@
 
 ghost use Rattle.std.specs.Prelude.{◌≡◌, ◌+◌, ◌-◌, ◌≤◌, ◌++◌, length, map, IfOk, OnOk};
 ghost use Rattle.std.specs.List.{All};
-ghost use Rattle.crc_chunk.specs.Chunk.{header_len};
+ghost use Rattle.crc_chunk.specs.Chunk.{header_with};
 ghost use Rattle.block_record.specs.ReadOut.{nothing};
 ghost use Rattle.block_record.specs.Promises.{spelled_begun, spelled_more, spelled_with, spelled_to};
 ghost use Rattle.block_record.specs.Joined.{rec_in, rec_after, AreApart, StandsBetween, SameAfter};
@@ -195,7 +195,7 @@ impl Joining {
 
     /// Takes one chunk more, as it was found.
     pub fn take(&mut self, found: Found) -> Result<(), NoMemory>
-        requires header { found.from ≡ found.at + header_len found.offset }
+        requires header { found.from ≡ found.at + header_with found.offset }
         requires order { found.from ≤ found.end }
         requires within { found.end ≤ length self.old.bytes }
         requires behind { self.old.reach ≤ found.at }

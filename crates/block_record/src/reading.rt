@@ -136,7 +136,7 @@ fn find_shown(bytes: &[u8], stopped: usize, log: u32) -> Option<Shown>
 /// the fragments of a record that goes over several chunks are moved together in them, and then they are cut into such
 /// pieces. Records share the piece that they stand in, and its memory comes back with the last of them.
 pub fn read_out_shared(alloc: Global, log: u32, bytes: Vec<u8>) -> Result<ReadOut, NoMemory>
-    ensures { IfOk result (λ out. ReadsOut bytes.items log out.records out.ends_at out.torn out.shown) }
+    ensures { IfOk result (ReadsOut bytes.items log) }
 {
     let mut joining = Joining::new(alloc, bytes);
     let mut is_open = false;
@@ -159,7 +159,7 @@ pub fn read_out_shared(alloc: Global, log: u32, bytes: Vec<u8>) -> Result<ReadOu
 /// are. A record that has begun and has not ended there is not among the records. That is no error: only running
 /// out of memory is.
 pub fn read_out(alloc: Global, log: u32, bytes: &[u8]) -> Result<ReadOut, NoMemory>
-    ensures { IfOk result (λ out. ReadsOut bytes.now log out.records out.ends_at out.torn out.shown) }
+    ensures { IfOk result (ReadsOut bytes.now log) }
 {
     let bytes = Vec::from_slice(alloc, bytes)?;
     read_out_shared(alloc, log, bytes)

@@ -1,11 +1,10 @@
 -- A chunk in its block and in its segment.
-use Rattle.std.proofs.Common.{◌≡◌, ℕ, ◌+◌, ◌-◌, ◌%◌, ◌≤◌, Option, List, length, take, drop, sym, ap, ◌∙◌, arith, min}
+use Rattle.std.proofs.Common.{◌≡◌, ℕ, ◌+◌, ◌-◌, ◌%◌, ◌≤◌, List, length, take, drop, sym, ap, ◌∙◌, arith, min}
 use Rattle.std.specs.List.{slice_range}
 use Rattle.std.proofs.lemmas.List.{drop-take, take-take, drop-drop, take_rest, take_min, drop_min, length-take, length-drop}
 use Rattle.crc_chunk.specs.declared.chunk.TheConstants.{BLOCK, HEADER}
-use Rattle.crc_chunk.specs.declared.chunk.ChunkKind.{ChunkKind}
-use Rattle.crc_chunk.specs.Chunk.{chunk, header_len, ChunkAt}
-use Rattle.crc_chunk.proofs.Chunks.{chunk_len}
+use Rattle.crc_chunk.specs.Chunk.{Chunk, chunk_len, chunk_bytes, ChunkAt}
+use Rattle.crc_chunk.proofs.Chunks.{bytes_len}
 
 -- A block, cut out where the segment may end before it or in it.
 pub block_is : (bytes : List ℕ) (front m n : ℕ) → m ≡ min front (length bytes) → n ≡ min (length bytes - m) BLOCK
@@ -46,23 +45,21 @@ module _ (bytes block : List ℕ) (at : ℕ) (e : block ≡ take BLOCK (drop (at
   ends_in_segment to after within =
       omega (arith, ap length e, length-take BLOCK (drop (at - at % BLOCK) bytes), length-drop (at - at % BLOCK) bytes)
 
-  pub in_segment : (log : ℕ) (kind : ChunkKind) (offset : Option ℕ) (payload : List ℕ) → ChunkAt block (at % BLOCK) log kind offset payload
-      → ChunkAt bytes at log kind offset payload
-  in_segment log kind offset payload h =
-      let all : List ℕ = chunk kind log offset payload in
-      let fits : at % BLOCK + header_len offset + length payload ≤ BLOCK = omega (arith, h.within) in
+  pub in_segment : (log : ℕ) (c : Chunk) → ChunkAt block (at % BLOCK) log c → ChunkAt bytes at log c
+  in_segment log c h =
+      let all : List ℕ = chunk_bytes log c in
+      let fits : at % BLOCK + chunk_len c ≤ BLOCK = omega (arith, h.within) in
       record {
-        stands = record { is = sym (same_bytes (length all) (omega (arith, chunk_len kind log offset payload, fits))) ∙ h.stands.is };
+        stands = record { is = sym (same_bytes (length all) (omega (arith, bytes_len log c, fits))) ∙ h.stands.is };
         fits = h.fits;
         within = fits;
       }
 
-  pub in_block : (log : ℕ) (kind : ChunkKind) (offset : Option ℕ) (payload : List ℕ) → ChunkAt bytes at log kind offset payload
-      → ChunkAt block (at % BLOCK) log kind offset payload
-  in_block log kind offset payload h =
-      let all : List ℕ = chunk kind log offset payload in
+  pub in_block : (log : ℕ) (c : Chunk) → ChunkAt bytes at log c → ChunkAt block (at % BLOCK) log c
+  in_block log c h =
+      let all : List ℕ = chunk_bytes log c in
       record {
-        stands = record { is = same_bytes (length all) (omega (arith, h.within, chunk_len kind log offset payload)) ∙ h.stands.is };
+        stands = record { is = same_bytes (length all) (omega (arith, h.within, bytes_len log c)) ∙ h.stands.is };
         fits = h.fits;
         within = omega (arith, h.within);
       }

@@ -1,10 +1,10 @@
 -- The definitions at the examples of docs/formats, as the checker computes them.
-use Rattle.std.proofs.Common.{None, ◌≡◌, [], ◌∷◌, refl, replicate}
+use Rattle.std.proofs.Common.{◌≡◌, [], ◌∷◌, refl, replicate}
 use Rattle.std.specs.Prelude.{codes}
 use Rattle.std.specs.List.{range_with_len}
 use Rattle.crc_chunk.specs.declared.chunk.ChunkKind.TheVariants.{Full}
 use Rattle.crc_chunk.specs.Crc.{after_bits, checksum, masked_of}
-use Rattle.crc_chunk.specs.Chunk.{covered, chunk}
+use Rattle.crc_chunk.specs.Chunk.{old_chunk, covered, chunk_bytes}
 
 pub of_none : checksum [] ≡ 0
 unfolding checksum after_bits
@@ -36,6 +36,6 @@ masked_none = refl
 pub masked_digits : masked_of 0xE3069283 ≡ 0xC78AB0E5
 masked_digits = refl
 
-pub empty_chunk : chunk Full 1 None [] ≡ 0x9e ∷ 0x6b ∷ 0xa5 ∷ 0xbd ∷ 0x00 ∷ 0x00 ∷ 0x05 ∷ 0x01 ∷ 0x00 ∷ 0x00 ∷ 0x00 ∷ []
-unfolding checksum after_bits covered chunk
+pub empty_chunk : chunk_bytes 1 (old_chunk Full []) ≡ 0x9e ∷ 0x6b ∷ 0xa5 ∷ 0xbd ∷ 0x00 ∷ 0x00 ∷ 0x05 ∷ 0x01 ∷ 0x00 ∷ 0x00 ∷ 0x00 ∷ []
+unfolding checksum after_bits covered chunk_bytes
 empty_chunk = refl

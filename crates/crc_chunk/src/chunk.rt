@@ -6,7 +6,7 @@ ghost use Rattle.std.specs.List.{slice_range};
 ghost use Rattle.std.specs.Int.{w16, w32, w64, to_le_bytes};
 ghost use Rattle.crc_chunk.specs.Bytes.{StandsAt};
 ghost use Rattle.crc_chunk.specs.declared.chunk.ChunkKind.{ChunkKind};
-ghost use Rattle.crc_chunk.specs.Chunk.{type_byte, OffsetFits, offset_bytes, header_len, chunk, ChunkAt};
+ghost use Rattle.crc_chunk.specs.Chunk.{type_byte, OffsetFits, offset_bytes, header_with, Chunk, old_chunk, sync_chunk, chunk_of, chunk_bytes, ChunkAt, IsSpanAt};
 
 use crate::crc::{ONES, crc32c, extended, masked};
 
@@ -91,7 +91,7 @@ fn form_of(byte: u8) -> Option<Form>
 
 /// How many bytes stand before the payload of a chunk of this form.
 fn header_size(is_sync: bool) -> usize
-    ensures is { (offset : Option ℕ) → is_some offset ≡ is_sync → result ≡ header_len offset }
+    ensures is { (offset : Option ℕ) → is_some offset ≡ is_sync → result ≡ header_with offset }
     ensures sync { is_sync ≡ true → result ≡ SYNC_HEADER }
     ensures least { HEADER ≤ result }
     ensures most { result ≤ SYNC_HEADER }
@@ -150,7 +150,7 @@ fn offset_at(bytes: &[u8], at: usize, is_sync: bool) -> Option<u64>
 fn header_of(kind: ChunkKind, log: u32, payload: &[u8]) -> [u8; 11]
     requires { HEADER + length payload.now ≤ BLOCK }
     ensures len { length result ≡ HEADER }
-    ensures bytes { result ++ payload.now ≡ chunk kind log None payload.now }
+    ensures bytes { result ++ payload.now ≡ chunk_bytes log (old_chunk kind payload.now) }
 {
     let kind = byte_of(kind, false);
     let log = log.to_le_bytes();
@@ -168,7 +168,7 @@ fn header_of(kind: ChunkKind, log: u32, payload: &[u8]) -> [u8; 11]
 pub fn sync_header_of(kind: ChunkKind, log: u32, offset: u64, payload: &[u8]) -> [u8; 19]
     requires { SYNC_HEADER + length payload.now ≤ BLOCK }
     ensures len { length result ≡ SYNC_HEADER }
-    ensures bytes { result ++ payload.now ≡ chunk kind log (Some offset) payload.now }
+    ensures bytes { result ++ payload.now ≡ chunk_bytes log (sync_chunk kind offset payload.now) }
 {
     let kind = byte_of(kind, true);
     let log = log.to_le_bytes();
@@ -195,7 +195,7 @@ pub fn put_chunk(out: &mut [u8], kind: ChunkKind, log: u32, payload: &[u8]) -> u
     requires payload { HEADER + length payload.now ≤ BLOCK }
     requires room { HEADER + length payload.now ≤ length out.old }
     ensures taken { result ≡ HEADER + length payload.now }
-    ensures written { out.new ≡ chunk kind log None payload.now ++ drop (HEADER + length payload.now) out.old }
+    ensures written { out.new ≡ chunk_bytes log (old_chunk kind payload.now) ++ drop result out.old }
 {
     let end = HEADER + payload.len();
     let header = header_of(kind, log, payload);
@@ -217,7 +217,7 @@ pub fn put_sync_chunk(
     requires payload { SYNC_HEADER + length payload.now ≤ BLOCK }
     requires room { SYNC_HEADER + length payload.now ≤ length out.old }
     ensures taken { result ≡ SYNC_HEADER + length payload.now }
-    ensures written { out.new ≡ chunk kind log (Some offset) payload.now ++ drop (SYNC_HEADER + length payload.now) out.old }
+    ensures written { out.new ≡ chunk_bytes log (sync_chunk kind offset payload.now) ++ drop result out.old }
 {
     let end = SYNC_HEADER + payload.len();
     let header = sync_header_of(kind, log, offset, payload);
@@ -233,9 +233,9 @@ pub fn put_sync_chunk(
 /// the eight, or the checksum does not fit.
 pub fn chunk_at(block: &[u8], at: usize, log: u32) -> Option<ChunkSpan>
     requires { length block.now ≤ BLOCK }
-    ensures found { IfSome result (λ span. ChunkAt block.now at log span.kind span.offset (slice_range block.now span.from span.to)) }
-    ensures place { IfSome result (λ span. (span.from ≡ at + header_len span.offset) × (span.from ≤ span.to) × (span.to ≤ length block.now)) }
-    ensures none { IfNone result ((kind : ChunkKind) (offset : Option ℕ) (payload : List ℕ) → ¬ ChunkAt block.now at log kind offset payload) }
+    ensures found { IfSome result (λ span. ChunkAt block.now at log (chunk_of block.now span)) }
+    ensures place { IfSome result (IsSpanAt block.now at) }
+    ensures none { IfNone result ((c : Chunk) → ¬ ChunkAt block.now at log c) }
 {
     if block.len().saturating_sub(at) < HEADER {
         return None;

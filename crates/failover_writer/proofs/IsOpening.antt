@@ -1,17 +1,17 @@
 -- Files whose segments are stable in full open a journal: what an image has after the bytes that were sent adds no chunk, so
 -- each of its segments holds what was read, and the listing is the same with those contents in place.
 use Rattle.batch_repr.specs.declared.limits.TheConstants.{NUMBER_FIRST}
-use Rattle.std.proofs.Common.{◌≡◌, ◌≢◌, inl, inr, ℕ, suc, ◌+◌, ◌<◌, ◌≤◌, Bool, false, List, [], ◌∷◌, ◌++◌, length, map, take, drop, Option, Some, None, ap, sym, subst, ◌∙◌, refl, arith}
+use Rattle.std.proofs.Common.{◌≡◌, ◌≢◌, inl, inr, ℕ, suc, ◌<◌, Bool, false, List, [], ◌∷◌, ◌++◌, map, drop, Option, Some, None, ap, sym, subst, ◌∙◌, refl, arith}
 use Rattle.std.specs.Prelude.{Contains, ◌==◌, not}
 use Rattle.std.specs.Option.{unwrap_or}
 use Rattle.std.specs.List.{list_any}
-use Rattle.std.proofs.lemmas.List.{length-drop, take-append-le, drop-append-le, take_all}
-use Rattle.crc_chunk.specs.Chunk.{header_len, chunk, IsChunkOf}
-use Rattle.crc_chunk.proofs.Laws.{chunk_len, header_bounds, stands_within}
+use Rattle.std.proofs.lemmas.List.{take_all}
+use Rattle.crc_chunk.specs.Chunk.{Chunk, chunk_len, IsChunkOf}
+use Rattle.crc_chunk.proofs.Laws.{chunk_moved, same_in_whole}
 use Rattle.batch_repr.specs.declared.batch.Batch.{Batch}
 use Rattle.batch_repr.specs.Batches.{end_after}
 use Rattle.block_record.specs.declared.records.Shown.{Shown}
-use Rattle.block_record.specs.ReadOut.{Link, leaves_open, chunk_end, place_after, stopped_at, IsChain, block_front, IsChunkRow, ShowsCorrupt, TellsShown, ChunksStandIn}
+use Rattle.block_record.specs.ReadOut.{leaves_open, chunk_end, place_after, stopped_at, IsChain, block_front, IsChunkRow, ShowsCorrupt, TellsShown, ChunksStandIn}
 use Rattle.disk_face.specs.declared.Side.{Side}
 use Rattle.disk_face.specs.declared.SegName.{SegName}
 use Rattle.disk_face.specs.View.{Place, segment, File, Files, Dirs}
@@ -28,31 +28,29 @@ use Rattle.failover_writer.specs.Keeping.{IsOpening}
 -- ---- chunks and chains
 
 -- A chain stands wherever its chunks do.
-chain_stands : (log : ℕ) (bytes others : List ℕ) → ChunksStandIn others log bytes → (at : ℕ) (is_open : Bool) (links : List Link)
+chain_stands : (log : ℕ) (bytes others : List ℕ) → ChunksStandIn others log bytes → (at : ℕ) (is_open : Bool) (links : List Chunk)
     → IsChain bytes log at is_open links → IsChain others log at is_open links
 chain_stands log bytes others stand at is_open [] chain = tt
 chain_stands log bytes others stand at is_open (link ∷ links) chain = (
   chain.0,
-  stand at link.kind link.offset link.payload chain.1,
+  stand at link chain.1,
   chain_stands log bytes others stand (place_after at link) (leaves_open link.kind) links chain.2,
 )
 
 -- So does a row of chunks, and what shows the bytes at a place corrupt.
-row_stands : (log : ℕ) (bytes others : List ℕ) → ChunksStandIn others log bytes → (from to : ℕ) (row : List Link)
+row_stands : (log : ℕ) (bytes others : List ℕ) → ChunksStandIn others log bytes → (from to : ℕ) (row : List Chunk)
     → IsChunkRow bytes log from row to → IsChunkRow others log from row to
 row_stands log bytes others stand from to [] r = r
 row_stands log bytes others stand from to (link ∷ row) r =
-    (stand from link.kind link.offset link.payload r.0, row_stands log bytes others stand (chunk_end from link) to row r.1)
+    (stand from link r.0, row_stands log bytes others stand (chunk_end from link) to row r.1)
 
 shows_there : (log : ℕ) (bytes others : List ℕ) → ChunksStandIn others log bytes → (at place : ℕ) → ShowsCorrupt bytes log at place → ShowsCorrupt others log at place
 shows_there log bytes others stand at place s = record {
   behind = s.behind;
   row = s.row;
   in_row = row_stands log bytes others stand (block_front place) place s.row s.in_row;
-  kind = s.kind;
-  offset = s.offset;
-  payload = s.payload;
-  stands = stand place s.kind (Some s.offset) s.payload s.stands;
+  chunk = s.chunk;
+  stands = stand place s.chunk s.stands;
   above = s.above;
 }
 
@@ -69,20 +67,17 @@ tells_there log bytes others there back at (Some shown) h = record {
 holds_same : (log : ℕ) (bytes others : List ℕ) (batches : List Batch) → ChunksStandIn others log bytes → ChunksStandIn bytes log others
     → HoldsBatches Strict log bytes batches → HoldsBatches Strict log others batches
 holds_same log bytes others batches there back holds = record {
-  records = holds.records;
-  ends_at = holds.ends_at;
-  torn = list_any (λ b. not (b == 0)) (drop holds.ends_at others);
-  shown = holds.shown;
-  read = record {
-    links = holds.read.links;
+  read = record holds.read { torn = list_any (λ b. not (b == 0)) (drop holds.read.ends_at others) };
+  reads = record {
+    links = holds.reads.links;
     longest = record {
-      chain = chain_stands log bytes others there 0 false holds.read.links holds.read.longest.chain;
-      longest = λ more chain. holds.read.longest.longest more (chain_stands log others bytes back 0 false more chain);
+      chain = chain_stands log bytes others there 0 false holds.reads.links holds.reads.longest.chain;
+      longest = λ more chain. holds.reads.longest.longest more (chain_stands log others bytes back 0 false more chain);
     };
-    records_are = holds.read.records_are;
-    end_is = holds.read.end_is;
+    records_are = holds.reads.records_are;
+    end_is = holds.reads.end_is;
     torn_is = refl;
-    shown_is = tells_there log bytes others there back (stopped_at 0 holds.read.links) holds.shown holds.read.shown_is;
+    shown_is = tells_there log bytes others there back (stopped_at 0 holds.reads.links) holds.read.shown holds.reads.shown_is;
   };
   passes = holds.passes;
   all = holds.all;
@@ -92,18 +87,7 @@ holds_same log bytes others batches there back holds = record {
 
 -- What stands stands still with more bytes after.
 stands_behind : (log : ℕ) (sent rest : List ℕ) → ChunksStandIn (sent ++ rest) log sent
-stands_behind log sent rest at kind offset payload here =
-    let size : ℕ = length (chunk kind log offset payload) in
-    let some : 0 < size = omega (arith, chunk_len kind log offset payload, (header_bounds offset).0) in
-    let fits : at + size ≤ length sent = stands_within here.stands some in
-    record {
-      stands = record {
-        is = ap (take size) (drop-append-le at sent rest (omega (arith, fits)))
-            ∙ take-append-le size (drop at sent) rest (omega (arith, fits, length-drop at sent)) ∙ here.stands.is;
-      };
-      fits = here.fits;
-      within = here.within;
-    }
+stands_behind log sent rest at c here = chunk_moved sent (sent ++ rest) at (same_in_whole sent rest at here) here
 
 -- ---- lists that are mapped
 
@@ -176,18 +160,9 @@ module _ (now : Files) (rested : IsRested now) (stable : AreSegmentsStable now) 
   -- No chunk of it reaches after what was sent.
   stood_before : (side : Side) (name : SegName) (f : File) (rest : List ℕ) → now (segment side name) ≡ Some f
       → dirs (segment side name) ≡ Some (f.sent ++ rest) → ChunksStandIn f.sent (log_number name.wal) (f.sent ++ rest)
-  stood_before side name f rest is has at kind offset payload here =
-      let log : ℕ = log_number name.wal in
-      let size : ℕ = header_len offset + length payload in
-      let long : length (chunk kind log offset payload) ≡ size = chunk_len kind log offset payload in
-      let same : take size (drop at (f.sent ++ rest)) ≡ take size (drop at f.sent) =
-      chance_free (segment side name) f (f.sent ++ rest) at size is has
-      (record { kind = kind; offset = offset; payload = payload; stands = here; size_is = refl }) in
-      record {
-        stands = record { is = sym (subst (λ (n : ℕ). take n (drop at (f.sent ++ rest)) ≡ take n (drop at f.sent)) (sym long) same) ∙ here.stands.is };
-        fits = here.fits;
-        within = here.within;
-      }
+  stood_before side name f rest is has at c here =
+      chunk_moved (f.sent ++ rest) f.sent at
+      (chance_free (segment side name) f (f.sent ++ rest) at (chunk_len c) is has (record { chunk = c; stands = here; size_is = refl })) here
 
   -- A segment that was read stands in the image, and holds there what it held.
   stands_filled : (number : ℕ) (stored : Stored) → StandsIn (dirs_as_read now) number stored → StandsIn dirs number (filled dirs number stored)

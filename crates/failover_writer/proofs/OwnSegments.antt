@@ -78,14 +78,11 @@ kept_holds log content from synced records are low kept = (
   omega (arith, low, first.has_synced),
   first.within,
   record {
-    records = reading.records;
-    ends_at = reading.ends_at;
-    torn = reading.torn;
-    shown = reading.shown;
     read = reading.read;
+    reads = reading.reads;
     passes = as_kept.1;
     all = between from (from + first.count) records;
-    spelled = read_spells reading.records (between from (from + first.count) records)
+    spelled = read_spells reading.read.records (between from (from + first.count) records)
         (first.first ∙ ap (λ (n : ℕ). map written (take n (drop from records))) count_is) part_are;
     counted_are = sym (all_counted (between from (from + first.count) records) part_are);
   },
@@ -94,10 +91,10 @@ kept_holds log content from synced records are low kept = (
     reading : Reading content log
     reading = readable content log
 
-    as_kept : IsPrefixRead from synced records (bytes_of reading.records) × (reading.shown ≡ None)
-    as_kept = kept reading.records reading.ends_at reading.torn reading.shown reading.read
+    as_kept : IsPrefixRead from synced records (bytes_of reading.read.records) × (reading.read.shown ≡ None)
+    as_kept = kept reading.read reading.reads
 
-    first : IsPrefixRead from synced records (bytes_of reading.records)
+    first : IsPrefixRead from synced records (bytes_of reading.read.records)
     first = as_kept.0
 
     count_is : first.count ≡ from + first.count - from

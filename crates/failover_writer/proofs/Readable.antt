@@ -1,7 +1,7 @@
 -- Every segment reads out: at each place a chunk stands or none does, each chunk of a chain ends further on, and of the places
 -- that show the rest corrupt one is the least.
 use Rattle.std.proofs.Common.{◌≡◌, ◌≢◌, ◌⊎◌, inl, inr, ℕ, zero, suc, ◌+◌, ◌%◌, ◌^◌, ◌<◌, ◌≤◌, Bool, true, false, Option, Some, None, List, [], ◌∷◌, length, take, drop, refl, sym, ap, subst, ◌∙◌, arith}
-use Rattle.std.specs.Prelude.{not, ◌==◌}
+use Rattle.std.specs.Prelude.{not, ◌==◌, IsSomeAnd}
 use Rattle.std.specs.List.{list_any}
 use Rattle.std.specs.Int.{w64, from_le_bytes}
 use Rattle.std.proofs.lemmas.Nat.{from_le_bytes-to_le_bytes_8}
@@ -9,13 +9,13 @@ use native.Mathlib.Decide.{dec_le}
 use Rattle.crc_chunk.specs.declared.chunk.TheConstants.{BLOCK, HEADER}
 use Rattle.crc_chunk.specs.declared.chunk.ChunkKind.{ChunkKind}
 use Rattle.crc_chunk.specs.declared.chunk.ChunkKind.TheVariants.{Full, First, Middle, Last}
-use Rattle.crc_chunk.specs.Chunk.{header_len, OffsetFits, chunk, ChunkAt}
+use Rattle.crc_chunk.specs.Chunk.{Chunk, sync_chunk, header_with, header_len, chunk_len, OffsetFits, chunk_bytes, ChunkAt}
 use Rattle.crc_chunk.proofs.Laws.{fields_of, header_bounds, one_chunk, payload_at, within_segment}
 use Rattle.disk_face.proofs.Laws.{same_number}
-use Rattle.block_record.specs.declared.records.Rec.{Rec}
+use Rattle.block_record.specs.declared.records.ReadOut.{ReadOut}
 use Rattle.block_record.specs.declared.records.Shown.{Shown}
-use Rattle.block_record.specs.ReadOut.{Link, LinkAt, NoChunkAt, MayFollow, leaves_open, chunk_end, place_after, Spelled, after_link, nothing, block_front, IsChunkRow, ShowsCorrupt, TellsShown, ReadsOut}
-use Rattle.block_record.proofs.Laws.{LeftToRead, left_first, left_next, all_read, not_before, one_link}
+use Rattle.block_record.specs.ReadOut.{NoChunkAt, MayFollow, leaves_open, chunk_end, place_after, Spelled, after_link, nothing, block_front, IsChunkRow, CoversMore, ShowsCorrupt, TellsShown, ReadsOut}
+use Rattle.block_record.proofs.Laws.{LeftToRead, left_first, left_next, all_read, not_before}
 
 same_bytes : (a b : List ℕ) → (a ≡ b) ⊎ (a ≢ b)
 same_bytes [] [] = inl refl
@@ -58,66 +58,70 @@ search_kinds P decide = go (decide Full) (decide First) (decide Middle) (decide 
     go (inr a) (inr b) (inr c) (inl holds) = inl (Last, holds)
     go (inr a) (inr b) (inr c) (inr d) = inr (none_of P a b c d)
 
--- the payload of a chunk that stands here, of this form and so many bytes
-abbrev payload_in : List ℕ → ℕ → Option ℕ → ℕ → List ℕ
-payload_in bytes at offset n = take n (drop (at + header_len offset) bytes)
+-- a chunk that stands here, of this kind, with this sync offset or none, and so many bytes of payload
+abbrev chunk_here : List ℕ → ℕ → ChunkKind → Option ℕ → ℕ → Chunk
+chunk_here bytes at kind offset n = record { kind = kind; offset = offset; payload = take n (drop (at + header_with offset) bytes) }
 
--- the sync offset of a sync chunk that stands here
+-- the sync offset of a chunk that stands here
 abbrev offset_in : List ℕ → ℕ → ℕ
 offset_in bytes at = from_le_bytes w64 (take 8 (drop (at + HEADER) bytes))
 
-offset_is : {bytes : List ℕ} {at log : ℕ} {kind : ChunkKind} {offset : ℕ} {payload : List ℕ} → ChunkAt bytes at log kind (Some offset) payload
+offset_is : {bytes : List ℕ} {at log : ℕ} {kind : ChunkKind} {offset : ℕ} {payload : List ℕ} → ChunkAt bytes at log (sync_chunk kind offset payload)
     → offset ≡ offset_in bytes at
 offset_is {bytes} {at} {log} {kind} {offset} {payload} h =
     sym (from_le_bytes-to_le_bytes_8 offset h.fits) ∙ ap (from_le_bytes w64) (sym (fields_of h.stands).offset_is.is)
 
-payload_is : {bytes : List ℕ} {at log : ℕ} {kind : ChunkKind} {offset : Option ℕ} {payload : List ℕ} → ChunkAt bytes at log kind offset payload
-    → payload_in bytes at offset (length payload) ≡ payload
-payload_is h = (payload_at h).is
+is_here : {bytes : List ℕ} {at log : ℕ} (c : Chunk) → ChunkAt bytes at log c → c ≡ chunk_here bytes at c.kind c.offset (length c.payload)
+is_here c h = ap (λ (p : List ℕ). record c { payload = p }) (sym (payload_at h).is)
 
-chunk_is_here : (bytes : List ℕ) (at log : ℕ) (kind : ChunkKind) (offset : Option ℕ) (payload : List ℕ) → OffsetFits offset
-    → ChunkAt bytes at log kind offset payload ⊎ (ChunkAt bytes at log kind offset payload → ⊥)
-chunk_is_here bytes at log kind offset payload fits =
-    elim (same_bytes (take (length (chunk kind log offset payload)) (drop at bytes)) (chunk kind log offset payload)) [
-      | inl is ↦ elim (dec_le (at % BLOCK + header_len offset + length payload) BLOCK) [
+chunk_is_here : (bytes : List ℕ) (at log : ℕ) (c : Chunk) → OffsetFits c.offset → ChunkAt bytes at log c ⊎ (ChunkAt bytes at log c → ⊥)
+chunk_is_here bytes at log c fits =
+    elim (same_bytes (take (length (chunk_bytes log c)) (drop at bytes)) (chunk_bytes log c)) [
+      | inl is ↦ elim (dec_le (at % BLOCK + chunk_len c) BLOCK) [
         | yes within ↦ inl (record { stands = record { is = is }; fits = fits; within = within })
         | no beyond ↦ inr (λ h. beyond h.within)
       ]
       | inr differs ↦ inr (λ h. differs h.stands.is)
     ]
 
--- A chunk of this form stands here, or none does.
+-- A chunk with this sync offset, or without one, stands here, or none does.
 of_form : (bytes : List ℕ) (log at : ℕ) (offset : Option ℕ) → OffsetFits offset
-    → ((kind : ChunkKind) × (payload : List ℕ) × ChunkAt bytes at log kind offset payload)
-    ⊎ ((kind : ChunkKind) (payload : List ℕ) → ChunkAt bytes at log kind offset payload → ⊥)
+    → ((c : Chunk) × ChunkAt bytes at log c) ⊎ ((c : Chunk) → c.offset ≡ offset → ChunkAt bytes at log c → ⊥)
 of_form bytes log at offset fits =
-    elim (search_below (λ n. (kind : ChunkKind) × ChunkAt bytes at log kind offset (payload_in bytes at offset n))
-    (λ n. search_kinds (λ kind. ChunkAt bytes at log kind offset (payload_in bytes at offset n))
-    (λ kind. chunk_is_here bytes at log kind offset (payload_in bytes at offset n) fits)) (suc (length bytes))) [
-      | inl (n, found) ↦ inl (found.0, payload_in bytes at offset n, found.1)
-      | inr none ↦ inr (λ kind payload here. none (length payload) (omega (arith, within_segment here))
-          (kind, subst (λ (p : List ℕ). ChunkAt bytes at log kind offset p) (sym (payload_is here)) here))
+    elim (search_below (λ n. (kind : ChunkKind) × ChunkAt bytes at log (chunk_here bytes at kind offset n))
+    (λ n. search_kinds (λ kind. ChunkAt bytes at log (chunk_here bytes at kind offset n))
+    (λ kind. chunk_is_here bytes at log (chunk_here bytes at kind offset n) fits)) (suc (length bytes))) [
+      | inl (n, found) ↦ inl (chunk_here bytes at found.0 offset n, found.1)
+      | inr none ↦ inr (λ c is here. none (length c.payload) (omega (arith, within_segment here)) (
+        c.kind,
+        subst (λ (o : Option ℕ). ChunkAt bytes at log (chunk_here bytes at c.kind o (length c.payload))) is
+            (subst (ChunkAt bytes at log) (is_here c here) here),
+      ))
     ]
 
 -- A chunk of the log stands here, in either form, or none does.
-chunk_or_none : (bytes : List ℕ) (log at : ℕ) → ((link : Link) × LinkAt bytes log at link) ⊎ NoChunkAt bytes at log
+chunk_or_none : (bytes : List ℕ) (log at : ℕ) → ((c : Chunk) × ChunkAt bytes at log c) ⊎ NoChunkAt bytes at log
 chunk_or_none bytes log at = elim (of_form bytes log at None tt) [
-  | inl (kind, payload, here) ↦ inl (record { kind = kind; offset = None; payload = payload }, here)
+  | inl found ↦ inl found
   | inr plain ↦ elim (dec_le (2 ^ 64) (offset_in bytes at)) [
-    | yes large ↦ inr (λ kind offset payload here. either offset plain (λ kind payload o h. omega (arith, large, h.fits, offset_is h)) kind payload here)
+    | yes large ↦ inr (λ c here. none_here c here plain (λ n fits same e. omega (arith, large, fits, same)))
     | no small ↦ elim (of_form bytes log at (Some (offset_in bytes at)) (omega (arith, small))) [
-      | inl (kind, payload, here) ↦ inl (record { kind = kind; offset = Some (offset_in bytes at); payload = payload }, here)
-      | inr sync ↦ inr (λ kind offset payload here. either offset plain
-          (λ kind payload o h. sync kind payload (subst (λ (n : ℕ). ChunkAt bytes at log kind (Some n) payload) (offset_is h) h)) kind payload here)
+      | inl found ↦ inl found
+      | inr sync ↦ inr (λ c here. none_here c here plain (λ n fits same e. sync c (e ∙ ap Some same) here))
     ]
   ]
 ]
   where
-    either : (offset : Option ℕ) → ((kind : ChunkKind) (payload : List ℕ) → ChunkAt bytes at log kind None payload → ⊥)
-        → ((kind : ChunkKind) (payload : List ℕ) (o : ℕ) → ChunkAt bytes at log kind (Some o) payload → ⊥)
-        → (kind : ChunkKind) (payload : List ℕ) → ChunkAt bytes at log kind offset payload → ⊥
-    either None plain sync kind payload here = plain kind payload here
-    either (Some o) plain sync kind payload here = sync kind payload o here
+    none_here : (c : Chunk) → ChunkAt bytes at log c → ((d : Chunk) → d.offset ≡ None → ChunkAt bytes at log d → ⊥)
+        → ((n : ℕ) → n < 2 ^ 64 → n ≡ offset_in bytes at → c.offset ≡ Some n → ⊥) → ⊥
+    none_here c h plain sync = go c.offset refl
+      where
+        go : (offset : Option ℕ) → c.offset ≡ offset → ⊥
+        go None e = plain c e h
+        go (Some n) e =
+            let there : ChunkAt bytes at log (sync_chunk c.kind n c.payload) = subst
+            (λ (o : Option ℕ). ChunkAt bytes at log (record { kind = c.kind; offset = o; payload = c.payload })) e h in
+            sync n there.fits (offset_is there) e
 
 may_follow_or_not : (is_open : Bool) (kind : ChunkKind) → MayFollow is_open kind ⊎ (MayFollow is_open kind → ⊥)
 may_follow_or_not true Full = inr (λ e. cc)
@@ -131,13 +135,13 @@ may_follow_or_not false Last = inr (λ e. cc)
 
 -- ---- what shows a segment corrupt
 
-row_rises : (bytes : List ℕ) (log from to : ℕ) (row : List Link) → IsChunkRow bytes log from row to → from ≤ to
+row_rises : (bytes : List ℕ) (log from to : ℕ) (row : List Chunk) → IsChunkRow bytes log from row to → from ≤ to
 row_rises bytes log from to [] e = omega (arith, e)
 row_rises bytes log from to (link ∷ row) r = omega (arith, row_rises bytes log (chunk_end from link) to row r.1)
 
 -- A place is reached in a row of chunks, or it is not.
 row_or_not : (bytes : List ℕ) (log fuel from to : ℕ) → to ≤ from + fuel
-    → ((row : List Link) × IsChunkRow bytes log from row to) ⊎ ((row : List Link) → IsChunkRow bytes log from row to → ⊥)
+    → ((row : List Chunk) × IsChunkRow bytes log from row to) ⊎ ((row : List Chunk) → IsChunkRow bytes log from row to → ⊥)
 row_or_not bytes log zero from to few = elim (same_number from to) [
   | inl e ↦ inl ([], e)
   | inr other ↦ inr (λ row r. other (omega (arith, few, row_rises bytes log from to row r)))
@@ -146,21 +150,21 @@ row_or_not bytes log (suc fuel) from to few = elim (same_number from to) [
   | inl e ↦ inl ([], e)
   | inr other ↦ elim (chunk_or_none bytes log from) [
     | inr none ↦ inr (λ row r. stuck row other none r)
-    | inl (link, here) ↦ elim (row_or_not bytes log fuel (chunk_end from link) to (omega (arith, few, (header_bounds link.offset).0))) [
+    | inl (link, here) ↦ elim (row_or_not bytes log fuel (chunk_end from link) to (omega (arith, few, (header_bounds link).0))) [
       | inl (row, r) ↦ inl (link ∷ row, (here, r))
       | inr never ↦ inr (λ row r. follows row other link here never r)
     ]
   ]
 ]
   where
-    stuck : (row : List Link) → from ≢ to → NoChunkAt bytes from log → IsChunkRow bytes log from row to → ⊥
+    stuck : (row : List Chunk) → from ≢ to → NoChunkAt bytes from log → IsChunkRow bytes log from row to → ⊥
     stuck [] other none e = other e
-    stuck (link ∷ row) other none r = none link.kind link.offset link.payload r.0
+    stuck (link ∷ row) other none r = none link r.0
 
-    follows : (row : List Link) → from ≢ to → (link : Link) → LinkAt bytes log from link
-        → ((row : List Link) → IsChunkRow bytes log (chunk_end from link) row to → ⊥) → IsChunkRow bytes log from row to → ⊥
+    follows : (row : List Chunk) → from ≢ to → (link : Chunk) → ChunkAt bytes from log link
+        → ((row : List Chunk) → IsChunkRow bytes log (chunk_end from link) row to → ⊥) → IsChunkRow bytes log from row to → ⊥
     follows [] other link here never e = other e
-    follows (first ∷ row) other link here never r = never row (subst (λ (l : Link). IsChunkRow bytes log (chunk_end from l) row to) (one_link r.0 here) r.1)
+    follows (first ∷ row) other link here never r = never row (subst (λ (l : Chunk). IsChunkRow bytes log (chunk_end from l) row to) (one_chunk r.0 here) r.1)
 
 -- A chunk at this place shows it, or none does.
 shows_or_not : (bytes : List ℕ) (log at place : ℕ) → ShowsCorrupt bytes log at place ⊎ (ShowsCorrupt bytes log at place → ⊥)
@@ -169,29 +173,18 @@ shows_or_not bytes log at place = elim (dec_le (suc at) (block_front place)) [
   | yes behind ↦ elim (row_or_not bytes log place (block_front place) place (omega arith)) [
     | inr never ↦ inr (λ s. never s.row s.in_row)
     | inl (row, r) ↦ elim (chunk_or_none bytes log place) [
-      | inr none ↦ inr (λ s. none s.kind (Some s.offset) s.payload s.stands)
-      | inl (link, here) ↦ by_form link.offset behind row r link.kind link.payload here
+      | inr none ↦ inr (λ s. none s.chunk s.stands)
+      | inl (link, here) ↦ elim (is_beyond link.offset) [
+        | inl above ↦ inl (record { behind = omega (arith, behind); row = row; in_row = r; chunk = link; stands = here; above = above })
+        | inr below ↦ inr (λ s. below (subst (λ (l : Chunk). CoversMore at l) (one_chunk s.stands here) s.above))
+      ]
     ]
   ]
 ]
   where
-    by_form : (offset : Option ℕ) → suc at ≤ block_front place → (row : List Link) → IsChunkRow bytes log (block_front place) row place
-        → (kind : ChunkKind) (payload : List ℕ) → ChunkAt bytes place log kind offset payload → ShowsCorrupt bytes log at place ⊎ (ShowsCorrupt bytes log at place → ⊥)
-    by_form None behind row r kind payload here = inr (λ s. let form : None ≡ Some s.offset = (one_chunk here s.stands).1 in absurd cc)
-    by_form (Some offset) behind row r kind payload here = elim (dec_le (suc at) offset) [
-      | yes above ↦ inl (record {
-        behind = omega (arith, behind);
-        row = row;
-        in_row = r;
-        kind = kind;
-        offset = offset;
-        payload = payload;
-        stands = here;
-        above = omega (arith, above);
-      })
-      | no below ↦ inr (λ s. let form : Some offset ≡ Some s.offset = (one_chunk here s.stands).1 in
-          let same : offset ≡ s.offset = cc in below (omega (arith, same, s.above)))
-    ]
+    is_beyond : (offset : Option ℕ) → IsSomeAnd offset (λ covered. at < covered) ⊎ (IsSomeAnd offset (λ covered. at < covered) → ⊥)
+    is_beyond None = inr (λ h. h)
+    is_beyond (Some offset) = elim (dec_le (suc at) offset) [ yes above ↦ inl (omega (arith, above)) | no below ↦ inr (λ h. below (omega (arith, h))) ]
 
 -- The least number of which it holds, or none below the bound.
 least_below : (P : ℕ → Type 0) → ((n : ℕ) → P n ⊎ (P n → ⊥)) → (bound : ℕ)
@@ -224,40 +217,39 @@ told bytes log at = elim (least_below (ShowsCorrupt bytes log at) (shows_or_not 
   }
   | inr none ↦ record {
     shown = None;
-    tells = λ place s. none place (omega (arith, within_segment s.stands, (header_bounds (Some s.offset)).0)) s;
+    tells = λ place s. none place (omega (arith, within_segment s.stands, (header_bounds s.chunk).0)) s;
   }
 ]
 
 -- what a segment reads as
 pub record Reading (bytes : List ℕ) (log : ℕ) : Type 0 where
-  pub records : List Rec
-  pub ends_at : ℕ
-  pub torn : Bool
-  pub shown : Option Shown
-  pub read : ReadsOut bytes log records ends_at torn shown
+  pub read : ReadOut
+  pub reads : ReadsOut bytes log read
 
 module _ (bytes : List ℕ) (log : ℕ) where
   ended_here : (at : ℕ) (is_open : Bool) (so_far : Spelled) → LeftToRead bytes log at is_open so_far
-      → ((kind : ChunkKind) (offset : Option ℕ) (payload : List ℕ) → MayFollow is_open kind → ChunkAt bytes at log kind offset payload → ⊥) → Reading bytes log
+      → ((c : Chunk) → MayFollow is_open c.kind → ChunkAt bytes at log c → ⊥) → Reading bytes log
   ended_here at is_open so_far left none = record {
-    records = so_far.records;
-    ends_at = so_far.ends_at;
-    torn = list_any (λ b. not (b == 0)) (drop so_far.ends_at bytes);
-    shown = (told bytes log at).shown;
-    read = all_read bytes log at is_open so_far (list_any (λ b. not (b == 0)) (drop so_far.ends_at bytes)) (told bytes log at).shown left none refl
+    read = record {
+      records = so_far.records;
+      ends_at = so_far.ends_at;
+      torn = list_any (λ b. not (b == 0)) (drop so_far.ends_at bytes);
+      shown = (told bytes log at).shown;
+    };
+    reads = all_read bytes log at is_open so_far (list_any (λ b. not (b == 0)) (drop so_far.ends_at bytes)) (told bytes log at).shown left none refl
         (told bytes log at).tells;
   }
 
   read_on : (fuel at : ℕ) (is_open : Bool) (so_far : Spelled) → LeftToRead bytes log at is_open so_far → length bytes ≤ at + fuel → Reading bytes log
   read_on zero at is_open so_far left short = ended_here at is_open so_far left
-      (λ kind offset payload may here. omega (arith, short, within_segment here, (header_bounds offset).0))
+      (λ c may here. omega (arith, short, within_segment here, (header_bounds c).0))
   read_on (suc fuel) at is_open so_far left short = elim (chunk_or_none bytes log at) [
-    | inr none ↦ ended_here at is_open so_far left (λ kind offset payload may here. none kind offset payload here)
+    | inr none ↦ ended_here at is_open so_far left (λ c may here. none c here)
     | inl (link, here) ↦ elim (may_follow_or_not is_open link.kind) [
-      | inr never ↦ ended_here at is_open so_far left (λ other form more may there. never (subst (MayFollow is_open) (one_chunk there here).0 may))
+      | inr never ↦ ended_here at is_open so_far left (λ other may there. never (subst (λ (c : Chunk). MayFollow is_open c.kind) (one_chunk there here) may))
       | inl may ↦ read_on fuel (place_after at link) (leaves_open link.kind) (after_link at so_far link)
           (left_next link left may here)
-          (omega (arith, short, not_before (header_len link.offset) (chunk_end at link), (header_bounds link.offset).0))
+          (omega (arith, short, not_before (header_len link) (chunk_end at link), (header_bounds link).0))
     ]
   ]
 

@@ -1,11 +1,11 @@
 -- A journal of which no segment has failed reads as an image of its disk: each file is one of its segments', which reads a front
 -- of what was sent, or is as it was at rest.
-use Rattle.std.proofs.Common.{◌≡◌, ◌≢◌, ◌⊎◌, inl, inr, ℕ, suc, ◌+◌, ◌≤◌, Bool, true, false, List, [], ◌∷◌, ◌++◌, length, take, drop, Option, Some, None, IsTrue, ap, sym, subst, ◌∙◌, refl, arith, cond}
+use Rattle.std.proofs.Common.{◌≡◌, ◌≢◌, ◌⊎◌, inl, inr, ℕ, suc, ◌+◌, Bool, true, false, List, [], ◌∷◌, ◌++◌, length, take, drop, Option, Some, None, IsTrue, ap, sym, subst, ◌∙◌, refl, arith, cond}
 use Rattle.std.specs.Prelude.{max, count_by}
 use Rattle.std.specs.List.{AllByRecursion}
-use Rattle.std.proofs.lemmas.List.{length-drop, take-append-drop, take-append-le, drop-append-le}
-use Rattle.crc_chunk.specs.Chunk.{header_len, chunk, IsChunkOf}
-use Rattle.crc_chunk.proofs.Laws.{chunk_len, header_bounds, stands_within}
+use Rattle.std.proofs.lemmas.List.{take-append-drop}
+use Rattle.crc_chunk.specs.Chunk.{IsChunkOf}
+use Rattle.crc_chunk.proofs.Laws.{same_in_whole}
 use Rattle.block_record.specs.Framing.{laid}
 use Rattle.batch_repr.specs.declared.batch.Batch.{Batch}
 use Rattle.disk_face.specs.View.{Place, segment, table, File, Files, DiskView, files}
@@ -53,12 +53,8 @@ rested_reads place (Some f) rested =
 
 -- A chunk that stands in a front has the same bytes in the whole.
 chunk_in_front : (front more : List ℕ) (at log size : ℕ) → IsChunkOf front at log size → take size (drop at front) ≡ take size (drop at (front ++ more))
-chunk_in_front front more at log size here =
-    let long : length (chunk here.kind log here.offset here.payload) ≡ header_len here.offset + length here.payload = chunk_len here.kind log here.offset here.payload in
-    let fits : at + length (chunk here.kind log here.offset here.payload) ≤ length front =
-    stands_within here.stands.stands (omega (arith, long, (header_bounds here.offset).0)) in
-    sym (ap (take size) (drop-append-le at front more (omega (arith, fits)))
-    ∙ take-append-le size (drop at front) more (omega (arith, fits, long, here.size_is, length-drop at front)))
+chunk_in_front front more at log size here = subst (λ (n : ℕ). take n (drop at front) ≡ take n (drop at (front ++ more))) (sym here.size_is)
+    (same_in_whole front more at here.stands)
 
 -- ---- one segment
 

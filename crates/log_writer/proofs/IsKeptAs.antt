@@ -1,14 +1,13 @@
 -- From the state of a segment's file to what each of its images reads out as. The bytes are looked at by the law of framing alone.
-use Rattle.crc_chunk.proofs.Laws.{chunk_len}
-use Rattle.std.proofs.Common.{◌≡◌, ℕ, ◌+◌, ◌-◌, ◌^◌, ◌<◌, ◌≤◌, Bool, true, false, List, length, map, take, drop, Option, Some, None, ap, sym, subst, ◌∙◌, refl, arith}
+use Rattle.crc_chunk.proofs.Laws.{chunk_moved}
+use Rattle.std.proofs.Common.{◌≡◌, ℕ, ◌-◌, ◌^◌, ◌<◌, ◌≤◌, Bool, true, false, List, length, map, take, drop, Option, Some, None, ap, sym, subst, ◌∙◌, refl, arith}
 use Rattle.std.proofs.lemmas.List.{length-take, length-drop, take-map, take-take, take-append-le, take_all}
 use native.Mathlib.Decide.{dec_le}
 use Rattle.disk_face.specs.declared.Side.{Side}
 use Rattle.disk_face.specs.declared.SegName.{SegName}
 use Rattle.disk_face.specs.View.{Place, segment, File, Files}
 use Rattle.disk_face.specs.Image.{IsFrontOf, IsImageOf, log_of}
-use Rattle.crc_chunk.specs.declared.chunk.ChunkKind.{ChunkKind}
-use Rattle.crc_chunk.specs.Chunk.{header_len, chunk, ChunkAt, IsChunkOf}
+use Rattle.crc_chunk.specs.Chunk.{chunk_len, IsChunkOf}
 use Rattle.batch_repr.specs.declared.batch.Batch.{Batch}
 use Rattle.batch_repr.specs.Written.{written}
 use Rattle.block_record.specs.Framing.{Marked, laid}
@@ -17,18 +16,6 @@ use Rattle.block_record.proofs.Laws.{first_are_read}
 use Rattle.log_writer.specs.Parts.{part, marked, segment_bytes}
 use Rattle.log_writer.specs.Kept.{IsPrefixRead, IsKeptAs, SegmentKept, HasSynced, IsKeptFile}
 use Rattle.log_writer.proofs.Parts.{marked_texts, marked_length, marked_take, marked_each, part_front, no_bytes}
-
--- A chunk stands wherever its bytes do.
-chunk_moved : (bytes others : List ℕ) (at log : ℕ) (kind : ChunkKind) (offset : Option ℕ) (payload : List ℕ)
-    → take (header_len offset + length payload) (drop at bytes) ≡ take (header_len offset + length payload) (drop at others)
-    → ChunkAt bytes at log kind offset payload → ChunkAt others at log kind offset payload
-chunk_moved bytes others at log kind offset payload same here =
-    let size : length (chunk kind log offset payload) ≡ header_len offset + length payload = chunk_len kind log offset payload in
-    record {
-      stands = record { is = ap (λ (n : ℕ). take n (drop at others)) size ∙ sym same ∙ sym (ap (λ (n : ℕ). take n (drop at bytes)) size) ∙ here.stands.is };
-      fits = here.fits;
-      within = here.within;
-    }
 
 -- What begins with the stable bytes has them.
 front_of : (f : File) (content : List ℕ) → f.stable ≤ length f.sent → IsFrontOf (take f.stable f.sent) content → take f.stable content ≡ take f.stable f.sent
@@ -90,12 +77,12 @@ module _ (place : Place) (log from synced : ℕ) (records : List Batch) where
       → length (segment_bytes log kept.offsets from kept.covers records) ≤ within → ChunksStandIn f.sent log content
       → IsKeptAs log from synced records (Some content)
   unfolding segment_bytes
-  reads_first f content within kept short front covered chunks found ends_at torn shown out =
+  reads_first f content within kept short front covered chunks read out =
       let sent : List Marked = sent_marked kept.offsets kept.upto in
       let count : ℕ = kept.covers - from in
       let same : laid log 0 (take count sent) ≡ segment_bytes log kept.offsets from kept.covers records =
       ap (laid log 0) (front_marked kept.offsets kept.covers kept.upto kept.has_covered) in
-      let read = first_are_read log within sent content found ends_at torn shown
+      let among = first_are_read log within sent content read
       (marked_each (λ (o : ℕ). o < 2 ^ 64) kept.offsets from (part from kept.upto records) kept.fit)
       (omega (arith, short, ap length kept.sent)) (front ∙ ap (take within) kept.sent)
       (subst (λ (l : List ℕ). ChunksStandIn l log content) kept.sent chunks)
@@ -106,7 +93,7 @@ module _ (place : Place) (log from synced : ℕ) (records : List Batch) where
         below = marked_each (λ (o : ℕ). o ≤ length (laid log 0 (take count sent))) kept.offsets from (part from kept.upto records)
             (λ number. omega (arith, kept.below number, ap length same));
       }) out in
-      (first_of f within (bytes_of found) kept covered read.0, read.1)
+      (first_of f within (bytes_of read.records) kept covered among.0, among.1)
 
   -- What of the file makes that its segment is kept.
   kept_in : (f : File) (content : List ℕ) (created : Bool) → f.created ≡ created → HasSynced log from synced records f
@@ -140,7 +127,6 @@ file_kept side name log from synced records files log_is kept dirs image chance_
         gone false is k im = omega (arith, k.begins, k.has_synced, k.not_created is)
     go (Some f) (Some content) f_is o_is k im =
         kept_in place log from synced records f content f.created refl k im
-        (λ at kind offset payload here. chunk_moved content f.sent at log kind offset payload
-        (chance_free place f content at (header_len offset + length payload) f_is o_is
-        (subst (λ (l : ℕ). IsChunkOf content at l (header_len offset + length payload)) log_is
-        (record { kind = kind; offset = offset; payload = payload; stands = here; size_is = refl }))) here)
+        (λ at c here. chunk_moved content f.sent at
+        (chance_free place f content at (chunk_len c) f_is o_is
+        (subst (λ (l : ℕ). IsChunkOf content at l (chunk_len c)) log_is (record { chunk = c; stands = here; size_is = refl }))) here)

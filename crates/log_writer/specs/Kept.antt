@@ -1,12 +1,11 @@
 -- What a crash may leave of a segment (docs/formats/journal.md, "What a crash leaves of a segment").
-use Rattle.std.specs.Prelude.{◌≡◌, ℕ, ◌+◌, ◌-◌, ◌^◌, ◌<◌, ◌≤◌, Bool, true, false, List, length, map, take, drop, Option, Some, None}
+use Rattle.std.specs.Prelude.{◌≡◌, ℕ, ◌+◌, ◌-◌, ◌^◌, ◌<◌, ◌≤◌, true, false, List, length, map, take, drop, Option, Some, None}
 use Rattle.disk_face.specs.View.{Place, File, Files, Dirs}
 use Rattle.disk_face.specs.Image.{IsImage, IsChanceFree}
 use Rattle.crc_chunk.specs.Chunk.{IsChunkOf}
 use Rattle.batch_repr.specs.declared.batch.Batch.{Batch}
 use Rattle.batch_repr.specs.Written.{written}
-use Rattle.block_record.specs.declared.records.Rec.{Rec}
-use Rattle.block_record.specs.declared.records.Shown.{Shown}
+use Rattle.block_record.specs.declared.records.ReadOut.{ReadOut}
 use Rattle.block_record.specs.ReadOut.{bytes_of, ReadsOut}
 use Rattle.log_writer.specs.Parts.{segment_bytes}
 
@@ -22,8 +21,7 @@ pub record IsPrefixRead (from synced : ℕ) (records : List Batch) (read : List 
 abbrev pub IsKeptAs : ℕ → ℕ → ℕ → List Batch → Option (List ℕ) → Type 0
 IsKeptAs log from synced records None = synced ≡ from
 IsKeptAs log from synced records (Some content) =
-    (found : List Rec) (ends_at : ℕ) (torn : Bool) (shown : Option Shown) → ReadsOut content log found ends_at torn shown
-    → IsPrefixRead from synced records (bytes_of found) × (shown ≡ None)
+    (read : ReadOut) → ReadsOut content log read → IsPrefixRead from synced records (bytes_of read.records) × (read.shown ≡ None)
 
 -- It is so in each image of the files that no torn chunk deceives.
 abbrev pub SegmentKept : Place → ℕ → ℕ → ℕ → List Batch → Files → Type 0

@@ -42,11 +42,8 @@ wal_holds number [] (r ∷ own) on = absurd on
 wal_holds number (s ∷ segments) [] on = absurd on
 wal_holds number (s ∷ segments) (r ∷ own) on = (
   record {
-    records = on.0.records;
-    ends_at = r.ends_at;
-    torn = r.torn;
-    shown = on.0.shown;
     read = on.0.read;
+    reads = on.0.reads;
     passes = tt;
     all = r.batches;
     spelled = on.0.batches;

@@ -33,11 +33,8 @@ pub report_holds : (mode : Mode) (number : ℕ) (f : Found) (bytes : List ℕ) (
 report_holds mode number f bytes r is report =
     subst (λ (n : ℕ). HoldsBatches mode (log_number n) bytes (taking_numbers r.batches)) is
     (record {
-      records = report.records;
-      ends_at = r.ends_at;
-      torn = r.torn;
-      shown = report.shown;
       read = report.read;
+      reads = report.reads;
       passes = report.passes;
       all = r.batches;
       spelled = report.batches;
@@ -63,9 +60,10 @@ report_is mode files number f r is listed report =
       side = report.side;
       name = report.name;
       len = report.len ∙ sym (listed.3) ∙ sym (ap length (bytes_are files (place_listed f) f.len listed));
-      records = report.records;
-      shown = report.shown;
       read = report.read;
+      reads = report.reads;
+      end_is = report.end_is;
+      torn_is = report.torn_is;
       batches = report.batches;
     })
 

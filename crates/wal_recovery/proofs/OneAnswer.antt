@@ -1,14 +1,14 @@
 -- Directories recover to at most one list of batches.
 use Rattle.batch_repr.specs.declared.limits.TheConstants.{NUMBER_FIRST}
-use Rattle.std.proofs.Common.{◌≡◌, inl, inr, ℕ, suc, ◌≤◌, ◌<◌, Bool, Option, List, [], ◌∷◌, ◌++◌, sym, subst, ap, ◌∙◌, refl, arith}
+use Rattle.std.proofs.Common.{◌≡◌, inl, inr, ℕ, suc, ◌≤◌, ◌<◌, List, [], ◌∷◌, ◌++◌, sym, subst, ap, ◌∙◌, refl, arith}
 use Rattle.std.specs.Prelude.{Contains}
 use Rattle.std.specs.List.{filter}
 use Rattle.disk_face.specs.Image.{log_number}
 use Rattle.batch_repr.specs.declared.batch.Batch.{Batch}
 use Rattle.batch_repr.specs.Batches.{end_after}
 use Rattle.batch_repr.specs.Spelling.{SpellsBatch}
+use Rattle.block_record.specs.declared.records.ReadOut.{ReadOut}
 use Rattle.block_record.specs.declared.records.Rec.{Rec}
-use Rattle.block_record.specs.declared.records.Shown.{Shown}
 use Rattle.block_record.specs.ReadOut.{ReadsOut}
 use Rattle.disk_face.specs.View.{Dirs}
 use Rattle.segment_merge.proofs.Laws.{none_within, within_head, within_tail, within_cases, one_merged}
@@ -112,7 +112,7 @@ one_listing dirs ws vs lw lv = same_wals 0 0 ws vs lw.order lv.order (λ n s h. 
 
 -- ---- one answer, where read-out and spelling give one
 
-module _ (one_read : (bytes : List ℕ) (log : ℕ) (r s : List Rec) (d e : ℕ) (t u : Bool) (x y : Option Shown) → ReadsOut bytes log r d t x → ReadsOut bytes log s e u y → r ≡ s)
+module _ (one_read : (bytes : List ℕ) (log : ℕ) (r s : ReadOut) → ReadsOut bytes log r → ReadsOut bytes log s → r ≡ s)
     (one_spelled : (bytes : List ℕ) (b c : Batch) → SpellsBatch bytes b → SpellsBatch bytes c → b ≡ c) where
   one_spell : (records : List Rec) (bs cs : List Batch) → Spell records bs → Spell records cs → bs ≡ cs
   one_spell [] [] [] h k = refl
@@ -124,8 +124,8 @@ module _ (one_read : (bytes : List ℕ) (log : ℕ) (r s : List Rec) (d e : ℕ)
 
   one_holds : (mode : Mode) (log : ℕ) (content : List ℕ) (bs cs : List Batch) → HoldsBatches mode log content bs → HoldsBatches mode log content cs → bs ≡ cs
   one_holds mode log content bs cs h k =
-      let records : h.records ≡ k.records = one_read content log h.records k.records h.ends_at k.ends_at h.torn k.torn h.shown k.shown h.read k.read in
-      h.counted_are ∙ ap (filter takes_number) (one_spell k.records h.all k.all (subst (λ r. Spell r h.all) records h.spelled) k.spelled) ∙ sym k.counted_are
+      let records : h.read.records ≡ k.read.records = ap (λ (r : ReadOut). r.records) (one_read content log h.read k.read h.reads k.reads) in
+      h.counted_are ∙ ap (filter takes_number) (one_spell k.read.records h.all k.all (subst (λ r. Spell r h.all) records h.spelled) k.spelled) ∙ sym k.counted_are
 
   pub one_row : (mode : Mode) (log : ℕ) (segments : List Stored) (rows others : List (List Batch)) → HoldRow mode log segments rows → HoldRow mode log segments others → rows ≡ others
   one_row mode log [] [] [] h k = refl

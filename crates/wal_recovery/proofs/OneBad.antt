@@ -5,15 +5,17 @@ use Rattle.batch_repr.specs.declared.fault.BatchFault.{BatchFault}
 use Rattle.batch_repr.specs.Spelling.{SpellsBatch}
 use Rattle.batch_repr.specs.Reading.{IsFirstFault}
 use Rattle.batch_repr.proofs.Laws.{spelled_reads, reads_no_fault, one_fault}
+use Rattle.block_record.specs.declared.records.ReadOut.{ReadOut}
 use Rattle.block_record.specs.declared.records.Rec.{Rec}
 use Rattle.block_record.specs.declared.records.Shown.{Shown}
+use Rattle.block_record.specs.ReadOut.{ReadsOut}
 use Rattle.segment_merge.proofs.Laws.{Places, sooner, one, later, places}
 use Rattle.wal_recovery.specs.declared.reports.Mode.{Mode}
 use Rattle.wal_recovery.specs.declared.reports.Mode.TheVariants.{Strict}
 use Rattle.wal_recovery.specs.Listing.{Stored}
 use Rattle.wal_recovery.specs.Recovering.{Spell, HoldsBatches, HoldRow}
 use Rattle.wal_recovery.specs.Refused.{IsBadRecord, HasBadRecord, IsShownCorrupt, IsFirstWrongSegment, IsBadBatch, IsCorrupt}
-use Rattle.wal_recovery.proofs.OneReading.{one_read, one_shown}
+use Rattle.wal_recovery.proofs.OneReading.{one_read}
 
 -- ---- records
 
@@ -44,13 +46,15 @@ one_bad_record records p q f g a b = of_places (places a.front a.bad a.back b.fr
 
 -- ---- one segment
 
+same_records : (content : List ℕ) (log : ℕ) (r s : ReadOut) → ReadsOut content log r → ReadsOut content log s → r.records ≡ s.records
+same_records content log r s a b = ap (λ (read : ReadOut). read.records) (one_read content log r s a b)
+
 -- A segment that holds batches has no bad record.
 bad_or_held_one : (mode : Mode) (log place : ℕ) (fault : BatchFault) (content : List ℕ) (batches : List Batch) → HasBadRecord log place fault content
     → HoldsBatches mode log content batches → ⊥
 bad_or_held_one mode log place fault content batches wrong h =
-    let records : h.records ≡ wrong.records = one_read content log h.records wrong.records h.ends_at wrong.ends_at
-    h.torn wrong.torn h.shown wrong.shown h.read wrong.read in
-    spelled_or_bad wrong.records wrong.bad.front wrong.bad.back wrong.bad.bad h.all fault wrong.bad.records_are
+    let records : h.read.records ≡ wrong.read.records = same_records content log h.read wrong.read h.reads wrong.reads in
+    spelled_or_bad wrong.read.records wrong.bad.front wrong.bad.back wrong.bad.bad h.all fault wrong.bad.records_are
     (subst (λ (r : List Rec). Spell r h.all) records h.spelled) wrong.bad.fault_is
 
 -- Where no gap is accepted, it is not shown corrupt.
@@ -58,23 +62,21 @@ corrupt_or_held_one : (log at shown_at : ℕ) (content : List ℕ) (batches : Li
     → HoldsBatches Strict log content batches → ⊥
 corrupt_or_held_one log at shown_at content batches wrong h =
     let it : Shown = record { at = at; shown_at = shown_at } in
-    let same : h.shown ≡ Some it = one_shown content log h.records wrong.records h.ends_at wrong.ends_at
-    h.torn wrong.torn h.shown (Some it) h.read wrong.read in
-    let none : h.shown ≡ None = h.passes in absurd cc
+    let same : h.read.shown ≡ Some it = ap (λ (r : ReadOut). r.shown) (one_read content log h.read wrong.read h.reads wrong.reads) ∙ wrong.shown in
+    let none : h.read.shown ≡ None = h.passes in absurd cc
 
 -- Of one that is shown corrupt all records spell batches.
 bad_or_corrupt : (log place at shown_at : ℕ) (fault : BatchFault) (content : List ℕ) → HasBadRecord log place fault content
     → IsShownCorrupt log at shown_at content → ⊥
 bad_or_corrupt log place at shown_at fault content wrong c =
-    let records : c.records ≡ wrong.records = one_read content log c.records wrong.records c.ends_at wrong.ends_at
-    c.torn wrong.torn (Some (record { at = at; shown_at = shown_at })) wrong.shown c.read wrong.read in
-    spelled_or_bad wrong.records wrong.bad.front wrong.bad.back wrong.bad.bad c.all fault wrong.bad.records_are
+    let records : c.read.records ≡ wrong.read.records = same_records content log c.read wrong.read c.reads wrong.reads in
+    spelled_or_bad wrong.read.records wrong.bad.front wrong.bad.back wrong.bad.bad c.all fault wrong.bad.records_are
     (subst (λ (r : List Rec). Spell r c.all) records c.spelled) wrong.bad.fault_is
 
 one_bad_of : (log p q : ℕ) (f g : BatchFault) (content : List ℕ) → HasBadRecord log p f content → HasBadRecord log q g content → (p ≡ q) × (f ≡ g)
 one_bad_of log p q f g content a b =
-    let records : a.records ≡ b.records = one_read content log a.records b.records a.ends_at b.ends_at a.torn b.torn a.shown b.shown a.read b.read in
-    one_bad_record b.records p q f g (subst (λ (r : List Rec). IsBadRecord r p f) records a.bad) b.bad
+    let records : a.read.records ≡ b.read.records = same_records content log a.read b.read a.reads b.reads in
+    one_bad_record b.read.records p q f g (subst (λ (r : List Rec). IsBadRecord r p f) records a.bad) b.bad
 
 abbrev at_of : Option Shown → ℕ
 at_of None = 0
@@ -87,7 +89,7 @@ shown_of (Some s) = s.shown_at
 one_shown_of : (log p q x y : ℕ) (content : List ℕ) → IsShownCorrupt log p x content → IsShownCorrupt log q y content → (p ≡ q) × (x ≡ y)
 one_shown_of log p q x y content a b =
     let same : Some (record { at = p; shown_at = x }) ≡ Some (record { at = q; shown_at = y }) =
-    one_shown content log a.records b.records a.ends_at b.ends_at a.torn b.torn (Some (record { at = p; shown_at = x })) (Some (record { at = q; shown_at = y })) a.read b.read in
+    sym a.shown ∙ ap (λ (r : ReadOut). r.shown) (one_read content log a.read b.read a.reads b.reads) ∙ b.shown in
     (ap at_of same, ap shown_of same)
 
 -- ---- segments

@@ -4,21 +4,23 @@ use Rattle.std.specs.List.{list_any}
 use Rattle.batch_repr.specs.declared.batch.Batch.{Batch}
 use Rattle.batch_repr.specs.Spelling.{SpellsBatch}
 use Rattle.batch_repr.proofs.Laws.{spelled_reads, same_batch}
-use Rattle.block_record.proofs.Laws.{one_link}
+use Rattle.crc_chunk.specs.Chunk.{Chunk}
+use Rattle.crc_chunk.proofs.Laws.{one_chunk}
+use Rattle.block_record.specs.declared.records.ReadOut.{ReadOut}
 use Rattle.block_record.specs.declared.records.Rec.{Rec}
 use Rattle.block_record.specs.declared.records.Shown.{Shown}
-use Rattle.block_record.specs.ReadOut.{Link, place_after, stopped_at, TellsShown, leaves_open, IsChain, spelled_from, nothing, ReadsOut}
+use Rattle.block_record.specs.ReadOut.{place_after, stopped_at, TellsShown, leaves_open, IsChain, spelled_from, nothing, ReadsOut}
 
 -- Of two chains of one length from one place, both are one.
-one_chain : (bytes : List ℕ) (log at : ℕ) (is_open : Bool) (ls ms : List Link) → IsChain bytes log at is_open ls
+one_chain : (bytes : List ℕ) (log at : ℕ) (is_open : Bool) (ls ms : List Chunk) → IsChain bytes log at is_open ls
     → IsChain bytes log at is_open ms → length ls ≡ length ms → ls ≡ ms
 one_chain bytes log at is_open [] [] a b e = refl
 one_chain bytes log at is_open [] (m ∷ ms) a b e = absurd (omega (arith, e))
 one_chain bytes log at is_open (l ∷ ls) [] a b e = absurd (omega (arith, e))
 one_chain bytes log at is_open (l ∷ ls) (m ∷ ms) a b e =
-    let here : l ≡ m = one_link a.1 b.1 in
+    let here : l ≡ m = one_chunk a.1 b.1 in
     let rest : IsChain bytes log (place_after at l) (leaves_open l.kind) ms = subst
-    (λ (x : Link). IsChain bytes log (place_after at x) (leaves_open x.kind) ms) (sym here) b.2 in
+    (λ (x : Chunk). IsChain bytes log (place_after at x) (leaves_open x.kind) ms) (sym here) b.2 in
     let len : length ls ≡ length ms = omega (arith, e) in
     ap (λ x. l ∷ x) (one_chain bytes log (place_after at l) (leaves_open l.kind) ls ms a.2 rest len) ∙ ap (λ x. x ∷ ms) here
 
@@ -32,23 +34,28 @@ one_told bytes log at (Some x) (Some y) a b =
     ap (λ (n : ℕ). Some (record { at = n; shown_at = x.shown_at })) (a.at_is ∙ sym b.at_is)
     ∙ ap (λ (n : ℕ). Some (record { at = y.at; shown_at = n })) place
 
-module _ (bytes : List ℕ) (log : ℕ) (r s : List Rec) (d e : ℕ) (t u : Bool) (x y : Option Shown) (a : ReadsOut bytes log r d t x) (b : ReadsOut bytes log s e u y) where
-  one_links : a.links ≡ b.links
-  one_links =
-      let len : length a.links ≡ length b.links = omega (arith, a.longest.longest b.links b.longest.chain, b.longest.longest a.links a.longest.chain) in
-      one_chain bytes log 0 false a.links b.links a.longest.chain b.longest.chain len
+-- A segment is read in one way.
+pub one_read : (bytes : List ℕ) (log : ℕ) (r s : ReadOut) → ReadsOut bytes log r → ReadsOut bytes log s → r ≡ s
+one_read bytes log r s a b =
+    ap (λ (records : List Rec). record r { records = records }) records ∙ ap (λ (n : ℕ). record r { records = s.records; ends_at = n }) end
+    ∙ ap (λ (t : Bool). record s { torn = t; shown = r.shown }) torn ∙ ap (λ (o : Option Shown). record s { shown = o }) shown
+  where
+    links : a.links ≡ b.links
+    links =
+        let len : length a.links ≡ length b.links = omega (arith, a.longest.longest b.links b.longest.chain, b.longest.longest a.links a.longest.chain) in
+        one_chain bytes log 0 false a.links b.links a.longest.chain b.longest.chain len
 
-  pub one_read : r ≡ s
-  one_read = a.records_are ∙ ap (λ ls. (spelled_from 0 nothing ls).records) one_links ∙ sym b.records_are
+    records : r.records ≡ s.records
+    records = a.records_are ∙ ap (λ ls. (spelled_from 0 nothing ls).records) links ∙ sym b.records_are
 
-  pub one_end : d ≡ e
-  one_end = a.end_is ∙ ap (λ ls. (spelled_from 0 nothing ls).ends_at) one_links ∙ sym b.end_is
+    end : r.ends_at ≡ s.ends_at
+    end = a.end_is ∙ ap (λ ls. (spelled_from 0 nothing ls).ends_at) links ∙ sym b.end_is
 
-  pub one_torn : t ≡ u
-  one_torn = a.torn_is ∙ ap (λ n. list_any (λ c. not (c == 0)) (drop n bytes)) one_end ∙ sym b.torn_is
+    torn : r.torn ≡ s.torn
+    torn = a.torn_is ∙ ap (λ n. list_any (λ c. not (c == 0)) (drop n bytes)) end ∙ sym b.torn_is
 
-  pub one_shown : x ≡ y
-  one_shown = one_told bytes log (stopped_at 0 b.links) x y (subst (λ (ls : List Link). TellsShown bytes log (stopped_at 0 ls) x) one_links a.shown_is) b.shown_is
+    shown : r.shown ≡ s.shown
+    shown = one_told bytes log (stopped_at 0 b.links) r.shown s.shown (subst (λ (ls : List Chunk). TellsShown bytes log (stopped_at 0 ls) r.shown) links a.shown_is) b.shown_is
 
 -- Bytes spell one batch.
 pub one_spelled : (bytes : List ℕ) (b c : Batch) → SpellsBatch bytes b → SpellsBatch bytes c → b ≡ c

@@ -1,9 +1,8 @@
 -- What recovery gathers while it reads segments one after another (docs/formats/journal.md, "Recovery").
-use Rattle.std.specs.Prelude.{◌≡◌, ℕ, Bool, Option, List, [], ◌∷◌, ◌++◌, length, map, All, IsTrue}
+use Rattle.std.specs.Prelude.{◌≡◌, ℕ, Bool, List, [], ◌∷◌, ◌++◌, length, map, All, IsTrue}
 use Rattle.std.specs.List.{AllZip}
 use Rattle.batch_repr.specs.declared.batch.Batch.{Batch}
-use Rattle.block_record.specs.declared.records.Rec.{Rec}
-use Rattle.block_record.specs.declared.records.Shown.{Shown}
+use Rattle.block_record.specs.declared.records.ReadOut.{ReadOut}
 use Rattle.block_record.specs.ReadOut.{ReadsOut}
 use Rattle.segment_merge.specs.declared.segment.SegmentRead.{SegmentRead}
 use Rattle.segment_merge.specs.declared.fault.MergeFault.{MergeFault}
@@ -38,11 +37,12 @@ pub record IsReportOf (mode : Mode) (segment : Found) (bytes : List ℕ) (report
   pub side : report.side ≡ segment.side
   pub name : report.name ≡ segment.name
   pub len : report.len ≡ segment.len
-  pub records : List Rec
-  pub shown : Option Shown
-  pub read : ReadsOut bytes (log_number segment.name.wal) records report.ends_at report.torn shown
-  pub passes : PassesOver mode shown
-  pub batches : Spell records report.batches
+  pub read : ReadOut
+  pub reads : ReadsOut bytes (log_number segment.name.wal) read
+  pub end_is : report.ends_at ≡ read.ends_at
+  pub torn_is : report.torn ≡ read.torn
+  pub passes : PassesOver mode read.shown
+  pub batches : Spell read.records report.batches
 
 -- The fault is the first bad record of these bytes of a listed segment, or, where no gap is accepted, that a chunk shows it corrupt.
 abbrev pub IsBadIn : Mode → Found → List ℕ → RecoverFault → Type 0

@@ -6,6 +6,7 @@ use Rattle.disk_face.specs.Image.{log_number}
 use Rattle.batch_repr.specs.declared.batch.Batch.{Batch}
 use Rattle.batch_repr.specs.Batches.{count_of, end_after}
 use Rattle.batch_repr.specs.Spelling.{SpellsBatch}
+use Rattle.block_record.specs.declared.records.ReadOut.{ReadOut}
 use Rattle.block_record.specs.declared.records.Rec.{Rec}
 use Rattle.block_record.specs.declared.records.Shown.{Shown}
 use Rattle.block_record.specs.ReadOut.{ReadsOut}
@@ -35,14 +36,11 @@ PassesOver Lenient shown = Unit {0}
 -- The segment reads as records that spell batches, and these are those of them that take a number. Nothing shows it corrupt, or
 -- gaps are accepted.
 pub record HoldsBatches (mode : Mode) (log : ℕ) (content : List ℕ) (batches : List Batch) : Type 0 where
-  pub records : List Rec
-  pub ends_at : ℕ
-  pub torn : Bool
-  pub shown : Option Shown
-  pub read : ReadsOut content log records ends_at torn shown
-  pub passes : PassesOver mode shown
+  pub read : ReadOut
+  pub reads : ReadsOut content log read
+  pub passes : PassesOver mode read.shown
   pub all : List Batch
-  pub spelled : Spell records all
+  pub spelled : Spell read.records all
   pub counted_are : batches ≡ taking_numbers all
 
 -- Each segment holds a list of batches.

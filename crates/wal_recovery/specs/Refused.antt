@@ -1,14 +1,14 @@
 -- Why the directories are refused, in the order in which it is looked for (docs/formats/journal.md, "Recovery").
 use Rattle.batch_repr.specs.declared.limits.TheConstants.{NUMBER_FIRST}
-use Rattle.std.specs.Prelude.{◌≡◌, ℕ, ◌++◌, Bool, Option, Some, List, [], ◌∷◌}
+use Rattle.std.specs.Prelude.{◌≡◌, ℕ, ◌++◌, Some, List, [], ◌∷◌}
 use Rattle.std.specs.List.{flat_map}
 use Rattle.disk_face.specs.Image.{log_number}
 use Rattle.batch_repr.specs.declared.batch.Batch.{Batch}
 use Rattle.batch_repr.specs.declared.fault.BatchFault.{BatchFault}
 use Rattle.batch_repr.specs.Batches.{end_after}
 use Rattle.batch_repr.specs.Reading.{IsFirstFault}
+use Rattle.block_record.specs.declared.records.ReadOut.{ReadOut}
 use Rattle.block_record.specs.declared.records.Rec.{Rec}
-use Rattle.block_record.specs.declared.records.Shown.{Shown}
 use Rattle.block_record.specs.ReadOut.{ReadsOut}
 use Rattle.segment_merge.specs.declared.segment.SegmentRead.{SegmentRead}
 use Rattle.segment_merge.specs.Refusals.{IsGap, IsConflict}
@@ -34,21 +34,17 @@ pub record IsBadRecord (records : List Rec) (place : ℕ) (fault : BatchFault) :
 
 -- A segment with these bytes reads as records of which one spells no batch: the first such stands at this place.
 pub record HasBadRecord (log place : ℕ) (fault : BatchFault) (content : List ℕ) : Type 0 where
-  pub records : List Rec
-  pub ends_at : ℕ
-  pub torn : Bool
-  pub shown : Option Shown
-  pub read : ReadsOut content log records ends_at torn shown
-  pub bad : IsBadRecord records place fault
+  pub read : ReadOut
+  pub reads : ReadsOut content log read
+  pub bad : IsBadRecord read.records place fault
 
 -- A segment with these bytes reads as records that spell batches, and a chunk shows it corrupt after them.
 pub record IsShownCorrupt (log at shown_at : ℕ) (content : List ℕ) : Type 0 where
-  pub records : List Rec
-  pub ends_at : ℕ
-  pub torn : Bool
-  pub read : ReadsOut content log records ends_at torn (Some (record { at = at; shown_at = shown_at }))
+  pub read : ReadOut
+  pub reads : ReadsOut content log read
+  pub shown : read.shown ≡ Some (record { at = at; shown_at = shown_at })
   pub all : List Batch
-  pub spelled : Spell records all
+  pub spelled : Spell read.records all
 
 -- The first of the segments that holds no batches, and this is wrong with it: those before it hold some.
 pub record IsFirstWrongSegment (mode : Mode) (log : ℕ) (segments : List Stored) (index : ℕ) (Wrong : List ℕ → Type 0) : Type 0 where

@@ -1,9 +1,8 @@
 -- What recovery reports of each segment (docs/formats/journal.md, "Recovery").
-use Rattle.std.specs.Prelude.{◌≡◌, ℕ, Option, List, [], ◌∷◌, ◌++◌, length}
+use Rattle.std.specs.Prelude.{◌≡◌, ℕ, List, [], ◌∷◌, ◌++◌, length}
 use Rattle.std.specs.List.{AllZip}
 use Rattle.disk_face.specs.Image.{log_number}
-use Rattle.block_record.specs.declared.records.Rec.{Rec}
-use Rattle.block_record.specs.declared.records.Shown.{Shown}
+use Rattle.block_record.specs.declared.records.ReadOut.{ReadOut}
 use Rattle.block_record.specs.ReadOut.{ReadsOut}
 use Rattle.disk_face.specs.View.{Dirs}
 use Rattle.wal_recovery.specs.declared.reports.SegReport.{SegReport}
@@ -15,10 +14,11 @@ pub record IsReport (wal : ℕ) (stored : Stored) (report : SegReport) : Type 0 
   pub side : report.side ≡ stored.side
   pub name : report.name ≡ name_in wal stored.index
   pub len : report.len ≡ length stored.content
-  pub records : List Rec
-  pub shown : Option Shown
-  pub read : ReadsOut stored.content (log_number wal) records report.ends_at report.torn shown
-  pub batches : Spell records report.batches
+  pub read : ReadOut
+  pub reads : ReadsOut stored.content (log_number wal) read
+  pub end_is : report.ends_at ≡ read.ends_at
+  pub torn_is : report.torn ≡ read.torn
+  pub batches : Spell read.records report.batches
 
 -- one report for each segment of a WAL
 abbrev pub ReportOn : Wal → List SegReport → Type 0

@@ -27,6 +27,6 @@ returns-clause-added g c =
       report = c.in_ok-report.report;
       reports = reports;
       rows = pushed ∙ ap (λ (b : List Batch). c.args.row.now ++ record { index = c.args.index; batches = b } ∷ []) copies;
-      numbered = counted_numbered c.in_ok-report.ensures.report.records c.in_ok-report.report.batches c.in_ok-report.ensures.report.batches;
+      numbered = counted_numbered c.in_ok-report.ensures.report.read.records c.in_ok-report.report.batches c.in_ok-report.ensures.report.batches;
       holds = λ told listed. subst (λ (bytes : List ℕ). IsReportOf c.args.mode c.args.segment bytes c.in_ok-report.report) (c.in_ok-bytes.ensures.bytes told listed) c.in_ok-report.ensures.report;
     }

@@ -1,6 +1,5 @@
-use Rattle.std.proofs.Common.{ℕ, List, Option, Some, refl, subst}
+use Rattle.std.proofs.Common.{ℕ, List, refl, subst}
 use Rattle.block_record.specs.declared.records.Rec.{Rec}
-use Rattle.block_record.specs.declared.records.Shown.{Shown}
 use Rattle.block_record.specs.ReadOut.{ReadsOut}
 use Rattle.wal_recovery.specs.Recovering.{Spell}
 use Rattle.wal_recovery.proofs.merging.report_of.Goals as goal
@@ -13,11 +12,9 @@ returns-in-Some-clause-bad c =
       refl,
       c.in-Some.ensures.refused.0,
       record {
-        records = out.records;
-        ends_at = out.ends_at;
-        torn = out.torn;
-        read = subst (λ (n : ℕ). ReadsOut bytes n out.records out.ends_at out.torn (Some c.in-Some.shown)) c.log-log.ensures
-            (subst (λ (s : Option Shown). ReadsOut bytes c.log-log.result out.records out.ends_at out.torn s) c.in-Some.ensures.refused.1 c.in_ok-out.ensures);
+        read = out;
+        reads = subst (λ (n : ℕ). ReadsOut bytes n out) c.log-log.ensures c.in_ok-out.ensures;
+        shown = c.in-Some.ensures.refused.1;
         all = c.in-Ok.batches;
         spelled = subst (λ (r : List Rec). Spell r c.in-Ok.batches) c.as_slice.ensures c.in-Ok.ensures.spelled;
       },
