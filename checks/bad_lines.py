@@ -7,6 +7,7 @@ SAYING_NOTHING = (
     *(b"close", b"GET 0 a", b"get", b"get 0", b"get a", b"get 0 a b", b"get 0 ;", b"get 0 a;b", b"get 0 a ; get 0 b"),
     *(b"commit", b"commit 0", b"commit 0 sync", b"commit 0 set a 1", b"commit 0 async set a 1", b"commit sync 0 set a 1"),
     *(b"commit 0 sync put a 1", b"commit 0 sync set a", b"commit 0 sync set a 1 2", b"commit 0 sync del"),
+    *(b"commit 0 sync rdel", b"commit 0 sync rdel a", b"commit 0 sync rdel a b c", b"commit 0 sync rdel a ; set b 1"),
     *(b"commit 0 sync del a b", b"commit 0 sync del a note", b"commit 0 nosync note n", b"commit 0 sync note n ; note m"),
     *(b"commit 0 sync note n m ; set a 1", b"commit 0 sync ;", b"commit 0 sync ; set a 1", b"commit 0 sync set a 1 ;"),
     *(b"commit 0 sync set a 1 ; ; del b", b"commit 0 sync set a 1 del b", b"commit 0 sync set a 1;2"),
@@ -32,6 +33,8 @@ LENGTHS = (
     b"get 63 " + b"x" * (KEY_LIMIT + 1),
     b"commit 0 sync set %s 1" % (b"x" * (KEY_LIMIT + 1)),
     b"commit 0 sync set a 1 ; del " + b"x" * (KEY_LIMIT + 1),
+    b"commit 0 sync rdel %s b" % (b"x" * (KEY_LIMIT + 1)),
+    b"commit 0 sync rdel a " + b"x" * (KEY_LIMIT + 1),
     b"commit 0 sync set a %s ; del b" % (b"x" * (VALUE_LIMIT + 1)),
     b"commit 0 sync del a ; note " + b"x" * (VALUE_LIMIT + 1),
 )

@@ -7,7 +7,7 @@ import os
 from dataclasses import dataclass, field
 
 from segments import BLOCK, FIRST, FIRST_NUMBER, FULL, HEADER, LAST, LOG, MIDDLE
-from segments import append, batch, batches_of, chunk, delete_of, log_of, note_of, segment, set_of, sets, written
+from segments import append, batch, batches_of, chunk, delete_of, log_of, note_of, range_delete_of, segment, set_of, sets, written
 
 # What each replay here is given: what is stored is shown, and a log is left where nothing is refused.
 SCRIPT = b"get 0 a\ncommit 0 nosync set k v\n"
@@ -218,6 +218,11 @@ def refusal_cases():
         {ONE: segment(of_a(10, 1)), SECOND: segment([batch(10, set_of(b"a", b"1"), note_of(b"x"))])},
         refused("conflict 000001-001.log 10"),
     )
+    yield of_all(
+        "a conflict by the end of a range alone",
+        {ONE: segment([batch(10, range_delete_of(b"a", b"b"))]), SECOND: segment([batch(10, range_delete_of(b"a", b"c"))])},
+        refused("conflict 000001-001.log 10"),
+    )
     yield strictly(
         "a number below the first one",
         {ONE: segment(of_a(3, 1))},
@@ -237,6 +242,7 @@ def refusal_cases():
 def bad_batch_cases():
     whole = batch(10, set_of(b"a", b"1"))
     lengths = whole[:13], whole[14:]
+    ranges = batch(10, range_delete_of(b"a", b"c"))
     for name, record, fault in (
         ("no byte", b"", "short-header"),
         ("a header cut", whole[:11], "short-header"),
@@ -245,6 +251,9 @@ def bad_batch_cases():
         ("a count", batch(10, set_of(b"a", b"1"), count=2), "count 2 1"),
         ("a length of too many bits", lengths[0] + b"\x80\x80\x80\x80\x10" + lengths[1], "bad-varint 13"),
         ("a key too long", lengths[0] + b"\x80\x80\x04" + lengths[1], "too-long 13"),
+        ("a range cut before its end", ranges[:15], "short-entry 12"),
+        ("a range whose start is too long", ranges[:13] + b"\x80\x80\x04" + ranges[14:], "too-long 13"),
+        ("a range whose end is too long", ranges[:15] + b"\x80\x80\x04" + ranges[16:], "too-long 15"),
         ("a number", batch(LAST_NUMBER, set_of(b"a", b"1")), f"seq-range {LAST_NUMBER}"),
     ):
         yield of_all(f"a bad batch: {name}", {ONE: segment([record])}, refused(f"batch 000001.log 0 {fault}"))
@@ -549,6 +558,22 @@ def entry_cases():
             end(2, 18),
         ),
         goes_on("= \\e", 18, 2),
+    )
+    ranges = segment([
+        batch(10, *(set_of(it, it) for it in (b"", b"a", b"b", b"b\0", b"c"))),
+        batch(15, range_delete_of(b"a", b"c"), set_of(b"b", b"2"), range_delete_of(b"c", b"a"), range_delete_of(b"", b"")),
+    ])
+    yield each(
+        "ranges that are deleted",
+        {ONE: ranges},
+        done("\\e = \\e", "b = 2", "c = c", end(2, 19)),
+        done(
+            f"segment 000001.log primary bytes {len(ranges)} records 2 ends {len(ranges)} clean",
+            *("batch 10 5", "set \\e \\e", "set a a", "set b b", "set b\\x00 b\\x00", "set c c"),
+            *("batch 15 4", "rdel a c", "set b 2", "rdel c a", "rdel \\e \\e"),
+            end(2, 19),
+        ),
+        goes_on("none", 19, 2),
     )
     note = segment([batch(10, note_of(b"x"))])
     yield no_batch(

@@ -6,7 +6,7 @@ long that it commits more batches than a run may have, so the one limit that it 
 """
 
 import re
-from bisect import bisect_right
+from bisect import bisect_left, bisect_right
 from collections import defaultdict
 from dataclasses import dataclass
 from itertools import groupby
@@ -47,6 +47,14 @@ def counted(entries):
     return sum(it[0] != "note" for it in entries)
 
 
+SPELLED = {
+    "set": segments.set_of,
+    "del": segments.delete_of,
+    "rdel": segments.range_delete_of,
+    "note": segments.note_of,
+}
+
+
 @dataclass(frozen=True)
 class Batch:
     """A first number, and entries: each is the words that a script has for it."""
@@ -59,8 +67,7 @@ class Batch:
         return counted(self.entries)
 
     def bytes(self):
-        spelled = {"set": segments.set_of, "del": segments.delete_of, "note": segments.note_of}
-        return segments.batch(self.first, *(spelled[kind](*(it.encode() for it in words)) for kind, *words in self.entries))
+        return segments.batch(self.first, *(SPELLED[kind](*(it.encode() for it in words)) for kind, *words in self.entries))
 
 
 class Store:
@@ -69,23 +76,30 @@ class Store:
     def __init__(self, batches, first=FIRST_NUMBER):
         self.batches = batches
         self.ends = [first]
+        # Of each key the places of the entries that name it, and what each leaves it with. A place is a batch's and an entry's.
         self.versions = defaultdict(lambda: ([], []))
+        # The places of the range deletes, and the ranges.
+        self.ranges = ([], [])
         for place, batch in enumerate(batches):
             require(batch.first == self.ends[-1], f"number {batch.first} stands where {self.ends[-1]} is next")
             self.ends.append(batch.first + batch.count)
-            for kind, key, *value in (it for it in batch.entries if it[0] != "note"):
-                after, values = self.versions[key]
-                after.append(place + 1)
-                values.append(value[0] if kind == "set" else None)
+            for number, (kind, key, *value) in enumerate(batch.entries):
+                if kind != "note":
+                    places, left = self.ranges if kind == "rdel" else self.versions[key]
+                    places.append((place, number))
+                    left.append((key, *value) if kind == "rdel" else value[0] if kind == "set" else None)
         require(self.ends[-1] <= NUMBER_MAX, "a batch ends past the greatest number")
         self.places = {it.first: place for place, it in enumerate(batches)}
         self.prefixes = {end: n for n, end in enumerate(self.ends)}
 
     def answer(self, key, n):
         """The value of a key after the first n batches, or None."""
-        after, values = self.versions.get(key, ((), ()))
-        last = bisect_right(after, n)
-        return values[last - 1] if last else None
+        places, values = self.versions.get(key, ((), ()))
+        last = bisect_left(places, (n, 0))
+        if not last or values[last - 1] is None:
+            return None
+        later = slice(bisect_left(self.ranges[0], places[last - 1]), bisect_left(self.ranges[0], (n, 0)))
+        return None if any(start <= key < end for start, end in self.ranges[1][later]) else values[last - 1]
 
     def text(self):
         """The text by which the store is recovered."""

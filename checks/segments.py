@@ -9,7 +9,7 @@ FULL, FIRST, MIDDLE, LAST = 5, 6, 7, 8
 SYNC = 4
 # The numbers of all records, for a segment that is synced before each.
 EACH = range(2**63)
-SET, DELETE, NOTE = 1, 0, 3
+SET, DELETE, NOTE, RANGE_DELETE = 1, 0, 3, 15
 LOG = 1
 FIRST_NUMBER = 10
 
@@ -56,6 +56,10 @@ def set_of(key, value):
 
 def delete_of(key):
     return bytes([DELETE]) + string(key)
+
+
+def range_delete_of(start, end):
+    return bytes([RANGE_DELETE]) + string(start) + string(end)
 
 
 def note_of(text):

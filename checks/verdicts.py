@@ -320,7 +320,42 @@ LIMITED = Trial(
     status=8,
 )
 
+# A range of keys is deleted, from its start and up to its end, and one of them is set again behind that.
+RANGE_SET = ("s0 commit 10 3", "s0 commit 13 2")
+RANGE_A, RANGE_B, RANGE_C = "s0 get a = 9 @15", "s0 get b none @15", "s0 get c = 3 @15"
+END_15 = closed(15, 2)
+RANGE = Trial(
+    lines("commit 0 nosync set a 1 ; set b 2 ; set c 3", "commit 0 nosync rdel a c ; set a 9", "get 0 a", "get 0 b", "get 0 c"),
+    legal={"a range is deleted": (*RANGE_SET, RANGE_A, RANGE_B, RANGE_C, END_15)},
+    illegal={
+        "its end is deleted too": (*RANGE_SET, RANGE_A, RANGE_B, "s0 get c none @15", END_15),
+        "a key within it is kept": (*RANGE_SET, RANGE_A, "s0 get b = 2 @15", RANGE_C, END_15),
+        "what is set behind it is deleted": (*RANGE_SET, "s0 get a none @15", RANGE_B, RANGE_C, END_15),
+        "it is not counted": (RANGE_SET[0], "s0 commit 13 1", *(f"s0 get {it} @14" for it in ("a = 9", "b none", "c = 3")), closed(14, 2)),
+    },
+)
+# The start is deleted, and a range that runs backwards has no key.
+STARTS = Trial(
+    lines("commit 0 nosync set a 1 ; set b 2", "commit 0 nosync rdel b a ; rdel b b", "get 0 a", "get 0 b", "commit 0 nosync rdel a b", "get 0 a"),
+    legal={
+        "a range from a key on": (
+            *("s0 commit 10 2", "s0 commit 12 2", "s0 get a = 1 @14", "s0 get b = 2 @14", "s0 commit 14 1", "s0 get a none @15"),
+            closed(15, 3),
+        ),
+    },
+    illegal={
+        "its start is kept": (
+            *("s0 commit 10 2", "s0 commit 12 2", "s0 get a = 1 @14", "s0 get b = 2 @14", "s0 commit 14 1", "s0 get a = 1 @15"),
+            closed(15, 3),
+        ),
+        "a range that runs backwards is deleted": (
+            *("s0 commit 10 2", "s0 commit 12 2", "s0 get a none @14", "s0 get b = 2 @14", "s0 commit 14 1", "s0 get a none @15"),
+            closed(15, 3),
+        ),
+    },
+)
+
 TRIALS = (
-    *(EMPTY, EITHER, AT_LIMIT, BESIDE, CROSSED, LATER, ALONE, TRANSFER, OVER_BASE, BACKSLASH),
+    *(EMPTY, EITHER, AT_LIMIT, BESIDE, CROSSED, LATER, ALONE, TRANSFER, OVER_BASE, BACKSLASH, RANGE, STARTS),
     *(SYNCED, FAILING, STALLED, WITHOUT_FAULT, HALTED, HALTED_AT_ONCE, SYNCED_AND_HALTED, DYING, LIMITED),
 )

@@ -3,9 +3,9 @@ use Rattle.std.proofs.Common.{◌≡◌, ◌≢◌, ◌⊎◌, inl, inr, ℕ, ze
 use Rattle.wal_base.proofs.Laws.{none_within}
 use Rattle.arena_list.specs.declared.node.TheConstants.{LEVELS}
 use Rattle.arena_list.specs.declared.node.Node.{Node}
-use Rattle.arena_list.specs.Versions.{Version, AscendVersions, AreSomeOf, IsAt, HoldsVersion}
+use Rattle.arena_list.specs.Versions.{KeyVersion, AscendVersions, AreSomeOf, IsAt, HoldsVersion}
 use Rattle.arena_list.specs.declared.found.Found.{Found}
-use Rattle.arena_list.specs.Newest.{HasNoneBelow, IsNewestOf, FindsNewest, version_found}
+use Rattle.arena_list.specs.Newest.{HasNoneOfKey, IsNewestOf, FindsNewestOfKey, version_found}
 use Rattle.arena_list.specs.Steps.{IsCut}
 use Rattle.arena_list.proofs.Cuts.{cut_last, next_held, newest_at, newest_none, held_next}
 use Rattle.arena_list.specs.Arena.{on_level}
@@ -29,11 +29,11 @@ level_some nodes count zero linked less version h = h
 level_some nodes count (suc level) linked less version h =
     let low : level < LEVELS = omega (arith, less) in
     let m = unmapped (version_at nodes) (places_on nodes (suc level)) version
-    (subst (λ (l : List Version). Contains l version) (on_level_is nodes count (suc level) less) h) in
+    (subst (λ (l : List KeyVersion). Contains l version) (on_level_is nodes count (suc level) less) h) in
     let there : Contains (places_on nodes level) m.0 =
     linked.below level m.0 (omega (arith, less)) (subst (λ (n : ℕ). Contains (places_on nodes n) m.0) (one_more level) m.1) in
     subst (λ (n : ℕ). Contains (on_level (arena_of nodes count) n) version) (one_less level)
-    (subst (λ (l : List Version). Contains l version) (sym (on_level_is nodes count level low))
+    (subst (λ (l : List KeyVersion). Contains l version) (sym (on_level_is nodes count level low))
     (subst (Contains (versions_on nodes level)) m.2 (mapped (version_at nodes) (places_on nodes level) m.0 there)))
   where
     one_more : (n : ℕ) → suc n ≡ n + 1
@@ -101,17 +101,17 @@ lands_at nodes key number last default linked some cut =
 module _ (nodes : List Node) (linked : IsLinked nodes) (key : List ℕ) (number last : ℕ) (cut : IsCut nodes 0 key number last)
     (place : ℕ) (is : place ≡ next_on nodes 0 last) where
   -- the newest version is the one where the search lands
-  pub lands_on_newest : (version : Version) (found : Found) → place ≢ 0 → version ≡ version_at nodes place → version.key ≡ key
-      → version_found version.key found ≡ Some version → FindsNewest (versions_on nodes 0) key (number + 1) found
+  pub lands_on_newest : (version : KeyVersion) (found : Found) → place ≢ 0 → version ≡ version_at nodes place → version.key ≡ key
+      → version_found version.key found ≡ Some version → FindsNewestOfKey (versions_on nodes 0) key (number + 1) found
   lands_on_newest version found some at same tells =
       subst (IsNewestOf (versions_on nodes 0) key (number + 1))
-      (sym (subst (λ (k : List ℕ). version_found k found ≡ Some version) same tells ∙ ap (λ (v : Version). Some v) here))
-      (newest_at nodes linked key number last cut (λ e. some (is ∙ e)) (subst (λ (v : Version). v.key ≡ key) here same))
+      (sym (subst (λ (k : List ℕ). version_found k found ≡ Some version) same tells ∙ ap (λ (v : KeyVersion). Some v) here))
+      (newest_at nodes linked key number last cut (λ e. some (is ∙ e)) (subst (λ (v : KeyVersion). v.key ≡ key) here same))
     where
       here : version ≡ version_at nodes (next_on nodes 0 last)
       here = at ∙ ap (version_at nodes) is
 
-  pub lands_on_none : (place ≡ 0) ⊎ ((version_at nodes place).key ≡ key → ⊥) → HasNoneBelow (versions_on nodes 0) key (number + 1)
+  pub lands_on_none : (place ≡ 0) ⊎ ((version_at nodes place).key ≡ key → ⊥) → HasNoneOfKey (versions_on nodes 0) key (number + 1)
   lands_on_none (inl end) = newest_none nodes linked key number last cut (inl (sym is ∙ end))
   lands_on_none (inr apart) = newest_none nodes linked key number last cut (inr (λ same. apart (ap (λ (p : ℕ). (version_at nodes p).key) is ∙ same)))
 

@@ -7,8 +7,8 @@ use Rattle.std.proofs.lemmas.List.Elements.{Contains-append_left, Contains-appen
 use Rattle.wal_base.proofs.Laws.{none_within, within_head, within_tail, within_cases}
 use Rattle.arena_list.specs.declared.node.TheConstants.{LEVELS}
 use Rattle.arena_list.specs.declared.node.Node.{Node}
-use Rattle.arena_list.specs.Versions.{Version, GoesBefore, Precedes, IsAt, HoldsVersion}
-use Rattle.arena_list.specs.Newest.{HasNoneBelow, IsNewestOf}
+use Rattle.arena_list.specs.Versions.{KeyVersion, GoesBefore, Precedes, IsAt, HoldsVersion}
+use Rattle.arena_list.specs.Newest.{HasNoneOfKey, IsNewestOf}
 use Rattle.arena_list.specs.Chains.{LeadsAlong, path, last_of}
 use Rattle.arena_list.specs.Nodes.{version_at, next_on, places_on, versions_on, AscendPlaces, IsLevel, IsLinked}
 use Rattle.arena_list.specs.Steps.{IsCut, MayGoOn, MayStop}
@@ -183,18 +183,18 @@ cut_last nodes level key number last cut = elim (last_cases 0 cut.before) [
       (Contains-append_left cut.before cut.after last (subst (Contains cut.before) (sym cut.ends) there)))
 ]
 
-not_less : (version : Version) (key : List ℕ) → version.key ≡ key → slice_cmp nat_cmp version.key key ≡ Less → ⊥
+not_less : (version : KeyVersion) (key : List ℕ) → version.key ≡ key → slice_cmp nat_cmp version.key key ≡ Less → ⊥
 not_less version key same less =
     let tied : slice_cmp nat_cmp version.key key ≡ Equal = ap (λ (k : List ℕ). slice_cmp nat_cmp k key) same ∙ keys_tied key in absurd cc
 
 -- a version of the key that goes before a number has a greater one
-early_greater : (version : Version) (key : List ℕ) (number : ℕ) → GoesBefore version key number → version.key ≡ key → number < version.number
+early_greater : (version : KeyVersion) (key : List ℕ) (number : ℕ) → GoesBefore version key number → version.key ≡ key → number < version.number
 early_greater version key number early same = elim (before_cases version key number early) [
   | inl less ↦ absurd (not_less version key same less)
   | inr is ↦ is.1
 ]
 
-less_before : (version : Version) (key : List ℕ) (number : ℕ) → slice_cmp nat_cmp version.key key ≡ Less → GoesBefore version key number
+less_before : (version : KeyVersion) (key : List ℕ) (number : ℕ) → slice_cmp nat_cmp version.key key ≡ Less → GoesBefore version key number
 less_before version key number less = ap (λ (o : Ordering). ordering_then o (nat_cmp number version.number)) less
 
 module _ (nodes : List Node) (linked : IsLinked nodes) (key : List ℕ) (number last : ℕ) (cut : IsCut nodes 0 key number last) where
@@ -205,11 +205,11 @@ module _ (nodes : List Node) (linked : IsLinked nodes) (key : List ℕ) (number 
   after_follows = follows_cut nodes 0 key number last linked (omega arith) cut
 
   -- the place of a version, on one side of the cut
-  sides : (p : ℕ) → Contains (places_on nodes 0) p → Contains cut.before p ⊎ Contains cut.after p
+  pub sides : (p : ℕ) → Contains (places_on nodes 0) p → Contains cut.before p ⊎ Contains cut.after p
   sides p h = Contains-append_cases cut.before cut.after p (subst (λ (l : List ℕ). Contains l p) cut.is h)
 
   -- what is after the cut is the place that is led on to, or comes after it
-  after_sides : (p : ℕ) → Contains cut.after p
+  pub after_sides : (p : ℕ) → Contains cut.after p
       → (next_on nodes 0 last ≢ 0) × ((p ≡ next_on nodes 0 last) ⊎ Precedes (version_at nodes (next_on nodes 0 last)) (version_at nodes p))
   after_sides p h = go cut.after after_follows after_ascends h
     where
@@ -224,7 +224,7 @@ module _ (nodes : List Node) (linked : IsLinked nodes) (key : List ℕ) (number 
         ],
       )
 
-  next_after : next_on nodes 0 last ≢ 0 → Contains cut.after (next_on nodes 0 last)
+  pub next_after : next_on nodes 0 last ≢ 0 → Contains cut.after (next_on nodes 0 last)
   next_after some =
       let n = next_there (next_on nodes 0) (next_on nodes 0 last) cut.after after_follows some in
       subst (λ (l : List ℕ). Contains l (next_on nodes 0 last)) (sym n.1) (within_head (next_on nodes 0 last) n.0)
@@ -263,15 +263,15 @@ module _ (nodes : List Node) (linked : IsLinked nodes) (key : List ℕ) (number 
         ]
       ]
 
-      no_newer : (other : Version) → (p : ℕ) × Contains (places_on nodes 0) p × (version_at nodes p ≡ other)
+      no_newer : (other : KeyVersion) → (p : ℕ) × Contains (places_on nodes 0) p × (version_at nodes p ≡ other)
           → other.key ≡ (version_at nodes (next_on nodes 0 last)).key → other.number < number + 1
           → other.number ≤ (version_at nodes (next_on nodes 0 last)).number
       no_newer other (p, h, is) =
-          subst (λ (v : Version). v.key ≡ (version_at nodes (next_on nodes 0 last)).key → v.number < number + 1
+          subst (λ (v : KeyVersion). v.key ≡ (version_at nodes (next_on nodes 0 last)).key → v.number < number + 1
           → v.number ≤ (version_at nodes (next_on nodes 0 last)).number) is (at p h)
 
   pub newest_none : (next_on nodes 0 last ≡ 0) ⊎ ((version_at nodes (next_on nodes 0 last)).key ≡ key → ⊥)
-      → HasNoneBelow (versions_on nodes 0) key (number + 1)
+      → HasNoneOfKey (versions_on nodes 0) key (number + 1)
   newest_none none other h about = low other (unmapped (version_at nodes) (places_on nodes 0) other h) about
     where
       not_after : (p : ℕ) → (version_at nodes p).key ≡ key → (next_on nodes 0 last ≡ 0) ⊎ ((version_at nodes (next_on nodes 0 last)).key ≡ key → ⊥)
@@ -294,14 +294,14 @@ module _ (nodes : List Node) (linked : IsLinked nodes) (key : List ℕ) (number 
         | inr after ↦ absurd (not_after p about none after)
       ]
 
-      low : (other : Version) → (p : ℕ) × Contains (places_on nodes 0) p × (version_at nodes p ≡ other) → other.key ≡ key → number + 1 ≤ other.number
-      low other (p, h, is) = subst (λ (v : Version). v.key ≡ key → number + 1 ≤ v.number) is (at p h)
+      low : (other : KeyVersion) → (p : ℕ) × Contains (places_on nodes 0) p × (version_at nodes p ≡ other) → other.key ≡ key → number + 1 ≤ other.number
+      low other (p, h, is) = subst (λ (v : KeyVersion). v.key ≡ key → number + 1 ≤ v.number) is (at p h)
 
   -- a version that is held stands right after the cut at its key and number
   pub held_next : HoldsVersion (versions_on nodes 0) key number → (next_on nodes 0 last ≢ 0) × IsAt (version_at nodes (next_on nodes 0 last)) key number
   held_next (version, h, at) = go (unmapped (version_at nodes) (places_on nodes 0) version h) at
     where
-      itself : (v : Version) → IsAt v key number → GoesBefore v key number → ⊥
+      itself : (v : KeyVersion) → IsAt v key number → GoesBefore v key number → ⊥
       itself v at early = absurd (omega (arith, at.1, early_greater v key number early at.0))
 
       place : (p : ℕ) → Contains (places_on nodes 0) p → IsAt (version_at nodes p) key number
@@ -321,5 +321,5 @@ module _ (nodes : List Node) (linked : IsLinked nodes) (key : List ℕ) (number 
 
       go : (p : ℕ) × Contains (places_on nodes 0) p × (version_at nodes p ≡ version) → IsAt version key number
           → (next_on nodes 0 last ≢ 0) × IsAt (version_at nodes (next_on nodes 0 last)) key number
-      go (p, h, is) = subst (λ (v : Version). IsAt v key number → (next_on nodes 0 last ≢ 0) × IsAt (version_at nodes (next_on nodes 0 last)) key number)
+      go (p, h, is) = subst (λ (v : KeyVersion). IsAt v key number → (next_on nodes 0 last ≢ 0) × IsAt (version_at nodes (next_on nodes 0 last)) key number)
           is (place p h)

@@ -8,7 +8,7 @@ use Rattle.arena_list.specs.declared.node.TheConstants.{LEVELS}
 use Rattle.arena_list.specs.declared.node.Node.{Node}
 use Rattle.arena_list.specs.declared.node.Held.TheVariants.{Deletion, Set}
 use Rattle.arena_list.specs.declared.links.FreeList.{FreeList}
-use Rattle.arena_list.specs.Versions.{Version, version_with, Precedes, HoldsVersion, Adds}
+use Rattle.arena_list.specs.Versions.{KeyVersion, version_with, Precedes, HoldsVersion, Adds}
 use Rattle.arena_list.specs.Arena.{UsesPlace}
 use Rattle.arena_list.specs.Chains.{LeadsAlong}
 use Rattle.arena_list.specs.Nodes.{is_vacant, held_of, version_in, node_at, version_at, next_on, places_on, versions_on, arena_of, AscendPlaces, HasNode, IsLevel, IsLinked, AreFree, IsArena}
@@ -22,7 +22,7 @@ use Rattle.arena_list.proofs.Free.{IsTaken, is_taken}
 use Rattle.arena_list.proofs.Tops.{top_kept, top_more}
 
 -- A place that held nothing has this version now, and is linked in after these so many levels high.
-pub record IsJoined (old new : List Node) (lasts : List ℕ) (place height : ℕ) (version : Version) : Type 0 where
+pub record IsJoined (old new : List Node) (lasts : List ℕ) (place height : ℕ) (version : KeyVersion) : Type 0 where
   pub longer : length old ≤ length new
   pub within : place < length new
   pub some : place ≢ 0
@@ -35,7 +35,7 @@ pub record IsJoined (old new : List Node) (lasts : List ℕ) (place height : ℕ
   pub on : (level : ℕ) → level < height → next_on new level place ≡ next_on old level (slice_index lasts level)
   pub others : (level other : ℕ) → other ≢ place → (level < height → other ≢ slice_index lasts level) → next_on new level other ≡ next_on old level other
 
-module _ (old new : List Node) (lasts : List ℕ) (place height : ℕ) (version : Version) (linked : IsLinked old)
+module _ (old new : List Node) (lasts : List ℕ) (place height : ℕ) (version : KeyVersion) (linked : IsLinked old)
     (cuts : AreCuts old version.key version.number lasts) (absent : HoldsVersion (versions_on old 0) version.key version.number → ⊥)
     (joined : IsJoined old new lasts place height version) where
   apart : (level x : ℕ) → level < LEVELS → Contains (places_on old level) x → x ≢ place
@@ -98,8 +98,8 @@ module _ (old new : List Node) (lasts : List ℕ) (place height : ℕ) (version 
           version_same (node_at new x) (node_at old x)
           (joined.held x (λ e. joined.fresh (subst (Contains (places_on old 0)) e (within_lowest old linked level x less was))))
           (joined.seq x (λ e. joined.fresh (subst (Contains (places_on old 0)) e (within_lowest old linked level x less was)))) in
-          subst (λ (v : Version). Precedes v (version_at new place)) (sym e)
-          (subst (λ (v : Version). Precedes (version_at old x) v) (sym joined.is) (cut.early x h))
+          subst (λ (v : KeyVersion). Precedes v (version_at new place)) (sym e)
+          (subst (λ (v : KeyVersion). Precedes (version_at old x) v) (sym joined.is) (cut.early x h))
 
       after : (x : ℕ) → Contains cut.after x → Precedes (version_at new place) (version_at new x)
       after x h =
@@ -110,8 +110,8 @@ module _ (old new : List Node) (lasts : List ℕ) (place height : ℕ) (version 
           version_same (node_at new x) (node_at old x)
           (joined.held x (λ e. joined.fresh (subst (Contains (places_on old 0)) e low)))
           (joined.seq x (λ e. joined.fresh (subst (Contains (places_on old 0)) e low))) in
-          subst (λ (v : Version). Precedes (version_at new place) v) (sym e)
-          (subst (λ (v : Version). Precedes v (version_at old x)) (sym joined.is)
+          subst (λ (v : KeyVersion). Precedes (version_at new place) v) (sym e)
+          (subst (λ (v : KeyVersion). Precedes v (version_at old x)) (sym joined.is)
           (after_others (version_at old x) version (cut.late x h)
           (λ same. absent (version_at old x, mapped (version_at old) (places_on old 0) x low, same))))
 

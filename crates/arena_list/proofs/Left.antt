@@ -6,7 +6,7 @@ use Rattle.std.proofs.lemmas.List.Elements.{Contains-append_cases}
 use Rattle.wal_base.proofs.Laws.{none_within, within_head, within_cases}
 use Rattle.arena_list.specs.declared.node.TheConstants.{LEVELS}
 use Rattle.arena_list.specs.declared.node.Node.{Node}
-use Rattle.arena_list.specs.Versions.{Version, GoesBefore, IsAt, LeavesOut}
+use Rattle.arena_list.specs.Versions.{KeyVersion, GoesBefore, IsAt, LeavesOut}
 use Rattle.arena_list.specs.Arena.{places_in}
 use Rattle.arena_list.specs.Chains.{LeadsAlong, last_of}
 use Rattle.arena_list.specs.Nodes.{is_vacant, node_at, version_at, next_on, places_on, versions_on, arena_of, AscendPlaces, HasNode, IsLevel, IsLinked, AreFree, IsArena}
@@ -194,14 +194,14 @@ module _ (old new : List Node) (lasts : List ℕ) (place first : ℕ) (linked : 
           let is : version_at old m.0 ≡ other = sym (version_kept m.0 was.1) ∙ m.2 in (
             subst (Contains (versions_on old 0)) is (mapped (version_at old) (places_on old 0) m.0 was.0),
             λ at. was.1 (only m.0 was.0
-                (subst (λ (v : Version). IsAt v (version_at old place).key (version_at old place).number) (sym is) at)),
+                (subst (λ (v : KeyVersion). IsAt v (version_at old place).key (version_at old place).number) (sym is) at)),
           )
 
       from : Contains (versions_on old 0) other × (IsAt other (version_at old place).key (version_at old place).number → ⊥)
           → Contains (versions_on new 0) other
       from (h, apart) =
           let m = unmapped (version_at old) (places_on old 0) other h in
-          let o : m.0 ≢ place = λ e. apart (subst (λ (v : Version). IsAt v (version_at old place).key (version_at old place).number)
+          let o : m.0 ≢ place = λ e. apart (subst (λ (v : KeyVersion). IsAt v (version_at old place).key (version_at old place).number)
           (sym (ap (version_at old) e) ∙ m.2) (refl, refl)) in
           subst (Contains (versions_on new 0)) (version_kept m.0 o ∙ m.2)
           (mapped (version_at new) (places_on new 0) m.0 (left_more 0 m.0 (omega arith) m.1 o))

@@ -8,7 +8,7 @@ use Rattle.wal_base.proofs.Laws.{none_within, within_head, within_tail, within_c
 use Rattle.arena_list.specs.declared.node.TheConstants.{LEVELS}
 use Rattle.arena_list.specs.declared.node.Held.{Held}
 use Rattle.arena_list.specs.declared.node.Node.{Node}
-use Rattle.arena_list.specs.Versions.{Version, Precedes, AscendVersions}
+use Rattle.arena_list.specs.Versions.{KeyVersion, Precedes, AscendVersions}
 use Rattle.arena_list.specs.Arena.{on_level}
 use Rattle.arena_list.specs.Nodes.{key_of, value_of, version_in, node_at, version_at, next_on, places_on, versions_on, arena_of, AscendPlaces, IsLevel, IsLinked}
 use Rattle.arena_list.proofs.Chains.{path_of, amid_more, amid_cases}
@@ -33,14 +33,14 @@ unmapped f (w ∷ xs) y h = elim (within_cases (f w) (map f xs) y h) [
 
 pub version_same : (one other : Node) → one.held ≡ other.held → one.seq ≡ other.seq → version_in one ≡ version_in other
 version_same one other held seq =
-    ap₂ (λ (h : Held) (n : ℕ). let v : Version = record { key = key_of h; number = n; value = value_of h } in v) held seq
+    ap₂ (λ (h : Held) (n : ℕ). let v : KeyVersion = record { key = key_of h; number = n; value = value_of h } in v) held seq
 
 pub ascend_same : (old new : List Node) (ps : List ℕ) → ((p : ℕ) → Contains ps p → version_at new p ≡ version_at old p)
     → AscendPlaces old ps → AscendPlaces new ps
 ascend_same old new [] same a = tt
 ascend_same old new (p ∷ ps) same a = (
-  λ q h. subst (λ (v : Version). Precedes v (version_at new q)) (sym (same p (within_head p ps)))
-      (subst (λ (v : Version). Precedes (version_at old p) v) (sym (same q (within_tail p ps q h))) (a.0 q h)),
+  λ q h. subst (λ (v : KeyVersion). Precedes v (version_at new q)) (sym (same p (within_head p ps)))
+      (subst (λ (v : KeyVersion). Precedes (version_at old p) v) (sym (same q (within_tail p ps q h))) (a.0 q h)),
   ascend_same old new ps (λ q h. same q (within_tail p ps q h)) a.1,
 )
 
@@ -93,7 +93,7 @@ pub ascend_versions : (nodes : List Node) (ps : List ℕ) → AscendPlaces nodes
 unfolding AscendVersions
 ascend_versions nodes [] a = tt
 ascend_versions nodes (p ∷ ps) a = (
-  λ v h. let m = unmapped (version_at nodes) ps v h in subst (λ (w : Version). Precedes (version_at nodes p) w) m.2 (a.0 m.0 m.1),
+  λ v h. let m = unmapped (version_at nodes) ps v h in subst (λ (w : KeyVersion). Precedes (version_at nodes p) w) m.2 (a.0 m.0 m.1),
   ascend_versions nodes ps a.1,
 )
 

@@ -4,6 +4,7 @@ mod Leads
 mod Orders
 mod Levels
 mod Cuts
+mod Spots
 mod Tops
 mod Free
 mod Joined

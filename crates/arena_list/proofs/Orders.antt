@@ -6,19 +6,19 @@ use Rattle.std.specs.Cmp.Lexicographic.{slice_cmp}
 use Rattle.std.proofs.lemmas.Cmp.{ranked, tied_itself, nat_cmp_total, nat_list_cmp_total, on_total, then_total, back_total}
 use Rattle.std.proofs.lemmas.Map.Text.{is_eq-slice_cmp}
 use Rattle.std.proofs.lemmas.Slice.Eq.{bytes_eq-Decides}
-use Rattle.arena_list.specs.Versions.{Version, version_with, spot_order, GoesBefore, Precedes}
+use Rattle.arena_list.specs.Versions.{KeyVersion, version_with, spot_order, GoesBefore, Precedes}
 
-abbrev pub version_order : Version → Version → Ordering
+abbrev pub version_order : KeyVersion → KeyVersion → Ordering
 version_order one other = spot_order one.key one.number other.key other.number
 
 pub versions_total : IsTotalOrder version_order
 versions_total =
-    then_total (on_total (λ (v : Version). v.key) nat_list_cmp_total) (back_total (on_total (λ (v : Version). v.number) nat_cmp_total))
+    then_total (on_total (λ (v : KeyVersion). v.key) nat_list_cmp_total) (back_total (on_total (λ (v : KeyVersion). v.number) nat_cmp_total))
 
-pub before_along : (one other : Version) (key : List ℕ) (number : ℕ) → Precedes one other → GoesBefore other key number → GoesBefore one key number
+pub before_along : (one other : KeyVersion) (key : List ℕ) (number : ℕ) → Precedes one other → GoesBefore other key number → GoesBefore one key number
 before_along one other key number p b = IsTotalOrder.trans versions_total one other (version_with key number None) p b
 
-pub never_before_itself : (version : Version) → GoesBefore version version.key version.number → ⊥
+pub never_before_itself : (version : KeyVersion) → GoesBefore version version.key version.number → ⊥
 never_before_itself version b = let tied = tied_itself versions_total version in absurd cc
 
 -- equal keys
@@ -48,7 +48,7 @@ pub keys_tied : (xs : List ℕ) → slice_cmp nat_cmp xs xs ≡ Equal
 keys_tied xs = tied_itself nat_list_cmp_total xs
 
 -- what goes before another one
-pub before_cases : (version : Version) (key : List ℕ) (number : ℕ) → GoesBefore version key number
+pub before_cases : (version : KeyVersion) (key : List ℕ) (number : ℕ) → GoesBefore version key number
     → (slice_cmp nat_cmp version.key key ≡ Less) ⊎ ((version.key ≡ key) × (number < version.number))
 before_cases version key number b = go (slice_cmp nat_cmp version.key key) refl b
   where
@@ -59,13 +59,13 @@ before_cases version key number b = go (slice_cmp nat_cmp version.key key) refl 
     go Greater is e = absurd cc
 
 -- a version of the key goes before its smaller numbers, and before no other
-pub same_key_before : (version : Version) (key : List ℕ) (number : ℕ) → version.key ≡ key → number < version.number → GoesBefore version key number
+pub same_key_before : (version : KeyVersion) (key : List ℕ) (number : ℕ) → version.key ≡ key → number < version.number → GoesBefore version key number
 same_key_before version key number same less =
     ap (λ (o : Ordering). ordering_then o (nat_cmp number version.number)) (ap (λ (k : List ℕ). slice_cmp nat_cmp k key) same ∙ keys_tied key)
     ∙ less_numbers number version.number less
 
 -- what does not go before, and is at another spot, comes after
-pub after_others : (one other : Version) → (Precedes one other → ⊥) → ((one.key ≡ other.key) × (one.number ≡ other.number) → ⊥) → Precedes other one
+pub after_others : (one other : KeyVersion) → (Precedes one other → ⊥) → ((one.key ≡ other.key) × (one.number ≡ other.number) → ⊥) → Precedes other one
 after_others one other not_before apart = go (version_order one other) refl
   where
     equal : (o : Ordering) → slice_cmp nat_cmp one.key other.key ≡ o → ordering_then o (nat_cmp other.number one.number) ≡ Equal → ⊥

@@ -9,7 +9,7 @@ use Rattle.std.proofs.lemmas.List.Elements.{Contains-get_or, Contains-append_lef
 use Rattle.wal_base.proofs.Laws.{none_within, within_head, within_tail, within_cases}
 use Rattle.arena_list.specs.declared.node.TheConstants.{LEVELS}
 use Rattle.arena_list.specs.declared.node.Node.{Node}
-use Rattle.arena_list.specs.Versions.{Version, GoesBefore, Precedes, IsAt, spot_order}
+use Rattle.arena_list.specs.Versions.{KeyVersion, GoesBefore, Precedes, IsAt, spot_order}
 use Rattle.arena_list.specs.Nodes.{version_at, places_on, AscendPlaces, IsLinked}
 use Rattle.arena_list.specs.Steps.{MayGoOn, MayStop}
 use Rattle.arena_list.specs.Tops.{IsTop, IsTopCut, TakesFromTop, is_ahead, is_early}
@@ -157,7 +157,7 @@ module _ (old new : List Node) (top : List ℕ) (is : IsTop old top) where
     ascends = ascend_same old new top (λ x h. (kept x h).0) is.ascends;
   }
 
-  pub top_more : (place : ℕ) (version : Version) (index : ℕ) → IsTopCut old top version.key version.number index
+  pub top_more : (place : ℕ) (version : KeyVersion) (index : ℕ) → IsTopCut old top version.key version.number index
       → ((x : ℕ) → Contains top x → (version_at new x ≡ version_at old x) × Contains (places_on new (LEVELS - 1)) x)
       → version_at new place ≡ version → Contains (places_on new (LEVELS - 1)) place
       → ((x : ℕ) → Contains top x → IsAt (version_at old x) version.key version.number → ⊥) → IsTop new (insert top index place)
@@ -175,14 +175,14 @@ module _ (old new : List Node) (top : List ℕ) (is : IsTop old top) where
       before : (x : ℕ) → Contains (take index top) x → Precedes (version_at new x) (version_at new place)
       before x h =
           let was : Contains top x = in_top index x (Contains-append_left (take index top) (drop index top) x h) in
-          subst (λ (v : Version). Precedes v (version_at new place)) (sym (kept x was).0)
-          (subst (λ (v : Version). Precedes (version_at old x) v) (sym at) (cut.early x h))
+          subst (λ (v : KeyVersion). Precedes v (version_at new place)) (sym (kept x was).0)
+          (subst (λ (v : KeyVersion). Precedes (version_at old x) v) (sym at) (cut.early x h))
 
       after : (x : ℕ) → Contains (drop index top) x → Precedes (version_at new place) (version_at new x)
       after x h =
           let was : Contains top x = in_top index x (Contains-append_right (take index top) (drop index top) x h) in
-          subst (λ (v : Version). Precedes (version_at new place) v) (sym (kept x was).0)
-          (subst (λ (v : Version). Precedes v (version_at old x)) (sym at)
+          subst (λ (v : KeyVersion). Precedes (version_at new place) v) (sym (kept x was).0)
+          (subst (λ (v : KeyVersion). Precedes v (version_at old x)) (sym at)
           (after_others (version_at old x) version (cut.late x h) (apart x was)))
 
   pub top_less : (place index : ℕ) (left : List ℕ) → IsTopCut old top (version_at old place).key (version_at old place).number index

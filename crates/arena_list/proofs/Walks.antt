@@ -3,7 +3,7 @@ use Rattle.std.proofs.Common.{◌≡◌, ◌≢◌, ℕ, zero, suc, ◌<◌, Lis
 use Rattle.wal_base.proofs.Laws.{within_head, within_tail}
 use Rattle.arena_list.specs.declared.node.TheConstants.{LEVELS}
 use Rattle.arena_list.specs.declared.node.Node.{Node}
-use Rattle.arena_list.specs.Versions.{Version}
+use Rattle.arena_list.specs.Versions.{KeyVersion}
 use Rattle.arena_list.specs.Chains.{LeadsAlong, path}
 use Rattle.arena_list.specs.Nodes.{version_in, version_at, next_on, places_on, versions_on, versions_along, IsLinked, IsOnLevel}
 use Rattle.arena_list.proofs.Chains.{path_of}
@@ -67,7 +67,7 @@ pub step_goes : (nodes : List Node) (level at : ℕ) (default : Node) → IsOnLe
 step_goes nodes level at default on some =
     let s = steps_on nodes level at on some in subst (IsOnLevel nodes level) (sym (read_next nodes level at default s.there)) s.on
 
-pub step_shows : (nodes : List Node) (level at : ℕ) (default : Node) (shown : Version) → IsOnLevel nodes level at → at ≢ 0
+pub step_shows : (nodes : List Node) (level at : ℕ) (default : Node) (shown : KeyVersion) → IsOnLevel nodes level at → at ≢ 0
     → shown ≡ version_in (slice_index_or nodes at default)
     → versions_along nodes level at ≡ shown ∷ versions_along nodes level (slice_index (slice_index_or nodes at default).links level)
 step_shows nodes level at default shown on some shows =

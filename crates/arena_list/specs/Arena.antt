@@ -1,15 +1,15 @@
 -- What a list is seen as (docs/formats/ring.md, "The shards").
 use Rattle.std.specs.Prelude.{◌≡◌, ◌⊎◌, ℕ, ◌+◌, ◌<◌, List, [], length, slice_index_or}
-use Rattle.arena_list.specs.Versions.{Version}
+use Rattle.arena_list.specs.Versions.{KeyVersion}
 
 -- the versions in order, those that are linked at each level, and how many places are free
 pub record Arena : Type 0 where
-  pub versions : List Version
-  pub levels : List (List Version)
+  pub versions : List KeyVersion
+  pub levels : List (List KeyVersion)
   pub free : ℕ
 
 -- the versions that are linked at a level
-abbrev pub on_level : Arena → ℕ → List Version
+abbrev pub on_level : Arena → ℕ → List KeyVersion
 on_level arena level = slice_index_or arena.levels level []
 
 -- how many places there are: one for each version, and the free ones

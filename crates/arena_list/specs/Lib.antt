@@ -1,5 +1,6 @@
 pub mod Versions
 pub mod Newest
+pub mod Spots
 pub mod Arena
 pub mod Chains
 pub mod Leads

@@ -5,7 +5,7 @@ use Rattle.arena_list.specs.declared.node.TheConstants.{LEVELS}
 use Rattle.arena_list.specs.declared.node.Held.{Held}
 use Rattle.arena_list.specs.declared.node.Held.TheVariants.{Vacant, Deletion, Set}
 use Rattle.arena_list.specs.declared.node.Node.{Node}
-use Rattle.arena_list.specs.Versions.{Version, Precedes}
+use Rattle.arena_list.specs.Versions.{KeyVersion, Precedes}
 use Rattle.arena_list.specs.Arena.{Arena}
 use Rattle.arena_list.specs.Chains.{LeadsAlong, path}
 
@@ -31,7 +31,13 @@ abbrev pub held_of : List ℕ → Option (List ℕ) → Held
 held_of key None = Deletion key
 held_of key (Some bytes) = Set key bytes
 
-abbrev pub version_in : Node → Version
+-- what is held, where it is a version
+abbrev pub unless_vacant : Held → Option Held
+unless_vacant Vacant = None
+unless_vacant (Deletion key) = Some (Deletion key)
+unless_vacant (Set key bytes) = Some (Set key bytes)
+
+abbrev pub version_in : Node → KeyVersion
 version_in node = record { key = key_of node.held; number = node.seq; value = value_of node.held }
 
 -- ---- a vector of nodes
@@ -42,7 +48,7 @@ no_node = record { held = Vacant; seq = 0; links = [] }
 abbrev pub node_at : List Node → ℕ → Node
 node_at nodes place = slice_index_or nodes place no_node
 
-abbrev pub version_at : List Node → ℕ → Version
+abbrev pub version_at : List Node → ℕ → KeyVersion
 version_at nodes place = version_in (node_at nodes place)
 
 -- the place that a node leads on to at a level
@@ -54,7 +60,7 @@ unfoldable pub places_on : List Node → ℕ → List ℕ
 places_on nodes level = path (next_on nodes level) (next_on nodes level 0) (length nodes)
 
 -- the versions that are linked at a level
-abbrev pub versions_on : List Node → ℕ → List Version
+abbrev pub versions_on : List Node → ℕ → List KeyVersion
 versions_on nodes level = map (version_at nodes) (places_on nodes level)
 
 -- the refinement: what nodes and a number of free places are seen as
@@ -62,7 +68,7 @@ abbrev pub arena_of : List Node → ℕ → Arena
 arena_of nodes count = record { versions = versions_on nodes 0; levels = map (versions_on nodes) (range_with_len 0 LEVELS); free = count }
 
 -- the versions from a place on, along a level
-abbrev pub versions_along : List Node → ℕ → ℕ → List Version
+abbrev pub versions_along : List Node → ℕ → ℕ → List KeyVersion
 versions_along nodes level from = map (version_at nodes) (path (next_on nodes level) from (length nodes))
 
 -- ---- the invariant

@@ -4,7 +4,7 @@ use Rattle.std.specs.List.{insert, remove}
 use Rattle.std.specs.Ordering.{is_lt}
 use Rattle.arena_list.specs.declared.node.TheConstants.{LEVELS}
 use Rattle.arena_list.specs.declared.node.Node.{Node}
-use Rattle.arena_list.specs.Versions.{Version, GoesBefore, spot_order}
+use Rattle.arena_list.specs.Versions.{KeyVersion, GoesBefore, spot_order}
 use Rattle.arena_list.specs.Nodes.{version_at, places_on, AscendPlaces}
 
 -- These are some of the places that are linked at the top level, in order.
@@ -13,7 +13,7 @@ pub record IsTop (nodes : List Node) (top : List ℕ) : Type 0 where
   pub ascends : AscendPlaces nodes top
 
 -- whether a version goes before a key and a number
-abbrev pub is_ahead : Version → List ℕ → ℕ → Bool
+abbrev pub is_ahead : KeyVersion → List ℕ → ℕ → Bool
 is_ahead version key number = is_lt (spot_order version.key version.number key number)
 
 -- whether a node is there, and goes before a key and a number

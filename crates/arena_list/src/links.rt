@@ -1,10 +1,11 @@
 //! The links between nodes, and the list of free places.
 
 ghost use Rattle.std.specs.Prelude.{◌≡◌, ◌≢◌, ℕ, ◌+◌, ◌^◌, ◌<◌, ◌≤◌, List, IfOk, OnOk, OnErr, IsOk, length, slice_index, vec_len, vec_capacity};
-ghost use Rattle.arena_list.specs.Nodes.{next_on, AreFree};
+ghost use Rattle.arena_list.specs.Nodes.{node_at, next_on, AreFree};
 ghost use Rattle.arena_list.specs.Steps.{AreWithin, AreOtherPlaces, LinksIn, LinksOut, TakesPlace, PutsIn, TakesOut};
 
 use crate::node::{Keyed, LEVELS, Node, Place};
+use std::mem::replace;
 use wal_base::NoMemory;
 
 /// The free places, linked at level 0.
@@ -115,12 +116,19 @@ pub(crate) fn put_in(
     link_in(nodes, lasts, place, height);
 }
 
-/// Links a place out, lets go what it holds, and makes it lead on to the first free place.
-pub(crate) fn take_out(nodes: &mut [Node], lasts: &[Place; LEVELS], place: Place, first: Place)
+/// Links a place out, hands over what it held, and makes it lead on to the first free place.
+pub(crate) fn take_out(
+    nodes: &mut [Node],
+    lasts: &[Place; LEVELS],
+    place: Place,
+    first: Place,
+) -> Keyed
     requires within { AreWithin nodes.old lasts.now }
     requires place { place < length nodes.old }
-    ensures { TakesOut nodes.old lasts.now place first nodes.new }
+    ensures out { TakesOut nodes.old lasts.now place first nodes.new }
+    ensures held { result ≡ (node_at nodes.old place).held }
 {
     link_out(nodes, lasts, place);
-    nodes[place as usize] = Node::vacant(first);
+    let out = replace(&mut nodes[place as usize], Node::vacant(first));
+    out.held
 }

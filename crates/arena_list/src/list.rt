@@ -1,9 +1,10 @@
 //! The list.
 
-ghost use Rattle.std.specs.Prelude.{◌≡◌, ◌↔◌, ◌+◌, ◌-◌, ◌<◌, ◌≤◌, [], IsTrue, IfOk, IfErr, OnOk, OnErr, IsOk};
+ghost use Rattle.std.specs.Prelude.{◌≡◌, ◌↔◌, ◌+◌, ◌-◌, ◌<◌, ◌≤◌, [], IsTrue, IfOk, IfErr, OnOk, OnErr, IsOk, IfSome, IfNone, OnSome, option_map};
 ghost use Rattle.std.specs.Bool.{OnTrue, OnFalse};
-ghost use Rattle.arena_list.specs.Versions.{version_with, AscendVersions, HoldsVersion, Adds, LeavesOut, AreSomeOf};
-ghost use Rattle.arena_list.specs.Newest.{FindsNewest};
+ghost use Rattle.arena_list.specs.Versions.{version_with, version_shown, version_taken, AscendVersions, HoldsVersion, Adds, LeavesOut, AreSomeOf};
+ghost use Rattle.arena_list.specs.Newest.{FindsNewestOfKey};
+ghost use Rattle.arena_list.specs.Spots.{IsLastBefore, IsFirstFrom};
 ghost use Rattle.arena_list.specs.Arena.{on_level, places_in, UsesPlace};
 
 use crate::found::Found;
@@ -11,6 +12,7 @@ use crate::links::{FreeList, put_in, take_out, take_place};
 use crate::node::{Keyed, LEVELS, Node, Place};
 use crate::search::find;
 use crate::top::{find_spot, put_in_top, take_from_top};
+use crate::version::Version;
 use crate::walk::Walk;
 use std::alloc::Global;
 use std::marker::Model;
@@ -110,7 +112,7 @@ impl ArenaList {
 
     /// The key's version with the greatest number below `below`. It takes no memory.
     pub fn newest(&self, key: &[u8], below: u64) -> Found<'_>
-        ensures { FindsNewest self.now.versions key.now below result }
+        ensures { FindsNewestOfKey self.now.versions key.now below result }
     {
         let Some(number) = below.checked_sub(1) else {
             return Found::Nothing;
@@ -122,6 +124,33 @@ impl ArenaList {
             return Found::Nothing;
         }
         Found::one(&nodes[place as usize])
+    }
+
+    /// The last version that goes before the spot of a key and a number, where a version of these stands or not. It
+    /// takes no memory.
+    pub fn before(&self, key: &[u8], seq: u64) -> Option<Version<'_>>
+        ensures { IsLastBefore self.now.versions key.now seq (option_map version_shown result) }
+    {
+        let nodes = self.nodes.as_slice();
+        let spot = find_spot(nodes, self.top.as_slice(), key, seq);
+        let place = spot.lasts[0];
+        if place == 0 {
+            return None;
+        }
+        Some(nodes[place as usize].version())
+    }
+
+    /// The first version that does not go before the spot of a key and a number. It takes no memory.
+    pub fn from(&self, key: &[u8], seq: u64) -> Option<Version<'_>>
+        ensures { IsFirstFrom self.now.versions key.now seq (option_map version_shown result) }
+    {
+        let nodes = self.nodes.as_slice();
+        let spot = find_spot(nodes, self.top.as_slice(), key, seq);
+        let place = nodes[spot.lasts[0] as usize].links[0];
+        if place == 0 {
+            return None;
+        }
+        Some(nodes[place as usize].version())
     }
 
     /// Goes over all versions, by key ascending and, within a key, by number descending. It takes no memory.
@@ -166,6 +195,39 @@ impl ArenaList {
         self.free.first = place;
         self.free.count += 1;
         true
+    }
+
+    /// Takes the first version that does not go before the spot of a key and a number out, hands it over, and frees its
+    /// place. `None` exactly where there is none. It takes no memory.
+    pub fn take_from(&mut self, key: &[u8], seq: u64) -> Option<(Blob, u64, Option<Blob>)>
+        ensures first { IsFirstFrom self.old.versions key.now seq (option_map version_taken result) }
+        ensures versions { IfSome result
+            (λ taken. LeavesOut self.old.versions taken.0 taken.1 self.new.versions) }
+        ensures free { OnSome result (self.new.free ≡ self.old.free + 1) }
+        ensures places { places_in self.new ≡ places_in self.old }
+        ensures unchanged { IfNone result (self.new ≡ self.old) }
+    {
+        let spot = find_spot(self.nodes.as_slice(), self.top.as_slice(), key, seq);
+        let place = self.nodes[spot.lasts[0] as usize].links[0];
+        if place == 0 {
+            return None;
+        }
+        let seq = self.nodes[place as usize].seq;
+        let held = take_out(
+            self.nodes.as_mut_slice(),
+            &spot.lasts,
+            place,
+            self.free.first,
+        );
+        take_from_top(&mut self.top, spot.index, place);
+        self.free = FreeList {
+            first: place,
+            count: self.free.count + 1,
+        };
+        match held.into_parts() {
+            Some((key, value)) => Some((key, seq, value)),
+            None => unreachable!(),
+        }
     }
 
     /// How many places there are: one for each version, and the free ones.

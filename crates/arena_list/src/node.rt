@@ -4,7 +4,7 @@ ghost use Rattle.std.specs.Prelude.{◌≡◌, ◌↔◌, ℕ, ◌<◌, true, Is
 ghost use Rattle.std.specs.Ordering.{nat_cmp};
 ghost use Rattle.std.specs.Cmp.Lexicographic.{slice_cmp};
 ghost use Rattle.arena_list.specs.Versions.{IsAt, GoesBefore, version_shown};
-ghost use Rattle.arena_list.specs.Nodes.{key_of, value_of, held_of, is_vacant, version_in};
+ghost use Rattle.arena_list.specs.Nodes.{key_of, value_of, held_of, unless_vacant, is_vacant, version_in};
 
 use crate::lead::lead;
 use crate::version::Version;
@@ -109,6 +109,17 @@ impl Keyed {
         Keyed {
             lead: 0,
             held: Held::Vacant,
+        }
+    }
+
+    /// Hands over the key and the value of its version, which it holds.
+    pub(crate) fn into_parts(self) -> Option<(Blob, Option<Blob>)>
+        ensures { option_map (λ parts. held_of parts.0 parts.1) result ≡ unless_vacant self }
+    {
+        match self.held {
+            Held::Vacant => None,
+            Held::Deletion { key } => Some((key, None)),
+            Held::Set { key, bytes } => Some((key, Some(bytes))),
         }
     }
 

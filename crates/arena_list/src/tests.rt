@@ -434,3 +434,42 @@ fn keys_are_in_the_order_of_their_bytes_whatever_their_leads(rt: HostRuntime) {
         has_near_keys(&rt, &rig.list, &keys[held + 1..]);
     }
 }
+
+/// A version that is shown, by its key and number.
+fn is_at(rt: &impl Abort, shown: Option<Version<'_>>, wanted: Option<(&[u8], u64)>) {
+    assert_eq!(rt;
+        shown.map(|version: Version<'_>| (version.key, version.seq)),
+        wanted
+    );
+}
+
+#[test]
+fn what_stands_beside_a_spot_is_shown_and_taken(rt: HostRuntime) {
+    let mut rig = Rig::new(&rt, rt.alloc());
+    is_at(&rt, rig.list.before(b"b", 5), None);
+    is_at(&rt, rig.list.from(b"b", 5), None);
+    assert!(&rt; rig.list.take_from(b"", u64::MAX).is_none());
+    rig.put(&rt, b"b", 5, Some(b"1"));
+    rig.put(&rt, b"b", 7, None);
+    rig.put(&rt, b"d", 6, Some(b"2"));
+    is_at(&rt, rig.list.before(b"b", 7), None);
+    is_at(&rt, rig.list.before(b"b", 6), Some((b"b", 7)));
+    is_at(&rt, rig.list.before(b"c", 0), Some((b"b", 5)));
+    is_at(&rt, rig.list.from(b"b", 7), Some((b"b", 7)));
+    is_at(&rt, rig.list.from(b"b", 6), Some((b"b", 5)));
+    is_at(&rt, rig.list.from(b"b", 4), Some((b"d", 6)));
+    is_at(&rt, rig.list.from(b"d", 5), None);
+    let Some((key, seq, value)) = rig.list.take_from(b"b", 6) else {
+        panic!(&rt; "a version");
+    };
+    assert_eq!(&rt; key.as_slice(), b"b".as_slice());
+    assert_eq!(&rt; seq, 5);
+    assert_eq!(&rt;
+        value.as_ref().map(|bytes| bytes.as_slice()),
+        Some(b"1".as_slice())
+    );
+    rig.has_places(&rt, 3, 1);
+    shows(&rt, rig.list.walk(), &[(b"b", 7), (b"d", 6)]);
+    assert!(&rt; rig.list.take_from(b"d", 5).is_none());
+    rig.has_places(&rt, 3, 1);
+}

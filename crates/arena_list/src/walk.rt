@@ -19,10 +19,10 @@ pub struct Walk<'a> {
 
 impl<'a> Model for Walk<'a> {
     ghost use Rattle.std.specs.Prelude.{List};
-    ghost use Rattle.arena_list.specs.Versions.{Version};
+    ghost use Rattle.arena_list.specs.Versions.{KeyVersion};
     ghost use Rattle.arena_list.specs.Nodes.{versions_along, IsOnLevel};
 
-    ghost Value = { List Version };
+    ghost Value = { List KeyVersion };
 
     ghost view = { λ a. versions_along a.nodes.now a.level a.at };
 

@@ -9,7 +9,7 @@ use Rattle.std.proofs.lemmas.List.Elements.{All-from_recursion, recursion_from_A
 use Rattle.std.proofs.lemmas.Nat.{le_bytes_4, le_bytes_8, from_le_bytes-to_le_bytes_4, from_le_bytes-to_le_bytes_8}
 use Rattle.std.specs.Prelude.{MatchResult, IfOk}
 use Rattle.wal_base.specs.declared.entry.Entry.{Entry}
-use Rattle.wal_base.specs.declared.entry.Entry.TheVariants.{Set, Delete, Note}
+use Rattle.wal_base.specs.declared.entry.Entry.TheVariants.{Set, Delete, Note, RangeDelete}
 use Rattle.batch_repr.specs.declared.batch.Batch.{Batch}
 use Rattle.batch_repr.specs.declared.fault.BatchFault.{BatchFault}
 use Rattle.batch_repr.specs.declared.fault.BatchFault.TheVariants as faults
@@ -133,6 +133,7 @@ entry_some : (bytes : List ℕ) (entry : Entry) → SpellsEntry bytes entry → 
 entry_some bytes (Set key value) s = omega (arith, ap length s.4)
 entry_some bytes (Delete key) s = omega (arith, ap length s.2)
 entry_some bytes (Note note) s = omega (arith, ap length s.2)
+entry_some bytes (RangeDelete start end) s = omega (arith, ap length s.4)
 
 -- each entry takes a byte
 entries_few : (bytes : List ℕ) (entries : List Entry) → SpellsEntries bytes entries → length entries ≤ length bytes

@@ -1,5 +1,5 @@
 -- Batches that are numbered one after another, and the number after them: in parts, and with one batch more.
-use Rattle.std.proofs.Common.{◌≡◌, inl, inr, ℕ, ◌+◌, ◌≤◌, ◌<◌, List, [], ◌∷◌, ◌++◌, subst, ◌∙◌, refl, arith}
+use Rattle.std.proofs.Common.{◌≡◌, inl, inr, ℕ, ◌≤◌, ◌<◌, List, [], ◌∷◌, ◌++◌, subst, refl, arith}
 use Rattle.std.specs.Prelude.{Contains}
 use Rattle.wal_base.proofs.Laws.{none_within, within_cases}
 use Rattle.batch_repr.specs.declared.batch.Batch.{Batch}

@@ -3,7 +3,7 @@ use Rattle.std.proofs.Common.{◌≡◌, ℕ, ◌≤◌, List, [], ◌∷◌, �
 use Rattle.std.proofs.lemmas.Bool.{le-ltb, ltb-false, eqb-true}
 use Rattle.std.proofs.lemmas.List.{length-take, length-append, take-append-drop, take_at, drop_at}
 use Rattle.wal_base.specs.declared.entry.Entry.{Entry}
-use Rattle.wal_base.specs.declared.entry.Entry.TheVariants.{Set, Delete, Note}
+use Rattle.wal_base.specs.declared.entry.Entry.TheVariants.{Set, Delete, Note, RangeDelete}
 use Rattle.batch_repr.specs.declared.fault.BatchFault.{BatchFault}
 use Rattle.batch_repr.specs.declared.fault.BatchFault.TheVariants as faults
 use Rattle.batch_repr.specs.declared.fault.VarintFault.{VarintFault}
@@ -11,7 +11,7 @@ use Rattle.batch_repr.specs.declared.fault.VarintFault.TheVariants.{Ended, Wrong
 use Rattle.batch_repr.specs.Spelling.{SpellsNumber, SpellsString, SpellsEntry}
 use Rattle.batch_repr.specs.declared.limits.TheConstants.{KEY_MAX, VALUE_MAX}
 use Rattle.batch_repr.specs.Limits.{IsWithinLimits}
-use Rattle.batch_repr.specs.Reading.{IsBytes, ◌>>=◌, number_at, text_from, string_at, set_at, delete_at, note_at, entry_at, offset_of}
+use Rattle.batch_repr.specs.Reading.{IsBytes, ◌>>=◌, number_at, text_from, string_at, set_at, delete_at, note_at, range_delete_at, entry_at, offset_of}
 use Rattle.batch_repr.proofs.Tools.{bind_ok, guard_ok, chosen, ok_is, IsBytes-rest, IsBytes-back}
 use Rattle.batch_repr.proofs.Varints.{number_takes, number_again}
 
@@ -98,6 +98,24 @@ set_takes whole at bytes entry rest fits e =
       parts = ap (λ (x : List ℕ). 1 ∷ x) (key.parts ∙ ap (λ (x : List ℕ). key.front ++ x) value.parts ∙ sym (append_assoc key.front value.front b.0.1));
     })
 
+range_delete_takes : (whole at : ℕ) (bytes : List ℕ) (entry : Entry) (rest : List ℕ) → IsBytes bytes
+    → range_delete_at whole at bytes ≡ Ok (entry, rest) → TakesEntry (15 ∷ bytes) entry rest
+unfolding range_delete_at
+range_delete_takes whole at bytes entry rest fits e =
+    let a = bind_ok (string_at whole at KEY_MAX bytes) (λ (start : List ℕ × List ℕ). string_at whole at KEY_MAX start.1 >>=
+    λ (end : List ℕ × List ℕ). Ok (RangeDelete start.0 end.0, end.1)) (entry, rest) e in
+    let b = bind_ok (string_at whole at KEY_MAX a.0.1) (λ (end : List ℕ × List ℕ). Ok (RangeDelete a.0.0 end.0, end.1)) (entry, rest) a.2 in
+    let start = string_takes whole at KEY_MAX bytes a.0.0 a.0.1 fits a.1 in
+    let more : IsBytes a.0.1 = IsBytes-back start.front a.0.1 (subst IsBytes start.parts fits) in
+    let end = string_takes whole at KEY_MAX a.0.1 b.0.0 b.0.1 more b.1 in
+    subst (λ (p : Entry × List ℕ). TakesEntry (15 ∷ bytes) p.0 p.1) (ok_is (RangeDelete a.0.0 b.0.0, b.0.1) (entry, rest) b.2)
+    (record {
+      front = 15 ∷ start.front ++ end.front;
+      is = (start.front, end.front, start.is, end.is, refl);
+      within = (start.within, end.within);
+      parts = ap (λ (x : List ℕ). 15 ∷ x) (start.parts ∙ ap (λ (x : List ℕ). start.front ++ x) end.parts ∙ sym (append_assoc start.front end.front b.0.1));
+    })
+
 pub entry_takes : (whole : ℕ) (bytes : List ℕ) (entry : Entry) (rest : List ℕ) → IsBytes bytes → entry_at whole bytes ≡ Ok (entry, rest)
     → TakesEntry bytes entry rest
 unfolding entry_at
@@ -105,22 +123,27 @@ entry_takes whole [] entry rest fits e = absurd cc
 entry_takes whole (kind ∷ bytes) entry rest fits e =
     let at = offset_of whole (kind ∷ bytes) in
     let more : IsBytes bytes = IsBytes-rest kind bytes fits in
-    let third : Result (Entry × List ℕ) BatchFault = cond (eqb kind 3) (note_at whole at bytes) (Err (faults.UnknownKind at kind)) in
+    let fourth : Result (Entry × List ℕ) BatchFault = cond (eqb kind 15) (range_delete_at whole at bytes) (Err (faults.UnknownKind at kind)) in
+    let third : Result (Entry × List ℕ) BatchFault = cond (eqb kind 3) (note_at whole at bytes) fourth in
     let second : Result (Entry × List ℕ) BatchFault = cond (eqb kind 1) (set_at whole at bytes) third in
     elim (chosen (eqb kind 0) (delete_at whole at bytes) second (Ok (entry, rest)) e) [
       | inl hit ↦ subst (λ (k : ℕ). TakesEntry (k ∷ bytes) entry rest) (sym (eqb-true kind 0 hit.0)) (delete_takes whole at bytes entry rest more hit.1)
       | inr miss ↦ elim (chosen (eqb kind 1) (set_at whole at bytes) third (Ok (entry, rest)) miss.1) [
         | inl hit ↦ subst (λ (k : ℕ). TakesEntry (k ∷ bytes) entry rest) (sym (eqb-true kind 1 hit.0)) (set_takes whole at bytes entry rest more hit.1)
-        | inr past ↦ elim (chosen (eqb kind 3) (note_at whole at bytes) (Err (faults.UnknownKind at kind)) (Ok (entry, rest)) past.1) [
+        | inr past ↦ elim (chosen (eqb kind 3) (note_at whole at bytes) fourth (Ok (entry, rest)) past.1) [
           | inl hit ↦ subst (λ (k : ℕ). TakesEntry (k ∷ bytes) entry rest) (sym (eqb-true kind 3 hit.0)) (note_takes whole at bytes entry rest more hit.1)
-          | inr last ↦ absurd cc
+          | inr later ↦ elim (chosen (eqb kind 15) (range_delete_at whole at bytes) (Err (faults.UnknownKind at kind)) (Ok (entry, rest)) later.1) [
+            | inl hit ↦ subst (λ (k : ℕ). TakesEntry (k ∷ bytes) entry rest) (sym (eqb-true kind 15 hit.0))
+                (range_delete_takes whole at bytes entry rest more hit.1)
+            | inr last ↦ absurd cc
+          ]
         ]
       ]
     ]
 
 pub entry_again : (whole : ℕ) (front : List ℕ) (entry : Entry) (rest : List ℕ) → SpellsEntry front entry → IsWithinLimits entry
     → entry_at whole (front ++ rest) ≡ Ok (entry, rest)
-unfolding entry_at set_at delete_at note_at
+unfolding entry_at set_at delete_at note_at range_delete_at
 entry_again whole front (Set key value) rest s within =
     let tail : List ℕ = s.0 ++ (s.1 ++ rest) in
     let regrouped : front ++ rest ≡ 1 ∷ tail = ap (λ (x : List ℕ). x ++ rest) s.4 ∙ ap (λ (x : List ℕ). 1 ∷ x) (append_assoc s.0 s.1 rest) in
@@ -135,3 +158,11 @@ entry_again whole front (Delete key) rest s within =
 entry_again whole front (Note note) rest s within =
     let regrouped : front ++ rest ≡ 3 ∷ (s.0 ++ rest) = ap (λ (x : List ℕ). x ++ rest) s.2 in
     ap (entry_at whole) regrouped ∙ rw (string_again whole (offset_of whole (3 ∷ (s.0 ++ rest))) VALUE_MAX s.0 note rest s.1 within) refl
+entry_again whole front (RangeDelete start end) rest s within =
+    let tail : List ℕ = s.0 ++ (s.1 ++ rest) in
+    let regrouped : front ++ rest ≡ 15 ∷ tail = ap (λ (x : List ℕ). x ++ rest) s.4 ∙ ap (λ (x : List ℕ). 15 ∷ x) (append_assoc s.0 s.1 rest) in
+    let at = offset_of whole (15 ∷ tail) in
+    ap (entry_at whole) regrouped ∙ rw (
+      string_again whole at KEY_MAX s.0 start (s.1 ++ rest) s.2 within.0,
+      string_again whole at KEY_MAX s.1 end rest s.3 within.1,
+    ) refl

@@ -5,7 +5,7 @@ use Rattle.std.proofs.lemmas.Bool.{le-ltb, ltb-false}
 use Rattle.std.proofs.lemmas.List.{length-append, get_or_at}
 use Rattle.std.proofs.lemmas.List.Elements.{All-push}
 use Rattle.wal_base.specs.declared.entry.Entry.{Entry}
-use Rattle.wal_base.specs.declared.entry.Entry.TheVariants.{Set, Delete, Note}
+use Rattle.wal_base.specs.declared.entry.Entry.TheVariants.{Set, Delete, Note, RangeDelete}
 use Rattle.batch_repr.specs.declared.fault.BuildFault.{BuildFault}
 use Rattle.batch_repr.specs.declared.fault.BuildFault.TheVariants as faults
 use Rattle.batch_repr.specs.declared.limits.TheConstants.{KEY_MAX, VALUE_MAX, BATCH_MAX}
@@ -43,11 +43,17 @@ taken entries (Set key value) e =
     ((k.0, v.0), room_is _ v.1)
 taken entries (Delete key) e = let k = short_key key _ e in (k.0, room_is _ k.1)
 taken entries (Note bytes) e = let v = short_value bytes _ e in (v.0, room_is _ v.1)
+taken entries (RangeDelete start end) e =
+    let s = short_key start _ e in
+    let t = short_key end _ s.1 in
+    ((s.0, t.0), room_is _ t.1)
 
 not_refused : (entries : List Entry) (entry : Entry) → IsWithinLimits entry → written_len (entries ++ entry ∷ []) ≤ BATCH_MAX → refusal entries entry ≡ None
 not_refused entries (Set key value) within size = rw (le-ltb KEY_MAX (length key) within.0, le-ltb VALUE_MAX (length value) within.1, has_room _ size) refl
 not_refused entries (Delete key) within size = rw (le-ltb KEY_MAX (length key) within, has_room _ size) refl
 not_refused entries (Note bytes) within size = rw (le-ltb VALUE_MAX (length bytes) within, has_room _ size) refl
+not_refused entries (RangeDelete start end) within size =
+    rw (le-ltb KEY_MAX (length start) within.0, le-ltb KEY_MAX (length end) within.1, has_room _ size) refl
 
 pub fits_where_not_refused : (entries : List Entry) (entry : Entry) → FitsBatch entries → (refusal entries entry ≡ None) ↔ FitsBatch (entries ++ entry ∷ [])
 fits_where_not_refused entries entry fits = (

@@ -9,7 +9,7 @@ use Rattle.std.proofs.lemmas.List.{length-append, drop_at}
 use Rattle.std.proofs.lemmas.List.Elements.{recursion_from_All}
 use Rattle.std.proofs.lemmas.Nat.{from_le_bytes-to_le_bytes_8}
 use Rattle.wal_base.specs.declared.entry.Entry.{Entry}
-use Rattle.wal_base.specs.declared.entry.Entry.TheVariants.{Set, Delete, Note}
+use Rattle.wal_base.specs.declared.entry.Entry.TheVariants.{Set, Delete, Note, RangeDelete}
 use Rattle.batch_repr.specs.declared.batch.Batch.{Batch}
 use Rattle.batch_repr.specs.Batches.{count_of, end_of}
 use Rattle.batch_repr.specs.Spelling.{IsVarint, varint_value, SpellsNumber, SpellsString, SpellsEntry, SpellsEntries, SpellsBatch}
@@ -67,6 +67,13 @@ entry_spells (Set key value) h = (
 )
 entry_spells (Delete key) h = (byte_string key, byte_string_spells key (omega arith), refl)
 entry_spells (Note bytes) h = (byte_string bytes, byte_string_spells bytes (omega arith), refl)
+entry_spells (RangeDelete start end) h = (
+  byte_string start,
+  byte_string end,
+  byte_string_spells start (omega (arith, h.0)),
+  byte_string_spells end (omega (arith, h.1)),
+  refl,
+)
 
 pub entries_spell : (entries : List Entry) → AllByRecursion IsWithinLimits entries → SpellsEntries (written_entries entries) entries
 unfolding written_entries
@@ -113,6 +120,7 @@ unfolding written_entry
 entry_some (Set key value) = omega arith
 entry_some (Delete key) = omega arith
 entry_some (Note bytes) = omega arith
+entry_some (RangeDelete start end) = omega arith
 
 pub entries_few : (entries : List Entry) → length entries ≤ length (written_entries entries)
 unfolding written_entries

@@ -1,7 +1,7 @@
 -- Which entries fit one batch, and what a builder refuses (docs/formats/log.md, "Limits").
 use Rattle.std.specs.Prelude.{◌≡◌, ℕ, ◌<◌, ◌≤◌, List, [], ◌∷◌, ◌++◌, length, All, Option, Some, None, Result, Ok, Err, nat_lt, if◌then◌else◌}
 use Rattle.wal_base.specs.declared.entry.Entry.{Entry}
-use Rattle.wal_base.specs.declared.entry.Entry.TheVariants.{Set, Delete, Note}
+use Rattle.wal_base.specs.declared.entry.Entry.TheVariants.{Set, Delete, Note, RangeDelete}
 use Rattle.batch_repr.specs.declared.fault.BuildFault.{BuildFault}
 use Rattle.batch_repr.specs.declared.fault.BuildFault.TheVariants as faults
 use Rattle.batch_repr.specs.declared.limits.TheConstants.{KEY_MAX, VALUE_MAX, BATCH_MAX}
@@ -41,6 +41,7 @@ abbrev pub refusal : List Entry → Entry → Option BuildFault
 refusal entries (Set key value) = key_fault key (value_fault value (room_fault (written_len (entries ++ Set key value ∷ []))))
 refusal entries (Delete key) = key_fault key (room_fault (written_len (entries ++ Delete key ∷ [])))
 refusal entries (Note bytes) = value_fault bytes (room_fault (written_len (entries ++ Note bytes ∷ [])))
+refusal entries (RangeDelete start end) = key_fault start (key_fault end (room_fault (written_len (entries ++ RangeDelete start end ∷ []))))
 
 -- It is refused exactly for that reason, unless memory ran out.
 abbrev pub RefusedAs : Result (Unit {0}) BuildFault → Option BuildFault → Type 0

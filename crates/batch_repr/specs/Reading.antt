@@ -2,7 +2,7 @@
 use Rattle.std.specs.Prelude.{◌≡◌, ◌≢◌, ℕ, zero, suc, ◌+◌, ◌-◌, ◌*◌, ◌%◌, ◌^◌, ◌<◌, ◌≤◌, List, [], ◌∷◌, ◌++◌, length, get_or, take, drop, Result, Ok, Err, nat_lt, ◌==◌, if◌then◌else◌}
 use Rattle.std.specs.Int.{w32, w64, from_le_bytes}
 use Rattle.wal_base.specs.declared.entry.Entry.{Entry}
-use Rattle.wal_base.specs.declared.entry.Entry.TheVariants.{Set, Delete, Note}
+use Rattle.wal_base.specs.declared.entry.Entry.TheVariants.{Set, Delete, Note, RangeDelete}
 use Rattle.batch_repr.specs.declared.batch.Batch.{Batch}
 use Rattle.batch_repr.specs.declared.fault.BatchFault.{BatchFault}
 use Rattle.batch_repr.specs.declared.fault.BatchFault.TheVariants as faults
@@ -65,6 +65,11 @@ delete_at whole entry bytes = string_at whole entry KEY_MAX bytes >>= λ key. Ok
 unfoldable pub note_at : ℕ → ℕ → List ℕ → Result (Entry × List ℕ) BatchFault
 note_at whole entry bytes = string_at whole entry VALUE_MAX bytes >>= λ note. Ok (Note note.0, note.1)
 
+-- The same of a RangeDelete: its start, then its end.
+unfoldable pub range_delete_at : ℕ → ℕ → List ℕ → Result (Entry × List ℕ) BatchFault
+range_delete_at whole entry bytes =
+    string_at whole entry KEY_MAX bytes >>= λ start. string_at whole entry KEY_MAX start.1 >>= λ end. Ok (RangeDelete start.0 end.0, end.1)
+
 -- The entry at the front of what is left, and what follows it.
 unfoldable pub entry_at : ℕ → List ℕ → Result (Entry × List ℕ) BatchFault
 entry_at whole [] = Err (faults.ShortEntry whole)
@@ -73,6 +78,7 @@ entry_at whole (kind ∷ bytes) =
     if kind == 0 then delete_at whole at bytes
     else if kind == 1 then set_at whole at bytes
     else if kind == 3 then note_at whole at bytes
+    else if kind == 15 then range_delete_at whole at bytes
     else Err (faults.UnknownKind at kind)
 
 -- These entries stand at the front of what is left, one after another, and this follows them.

@@ -2,7 +2,7 @@
 use Rattle.std.specs.Prelude.{◌≡◌, ℕ, ◌+◌, ◌*◌, ◌%◌, ◌^◌, ◌<◌, ◌≤◌, List, [], ◌∷◌, ◌++◌, length, All}
 use Rattle.std.specs.Int.{w32, w64, to_le_bytes}
 use Rattle.wal_base.specs.declared.entry.Entry.{Entry}
-use Rattle.wal_base.specs.declared.entry.Entry.TheVariants.{Set, Delete, Note}
+use Rattle.wal_base.specs.declared.entry.Entry.TheVariants.{Set, Delete, Note, RangeDelete}
 use Rattle.batch_repr.specs.declared.batch.Batch.{Batch}
 use Rattle.batch_repr.specs.declared.limits.TheConstants.{BATCH_MAX, NUMBER_MAX}
 use Rattle.batch_repr.specs.Batches.{count_of}
@@ -32,11 +32,12 @@ pub record SpellsString (bytes text : List ℕ) : Type 0 where
   pub number : SpellsNumber len (length text)
   pub is : bytes ≡ len ++ text
 
--- A kind byte, then a byte string; a Set has a second one.
+-- A kind byte, then a byte string; a Set and a RangeDelete have a second one.
 abbrev pub SpellsEntry : List ℕ → Entry → Type 0
 SpellsEntry bytes (Set key value) = (k : List ℕ) × (v : List ℕ) × SpellsString k key × SpellsString v value × (bytes ≡ 1 ∷ k ++ v)
 SpellsEntry bytes (Delete key) = (k : List ℕ) × SpellsString k key × (bytes ≡ 0 ∷ k)
 SpellsEntry bytes (Note note) = (n : List ℕ) × SpellsString n note × (bytes ≡ 3 ∷ n)
+SpellsEntry bytes (RangeDelete start end) = (s : List ℕ) × (e : List ℕ) × SpellsString s start × SpellsString e end × (bytes ≡ 15 ∷ s ++ e)
 
 -- One entry after another.
 abbrev pub SpellsEntries : List ℕ → List Entry → Type 0

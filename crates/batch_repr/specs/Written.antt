@@ -3,7 +3,7 @@ use Rattle.std.specs.Prelude.{ℕ, ◌+◌, ◌/◌, ◌%◌, zero, suc, List, [
 use Rattle.std.specs.Int.{w32, w64, to_le_bytes}
 use Rattle.std.specs.List.{flat_map}
 use Rattle.wal_base.specs.declared.entry.Entry.{Entry}
-use Rattle.wal_base.specs.declared.entry.Entry.TheVariants.{Set, Delete, Note}
+use Rattle.wal_base.specs.declared.entry.Entry.TheVariants.{Set, Delete, Note, RangeDelete}
 use Rattle.batch_repr.specs.declared.batch.Batch.{Batch}
 use Rattle.batch_repr.specs.Batches.{count_of}
 
@@ -25,6 +25,7 @@ unfoldable pub written_entry : Entry → List ℕ
 written_entry (Set key value) = 1 ∷ byte_string key ++ byte_string value
 written_entry (Delete key) = 0 ∷ byte_string key
 written_entry (Note bytes) = 3 ∷ byte_string bytes
+written_entry (RangeDelete start end) = 15 ∷ byte_string start ++ byte_string end
 
 unfoldable pub written_entries : List Entry → List ℕ
 written_entries entries = flat_map written_entry entries

@@ -80,7 +80,7 @@ fn counted(entries: &[Entry]) -> u64
     for entry in entries {
         match entry {
             Entry::Note { .. } => {}
-            Entry::Set { .. } | Entry::Delete { .. } => found += 1,
+            Entry::Set { .. } | Entry::Delete { .. } | Entry::RangeDelete { .. } => found += 1,
         }
     }
     found

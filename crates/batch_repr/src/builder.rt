@@ -1,7 +1,7 @@
 //! Entries that are to be one batch.
 
 ghost use Rattle.std.specs.Prelude.{◌≡◌, ◌+◌, ◌<◌, ◌≤◌, [], ◌∷◌, ◌++◌, IfOk, OnOk, OnErr, MatchResult};
-ghost use Rattle.wal_base.specs.declared.entry.Entry.TheVariants.{Set, Delete, Note};
+ghost use Rattle.wal_base.specs.declared.entry.Entry.TheVariants.{Set, Delete, Note, RangeDelete};
 ghost use Rattle.batch_repr.specs.Batches.{count_of};
 ghost use Rattle.batch_repr.specs.Limits.{IsWithinLimits};
 ghost use Rattle.batch_repr.specs.Written.{written_len};
@@ -133,6 +133,30 @@ impl BatchBuilder {
         }
         let bytes = Blob::copy_of(self.alloc, bytes)?;
         add(&mut self.bytes, &mut self.entries, Entry::Note { bytes })
+    }
+
+    /// Adds a RangeDelete from the start on and before the end, which may cover nothing. It is refused exactly where the
+    /// start, else the end, else the written batch would be longer than its limit, and then says how long that is.
+    pub fn delete_range(&mut self, start: &[u8], end: &[u8]) -> Result<(), BuildFault>
+        ensures ok { OnOk result (self.new ≡ self.old ++ RangeDelete start.now end.now ∷ []) }
+        ensures err { OnErr result (self.new ≡ self.old) }
+        ensures fault { RefusedAs result (refusal self.old (RangeDelete start.now end.now)) }
+    {
+        if start.len() > KEY_MAX {
+            let len = start.len() as u64;
+            return Err(BuildFault::KeyTooLong { len });
+        }
+        if end.len() > KEY_MAX {
+            let len = end.len() as u64;
+            return Err(BuildFault::KeyTooLong { len });
+        }
+        let start = Blob::copy_of(self.alloc, start)?;
+        let end = Blob::copy_of(self.alloc, end)?;
+        add(
+            &mut self.bytes,
+            &mut self.entries,
+            Entry::RangeDelete { start, end },
+        )
     }
 
     /// The batch of these entries. It hands the builder back exactly where no entry takes a number.

@@ -92,7 +92,7 @@ fn part_of<'a>(
 }
 
 /// The entry at the front of what is left of the text, and the bytes after it. It shares the text's bytes.
-#[tactic(auto, unfolding(crate::specs::Reading::entry_at, crate::specs::Reading::set_at, crate::specs::Reading::delete_at, crate::specs::Reading::note_at))]
+#[tactic(auto, unfolding(crate::specs::Reading::entry_at, crate::specs::Reading::set_at, crate::specs::Reading::delete_at, crate::specs::Reading::note_at, crate::specs::Reading::range_delete_at))]
 fn entry_of<'a>(text: &Blob, bytes: &'a [u8]) -> Result<(Entry, &'a [u8]), BatchFault>
     requires { EndsWith text.now bytes.now }
     ensures exact { GivesOrMemory (λ x. (x.0, x.1.now)) result (entry_at (length text.now) bytes.now) }
@@ -117,6 +117,11 @@ fn entry_of<'a>(text: &Blob, bytes: &'a [u8]) -> Result<(Entry, &'a [u8]), Batch
         3 => {
             let (bytes, rest) = part_of(text, at, VALUE_MAX, rest)?;
             Ok((Entry::Note { bytes }, rest))
+        }
+        15 => {
+            let (start, rest) = part_of(text, at, KEY_MAX, rest)?;
+            let (end, rest) = part_of(text, at, KEY_MAX, rest)?;
+            Ok((Entry::RangeDelete { start, end }, rest))
         }
         kind => Err(BatchFault::UnknownKind { at, kind }),
     }

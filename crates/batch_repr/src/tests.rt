@@ -139,7 +139,51 @@ fn a_note_and_a_delete_are_written_and_read(rt: HostRuntime) {
     assert_eq!(rt; (read.first, read.entries.len()), (11, 2));
 }
 
-/// A note, and a Delete where one is asked for.
+/// A numbered batch of one RangeDelete has these bytes, and is read back. Where the start is not before the end, it is one too.
+#[test]
+fn a_range_delete_is_written_and_read(rt: HostRuntime) {
+    for (start, end) in [(b'a', b'c'), (b'c', b'a'), (b'a', b'a')] {
+        let mut builder = BatchBuilder::new(rt.alloc()).expect(&rt, "memory");
+        builder
+            .delete_range(&[start], &[end])
+            .expect(&rt, "an entry");
+        let Ok(batch) = builder.finish() else {
+            panic!(rt; "a batch");
+        };
+        let numbered = batch.number(10);
+        let bytes = [
+            0x0a, 0, 0, 0, 0, 0, 0, 0, 0x01, 0, 0, 0, 0x0f, 0x01, start, 0x01, end,
+        ];
+        assert_eq!(rt; numbered.bytes(), bytes.as_slice());
+        let read = decode(rt.alloc(), numbered.bytes()).expect(&rt, "a batch");
+        let [
+            Entry::RangeDelete {
+                start: from,
+                end: to,
+            },
+        ] = read.entries.as_slice()
+        else {
+            panic!(rt; "a range");
+        };
+        assert_eq!(rt; from.as_slice(), [start].as_slice());
+        assert_eq!(rt; to.as_slice(), [end].as_slice());
+    }
+}
+
+#[test]
+fn a_range_has_the_limit_of_a_key_at_each_end(rt: HostRuntime) {
+    let text = vec![in rt.alloc(); b'x'; 65_537].expect(&rt, "memory");
+    for (start, end, answer) in [
+        (65_535, 65_535, Ok(())),
+        (65_536, 65_537, Err(BuildFault::KeyTooLong { len: 65_536 })),
+        (1, 65_537, Err(BuildFault::KeyTooLong { len: 65_537 })),
+    ] {
+        let mut builder = BatchBuilder::new(rt.alloc()).expect(&rt, "memory");
+        let added = builder.delete_range(front(&rt, &text, start), front(&rt, &text, end));
+        assert_eq!(rt; added, answer);
+    }
+}
+
 fn note_and(rt: &impl Abort, alloc: Global, delete: bool) -> Entries {
     let text = Blob::copy_of(alloc, b"t7 a").expect(rt, "memory");
     let bytes = text.part(0, 2).expect(rt, "a part");
@@ -244,8 +288,8 @@ fn each_fault_stands_where_it_is(rt: HostRuntime) {
         (
             10,
             1,
-            b"\x0f\x00\x00".as_slice(),
-            BatchFault::UnknownKind { at: 12, kind: 15 },
+            b"\x0e\x00\x00".as_slice(),
+            BatchFault::UnknownKind { at: 12, kind: 14 },
         ),
         (
             10,

@@ -24,6 +24,9 @@ fn is_within_limits(entry: &Entry) -> bool
         }
         Entry::Delete { key } => key.as_slice().len() <= KEY_MAX,
         Entry::Note { bytes } => bytes.as_slice().len() <= VALUE_MAX,
+        Entry::RangeDelete { start, end } => {
+            start.as_slice().len() <= KEY_MAX && end.as_slice().len() <= KEY_MAX
+        }
     }
 }
 
@@ -63,6 +66,9 @@ fn entry_size(entry: &Entry) -> usize
         }
         Entry::Delete { key } => 1 + string_size(key.as_slice()),
         Entry::Note { bytes } => 1 + string_size(bytes.as_slice()),
+        Entry::RangeDelete { start, end } => {
+            1 + string_size(start.as_slice()) + string_size(end.as_slice())
+        }
     }
 }
 

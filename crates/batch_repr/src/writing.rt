@@ -54,6 +54,11 @@ pub(crate) fn push_entry(out: &mut Vec<u8>, entry: &Entry) -> Result<(), AllocEr
             out.push(3)?;
             push_string(out, bytes.as_slice())
         }
+        Entry::RangeDelete { start, end } => {
+            out.push(15)?;
+            push_string(out, start.as_slice())?;
+            push_string(out, end.as_slice())
+        }
     }
 }
 

@@ -1,7 +1,6 @@
 -- The walk over the blocks that begin after the place at which reading stopped.
 use Rattle.crc_chunk.specs.declared.chunk.TheConstants.{BLOCK}
 use Rattle.std.proofs.Common.{◌≡◌, ℕ, ◌+◌, ◌-◌, ◌%◌, ◌<◌, ◌≤◌, List, [], ◌∷◌, ◌++◌, length, drop, refl, sym, ap, subst, ◌∙◌, arith, Bool, true, false, nat_lt, Option, Some, None}
-use Rattle.std.specs.Prelude.{IsSomeAnd}
 use Rattle.std.proofs.lemmas.Bool.{ltb-true, ltb-false}
 use Rattle.crc_chunk.specs.Chunk.{Chunk, ChunkAt}
 use Rattle.crc_chunk.proofs.Laws.{header_bounds, one_chunk, within_segment}
@@ -96,7 +95,7 @@ looked_next bytes log stopped at end link l h is small = from (nat_lt 0 (end % B
         same_place : at ≡ place → ⊥
         same_place e =
             let one : link ≡ s.chunk = one_chunk h (subst (λ (n : ℕ). ChunkAt bytes n log s.chunk) (sym e) s.stands) in
-            small (subst (λ (k : Chunk). IsSomeAnd k.offset (λ covered. stopped < covered)) (sym one) s.above)
+            small (subst (CoversMore stopped) (sym one) s.above)
 
         other : (b : Bool) → nat_lt place end ≡ b → end ≤ place
         other false e = omega (arith, ltb-false place end e)

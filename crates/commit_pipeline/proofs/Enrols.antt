@@ -14,6 +14,7 @@ use Rattle.record_flow.specs.Flows.{CanSend}
 use Rattle.record_flow.proofs.Laws.{end_is_next, records_append}
 use Rattle.commit_queue.specs.declared.view.View.{View}
 use Rattle.commit_queue.specs.Calls.{AwaitsBatch, ReadsHeadSlot}
+use Rattle.commit_queue.specs.Shown.{shown_by}
 use Rattle.commit_queue.proofs.Laws.{awaits_read}
 use Rattle.commit_pipeline.specs.Openings.{Opening}
 use Rattle.commit_pipeline.specs.Numbering.{Appends}
@@ -42,7 +43,7 @@ module _ {table : TableId} {queue : FlowId} {opening : Opening} {seat : TableId}
 
   -- a batch was entered, and its record sent
   pub enrols_entered : (f : Filled) (seat' : TableId) (v' : View) (sends' : FlowId) (flow' : FlowView) (counted' : ℕ) → seat' ≡ seat
-      → AwaitsBatch v' (end_of f.rec) (placed + 1) → Appends f.rec v v' → sends' ≡ sends → flow' ≡ sent_on flow f
+      → AwaitsBatch v' (end_of f.rec) (placed + 1) → Appends f.rec (shown_by v) (shown_by v') → sends' ≡ sends → flow' ≡ sent_on flow f
       → end_of f.rec ≤ NUMBER_MAX → placed < BATCHES_MAX → counted' ≡ counted + 1
       → Enrols table queue opening seat' v' sends' flow' (end_of f.rec) (placed + 1) counted'
   enrols_entered f seat' v' sends' flow' counted' same awaits appends same_queue sent_is within few counts = record {

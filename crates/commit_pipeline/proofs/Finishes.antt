@@ -1,4 +1,5 @@
 -- What holds behind the lock, once all seats have come back and the shares are audited, is what the end of a pipeline tells.
+use Rattle.std.specs.Prelude.{Contains}
 use Rattle.std.proofs.Common.{◌≡◌, ℕ, ◌+◌, ◌<◌, ◌≤◌, ⊎_elim, Bool, List, [], ◌∷◌, ◌++◌, length, append-nil, Contains, refl, sym, subst, ap, ◌∙◌, arith}
 use Rattle.atomic_table.specs.Seated.{TableId}
 use Rattle.record_flow.specs.Passes.{FlowId}
@@ -9,10 +10,9 @@ use Rattle.record_queue.specs.declared.node.Filled.{Filled}
 use Rattle.record_flow.specs.declared.rule.FlowView.{FlowView}
 use Rattle.record_flow.specs.Views.{records_of}
 use Rattle.record_flow.specs.Views as views
-use Rattle.publish_core.specs.Machine.{Among, ends}
 use Rattle.commit_queue.specs.declared.view.View.{View}
 use Rattle.commit_queue.specs.Calls.{TakesBack}
-use Rattle.commit_queue.specs.Rule.{numbers}
+use Rattle.commit_queue.specs.Shown.{end_of_first, shown_by}
 use Rattle.failover_writer.specs.Outcome.{JournalOutcome}
 use Rattle.commit_pipeline.specs.Openings.{Opening}
 use Rattle.commit_pipeline.specs.declared.standing.Standing.{Standing}
@@ -41,7 +41,7 @@ module _ (tells : Bool) (table : TableId) (queue : FlowId) (opening : Opening) (
   same_batches = ap records_of all_taken ∙ enrols.sent
 
   -- The producer's seat has all batches, each once: they are as many as the book counts, and it began with none of its own.
-  each_once : TakesAllBack p ss p' → TakesBack p' f p'' → length (owned ss) ≡ counted → EachOnce (length p.history) (owned ss)
+  each_once : TakesAllBack (shown_by p) ss (shown_by p') → TakesBack p' f p'' → length (owned ss) ≡ counted → EachOnce (length p.history) (owned ss)
   each_once back last all = record { as_many = as_many; each = each }
     where
       as_many : length (owned ss) ≡ length p.history
@@ -54,11 +54,11 @@ module _ (tells : Bool) (table : TableId) (queue : FlowId) (opening : Opening) (
       history : p''.history ≡ p.history
       history = last.history ∙ back.history
 
-      each : (i : ℕ) → i < length p.history → Among i (owned ss)
-      each i below = subst (Among i) own (last.all (omega (arith, as_many, ap length own, ap length history)) i
+      each : (i : ℕ) → i < length p.history → Contains (owned ss) i
+      each i below = subst (λ (l : List ℕ). Contains l i) own (last.all (omega (arith, as_many, ap length own, ap length history)) i
           (subst (λ h. i < length h) (sym history) below))
 
-  pub finishes : TakesAllBack p ss p' → TakesBack p' f p'' → length (owned ss) ≡ counted → all_deaths ss ≡ answers
+  pub finishes : TakesAllBack (shown_by p) ss (shown_by p') → TakesBack p' f p'' → length (owned ss) ≡ counted → all_deaths ss ≡ answers
       → Finishes tells opening p.history ss state v next placed
   finishes back last all told = record {
     opened = flushes.opened;
@@ -74,7 +74,7 @@ module _ (tells : Bool) (table : TableId) (queue : FlowId) (opening : Opening) (
         let none = flushes.alive lives in
         let within = dead_within s ss has in
         absurd (omega (arith, told, some));
-    visible_is = enrols.awaits.next_is ∙ ap (λ n. ends numbers n p.history (length p.history)) enrols.base;
+    visible_is = enrols.awaits.next_is ∙ ap (λ n. end_of_first n p.history (length p.history)) enrols.base;
     count_is = sym enrols.awaits.placed_is;
     small = enrols.within;
     few = enrols.few;

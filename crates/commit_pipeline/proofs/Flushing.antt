@@ -1,6 +1,5 @@
 -- What holds behind the flush lock goes on to hold over each call there.
 use Rattle.std.proofs.Common.{◌≡◌, ◌⊎◌, inl, Bool, ℕ, ◌+◌, ◌≤◌, List, [], ◌∷◌, ◌++◌, length, length-append, append_assoc, Option, Some, None, Result, Err, le_refl, refl, ap, sym, ◌∙◌, subst, arith}
-use Rattle.std.proofs.Math.Nat.{le_trans, le-add_right, le-min, min-le_right}
 use Rattle.std.proofs.lemmas.List.{append-nil}
 use Rattle.std.specs.Prelude.{◌≢◌, true, IfErr}
 use Rattle.atomic_table.specs.Seated.{TableId}
@@ -29,7 +28,8 @@ use Rattle.record_flow.specs.Views.{records_of, taken_on, ended_view}
 use Rattle.record_flow.proofs.Laws.{records_append}
 use Rattle.commit_queue.specs.declared.view.View.{View}
 use Rattle.commit_queue.specs.Calls.{RaisesAcked}
-use Rattle.publish_core.specs.Machine.{one_more}
+use Rattle.commit_queue.specs.Shown.{HasLookedSince}
+use Rattle.commit_queue.proofs.Laws.{looked_then, looks_to_raise}
 use Rattle.commit_pipeline.specs.Sides.{FlushView, AcksSynced, HasAckedSynced}
 use Rattle.failover_writer.specs.Outcome.{JournalOutcome}
 use Rattle.failover_writer.proofs.Laws.{outcome_further, outcome_added, outcome_stalled}
@@ -268,18 +268,12 @@ pub acks_synced : {was f f' : View} {n r : ℕ} (state : State) → f ≡ was �
 acks_synced {was} {f} {f'} {n} {r} state same raises is =
     (r, subst (λ (m : ℕ). RaisesAcked was m r f') is (subst (λ (v : View). RaisesAcked v n r f') same raises))
 
--- Head was looked at for it.
-looked : (f f' : View) (n r : ℕ) → RaisesAcked f n r f' → one_more f.seat.counts.ends ≡ f'.seat.counts.ends
-looked f f' n r (h, t, r_is, is) = sym (ap (λ (v : View). v.seat.counts.ends) is)
-
 -- So it was raised since what was before the move.
 pub acks_since : {Disk : Type 0} (old mid new : FlushView Disk) → mid.seat ≡ old.seat → AcksSynced mid new → HasAckedSynced old new
 acks_since {Disk} old mid new same (raised, raises) = record {
   before = mid;
   since =
-      subst (λ (v : View). one_more v.seat.counts.ends ≤ new.seat.seat.counts.ends) same
-      (subst (λ (k : ℕ). one_more mid.seat.seat.counts.ends ≤ k) (looked mid.seat new.seat (acked new.journal.state) raised raises)
-      (le_refl (one_more mid.seat.seat.counts.ends)));
+      subst (λ (v : View). HasLookedSince v new.seat) same (looks_to_raise mid.seat new.seat (acked new.journal.state) raised raises);
   acks = (raised, raises);
 }
 
@@ -288,8 +282,6 @@ pub acks_again : {Disk : Type 0} (first old mid new : FlushView Disk) → HasAck
     → HasAckedSynced first new
 acks_again {Disk} first old mid new had same acks = record {
   before = mid;
-  since =
-      le_trans (le-min (le_trans had.since (le-add_right _ 1)) (min-le_right (first.seat.seat.counts.ends + 1) 18446744073709551615))
-      (acks_since old mid new same acks).since;
+  since = looked_then first.seat old.seat new.seat had.since (acks_since old mid new same acks).since;
   acks = acks;
 }

@@ -5,9 +5,11 @@ use Rattle.std.proofs.lemmas.Bool.{cases_eq}
 use Rattle.std.proofs.lemmas.Option.{same_Some, slice_get-get_or, slice_get_within}
 use Rattle.std.specs.declared.sync.ledger.Share.{Share}
 use Rattle.atomic_table.specs.Seated.{TableId}
+use Rattle.wal_base.proofs.Laws.{prefix_same}
 use Rattle.failover_writer.specs.declared.fault.DeadMark.{DeadMark}
 use Rattle.commit_queue.specs.declared.seats.SessionSeat.{SessionSeat}
-use Rattle.commit_queue.specs.Seats.{session_table, session_view}
+use Rattle.commit_queue.specs.Seats.{session_table}
+use Rattle.commit_queue.specs.Shown.{session_shown}
 use Rattle.commit_pipeline.specs.Openings.{Opening}
 use Rattle.commit_pipeline.specs.declared.desk.Desk.{Desk}
 use Rattle.commit_pipeline.specs.declared.standing.Standing.{Standing}
@@ -21,12 +23,12 @@ use Rattle.commit_pipeline.proofs.MeetsEach.{stays_both, seen_all_both, stays_se
 -- It is a session still.
 pub session_told : {N M : Type 0} (table : TableId) (opening : Opening) (d d' : Desk N M) → d'.seat ≡ d.seat → d'.own ≡ d.own
     → d'.dead.parts ≡ d.dead.parts → d'.told.parts ≡ d.told.parts
-    → IsSession table opening (session_table d.seat) (session_view d.seat) d.own.parts d.own.amount d.dead.parts d.told.parts
-    → IsSession table opening (session_table d'.seat) (session_view d'.seat) d'.own.parts d'.own.amount d'.dead.parts d'.told.parts
+    → IsSession table opening (session_table d.seat) (session_shown d.seat) d.own.parts d.own.amount d.dead.parts d.told.parts
+    → IsSession table opening (session_table d'.seat) (session_shown d'.seat) d'.own.parts d'.own.amount d'.dead.parts d'.told.parts
 session_told {N = N} table opening d d' seat own dead told is =
-    subst (λ (s : SessionSeat). IsSession table opening (session_table s) (session_view s) d'.own.parts d'.own.amount d'.dead.parts d'.told.parts)
+    subst (λ (s : SessionSeat). IsSession table opening (session_table s) (session_shown s) d'.own.parts d'.own.amount d'.dead.parts d'.told.parts)
     (sym seat)
-    (subst (λ (share : Share N). IsSession table opening (session_table d.seat) (session_view d.seat) share.parts share.amount d'.dead.parts
+    (subst (λ (share : Share N). IsSession table opening (session_table d.seat) (session_shown d.seat) share.parts share.amount d'.dead.parts
     d'.told.parts) (sym own) record {
       of_table = is.of_table;
       base = is.base;
@@ -45,12 +47,12 @@ session_told {N = N} table opening d d' seat own dead told is =
 -- And it is told of a death where there is one.
 pub hears_told : {N M : Type 0} (mark : Option DeadMark) (d d' : Desk N M) → d'.seat ≡ d.seat → d'.dead.amount ≡ d.dead.amount + 0
     → d'.told.amount ≡ d.told.amount + deaths_heard mark → (mark ≡ None → known d ≡ 0)
-    → HearsDeath mark (standing (session_view d.seat) d.dead.amount d.told.amount) (standing (session_view d'.seat) d'.dead.amount d'.told.amount)
+    → HearsDeath mark (standing (session_shown d.seat) d.dead.amount d.told.amount) (standing (session_shown d'.seat) d'.dead.amount d'.told.amount)
 hears_told mark d d' seat dead told lives = record {
   lives = λ none some. absurd (omega (arith, some, lives none));
-  is = ap (λ (s : SessionSeat). standing (session_view s) d'.dead.amount d'.told.amount) seat
-      ∙ ap (λ (n : ℕ). standing (session_view d.seat) n d'.told.amount) (omega (arith, dead))
-      ∙ ap (λ (n : ℕ). standing (session_view d.seat) d.dead.amount n) told;
+  is = ap (λ (s : SessionSeat). standing (session_shown s) d'.dead.amount d'.told.amount) seat
+      ∙ ap (λ (n : ℕ). standing (session_shown d.seat) n d'.told.amount) (omega (arith, dead))
+      ∙ ap (λ (n : ℕ). standing (session_shown d.seat) d.dead.amount n) told;
 }
 
 -- ---- all sessions
@@ -92,7 +94,7 @@ module _ (mark : Option DeadMark) where
   -- All else of a session is the same.
   hears_stays : (s s' : Standing) → HearsDeath mark s s' → StaysOn s s'
   hears_stays s s' hears = subst (StaysOn s) (sym hears.is) record {
-    goes_on = record { seen = λ k b at. at; acked = le_refl s.acked; told = omega arith };
+    goes_on = record { seen = prefix_same s.seen; acked = le_refl s.acked; told = omega arith };
     own = refl;
     dead = refl;
   }

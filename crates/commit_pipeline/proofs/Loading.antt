@@ -8,7 +8,7 @@ use Rattle.wal_base.proofs.Laws.{none_within}
 use Rattle.batch_repr.specs.declared.batch.Batch.{Batch}
 use Rattle.batch_repr.specs.Batches.{end_of, IsContiguous, end_after}
 use Rattle.batch_repr.proofs.Laws.{end_up}
-use Rattle.arena_list.specs.Versions.{Version}
+use Rattle.memtable_shards.specs.Versions.{Version}
 use Rattle.memtable_shards.specs.Versions.{versions_of, versions_in, AreShardsOf}
 use Rattle.memtable_shards.proofs.Laws.{version_within}
 use Rattle.commit_queue.specs.Shards.{NumberedBelow}

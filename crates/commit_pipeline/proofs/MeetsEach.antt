@@ -2,12 +2,13 @@
 use Rattle.std.proofs.Common.{◌≡◌, ◌≢◌, ℕ, zero, suc, ◌+◌, ◌<◌, ◌≤◌, ⊎_elim, List, [], ◌∷◌, length, Some, slice_get, slice_index_or, slice_set, length-set, le_trans, le_refl, refl, sym, ◌∙◌, ap, subst, arith}
 use Rattle.std.proofs.lemmas.Bool.{cases_eq}
 use Rattle.std.proofs.lemmas.Option.{same_Some, slice_get-get_or, slice_get_within}
+use Rattle.wal_base.proofs.Laws.{prefix_same, prefix_then}
 use Rattle.commit_pipeline.specs.declared.standing.Standing.{Standing}
 use Rattle.commit_pipeline.specs.Meeting.{HasSeenAll, StaysOn, StayOn, StaysOnBeside, MeetsEach}
 
 pub same_stays : (s : Standing) → StaysOn s s
 same_stays s = record {
-  goes_on = record { seen = λ k b at. at; acked = le_refl s.acked; told = le_refl s.told };
+  goes_on = record { seen = prefix_same s.seen; acked = le_refl s.acked; told = le_refl s.told };
   own = refl;
   dead = refl;
 }
@@ -15,7 +16,7 @@ same_stays s = record {
 pub stays_both : (a b c : Standing) → StaysOn a b → StaysOn b c → StaysOn a c
 stays_both a b c f g = record {
   goes_on = record {
-    seen = λ k x at. g.goes_on.seen k x (f.goes_on.seen k x at);
+    seen = prefix_then a.seen b.seen c.seen f.goes_on.seen g.goes_on.seen;
     acked = le_trans f.goes_on.acked g.goes_on.acked;
     told = le_trans f.goes_on.told g.goes_on.told;
   };
@@ -25,7 +26,7 @@ stays_both a b c f g = record {
 
 -- who has seen all that was seen of one who has seen no less than another has seen all of that one
 pub seen_all_both : (a b c : Standing) → HasSeenAll a b → HasSeenAll b c → HasSeenAll a c
-seen_all_both a b c f g = record { seen = λ k x at. g.seen k x (f.seen k x at); acked = le_trans f.acked g.acked }
+seen_all_both a b c f g = record { seen = prefix_then a.seen b.seen c.seen f.seen g.seen; acked = le_trans f.acked g.acked }
 
 pub stays_seen : (a b : Standing) → StaysOn a b → HasSeenAll a b
 stays_seen a b f = record { seen = f.goes_on.seen; acked = f.goes_on.acked }

@@ -16,7 +16,7 @@ use Rattle.record_flow.specs.declared.passes.FlushPass.{FlushPass}
 use Rattle.record_flow.specs.Views.{send_opened, flush_opened, records_of}
 use Rattle.record_flow.specs.Passes as passes
 use Rattle.record_flow.proofs.Laws.{first_is_next}
-use Rattle.arena_list.specs.Versions.{Version}
+use Rattle.memtable_shards.specs.Versions.{Version}
 use Rattle.memtable_shards.specs.Versions.{AreShardsOf}
 use Rattle.commit_queue.specs.declared.pipe_table.PipeTable.{PipeTable}
 use Rattle.commit_queue.specs.declared.seats.FlushSeat.{FlushSeat}

@@ -1,12 +1,13 @@
 -- What a session has seen are the first batches of its seat's history.
-use Rattle.std.proofs.Common.{◌≡◌, ℕ, zero, suc, ◌<◌, ◌≤◌, List, [], ◌∷◌, length, take, sym, arith}
+use Rattle.std.proofs.Common.{◌≡◌, ℕ, zero, suc, ◌<◌, ◌≤◌, List, [], ◌∷◌, length, take, drop, sym, arith}
 use mathlib.Core.Option.{some, some-ne-none}
 use lib.ListN.{get_elem?}
-use Rattle.std.proofs.lemmas.List.{length-take-le}
+use Rattle.std.proofs.lemmas.List.{length-take-le, take-append-drop}
+use Rattle.wal_base.specs.Prefixes.{IsPrefixOf}
+use Rattle.wal_base.proofs.Laws.{prefix_taken}
 use Rattle.batch_repr.specs.declared.batch.Batch.{Batch}
-use Rattle.publish_core.specs.Machine.{ends}
 use Rattle.commit_queue.specs.declared.view.View.{View}
-use Rattle.commit_queue.specs.Rule.{IsPrefix, numbers}
+use Rattle.commit_queue.specs.Shown.{end_of_first, shown_by}
 use Rattle.commit_queue.proofs.Laws.{at_end_of}
 use Rattle.commit_pipeline.specs.Numbering.{SeatGoesOn}
 use Rattle.commit_pipeline.specs.Standings.{seen_of, standing, SeesOn, Idles}
@@ -26,24 +27,22 @@ take_at (suc n) zero (x ∷ xs) b at = (omega arith, at)
 take_at (suc n) (suc i) (x ∷ xs) b at = let rest = take_at n i xs b at in (omega (arith, rest.0), rest.1)
 
 -- the end of some of them is that of as many of all
-pub ends_take : (base n k : ℕ) (xs : List Batch) → n ≤ length xs → k ≤ n → ends numbers base (take n xs) k ≡ ends numbers base xs k
+pub ends_take : (base n k : ℕ) (xs : List Batch) → n ≤ length xs → k ≤ n → end_of_first base (take n xs) k ≡ end_of_first base xs k
 ends_take base n k xs within few =
-    at_end_of (take n xs) xs (λ i b at. (take_at n i xs b at).1) base k (omega (arith, length-take-le n xs within, few))
+    at_end_of (take n xs) xs (drop n xs, sym (take-append-drop n xs)) base k (omega (arith, length-take-le n xs within, few))
 
 -- What is seen grows with the history and with what is known to be published.
-pub seen_longer : (v v' : View) → IsPrefix v.history v'.history → v.seat.published ≤ v'.seat.published → IsPrefix (seen_of v) (seen_of v')
-seen_longer v v' history published k b at =
-    let here = take_at v.seat.published k v.history b at in
-    at_take v'.seat.published k v'.history b (omega (arith, here.0, published)) (history k b here.1)
+pub seen_longer : (v v' : View) → IsPrefixOf v.history v'.history → v.seat.published ≤ v'.seat.published → IsPrefixOf (seen_of (shown_by v)) (seen_of (shown_by v'))
+seen_longer v v' history published = prefix_taken v.history v'.history v.seat.published v'.seat.published history published
 
 -- A seat that has seen more gives a standing that goes on.
-pub seen_more : (v v' : View) (dead dead' told told' : ℕ) → IsPrefix v.history v'.history → v.seat.published ≤ v'.seat.published
-    → v.seat.acked ≤ v'.seat.acked → told' ≡ told → SeesOn (standing v dead told) (standing v' dead' told')
+pub seen_more : (v v' : View) (dead dead' told told' : ℕ) → IsPrefixOf v.history v'.history → v.seat.published ≤ v'.seat.published
+    → v.seat.acked ≤ v'.seat.acked → told' ≡ told → SeesOn (standing (shown_by v) dead told) (standing (shown_by v') dead' told')
 seen_more v v' dead dead' told told' history published acked same =
     record { seen = seen_longer v v' history published; acked = acked; told = omega (arith, same) }
 
 -- And where its own batches are the same, and it was told of no death, the standing idles.
-pub idles_on : (v v' : View) (dead dead' told told' : ℕ) → SeatGoesOn v v' → told' ≡ told
-    → Idles (standing v dead told) (standing v' dead' told')
+pub idles_on : (v v' : View) (dead dead' told told' : ℕ) → SeatGoesOn (shown_by v) (shown_by v') → told' ≡ told
+    → Idles (standing (shown_by v) dead told) (standing (shown_by v') dead' told')
 idles_on v v' dead dead' told told' on same =
     record { goes_on = seen_more v v' dead dead' told told' on.history on.published on.acked same; own = on.own; told = same }

@@ -6,8 +6,7 @@ use Rattle.batch_repr.specs.declared.limits.TheConstants.{NUMBER_MAX, BATCHES_MA
 use Rattle.batch_repr.specs.Batches.{count_of, answer}
 use Rattle.disk_face.specs.declared.Side.{Side}
 use Rattle.disk_face.specs.declared.Side.TheVariants.{Secondary}
-use Rattle.publish_core.specs.Machine.{ends}
-use Rattle.commit_queue.specs.Rule.{numbers}
+use Rattle.commit_queue.specs.Shown.{end_of_first}
 use Rattle.commit_pipeline.specs.declared.fault.Committed.{Committed}
 use Rattle.commit_pipeline.specs.declared.fault.CommitFault.{CommitFault}
 use Rattle.commit_pipeline.specs.declared.fault.CommitFault.TheVariants as fault
@@ -19,7 +18,7 @@ use Rattle.commit_pipeline.specs.Standings.{KnowsDeath, Idles, GainsOwn}
 
 -- the end of the n-th batch after the base
 abbrev pub end_at : Opening → List Batch → ℕ → ℕ
-end_at opening batches n = ends numbers opening.start.state.next batches n
+end_at opening batches n = end_of_first opening.start.state.next batches n
 
 -- a death is told of on the secondary side, after a failure at least
 abbrev pub TellsDeath : Side → ℕ → Type 0

@@ -4,19 +4,19 @@ use Rattle.std.specs.declared.sync.ledger.Share.{Share}
 use Rattle.atomic_table.specs.Seated.{TableId}
 use Rattle.failover_writer.specs.declared.fault.JournalFault.{JournalFault}
 use Rattle.failover_writer.specs.declared.fault.JournalFault.TheVariants as faults
-use Rattle.commit_queue.specs.declared.view.View.{View}
-use Rattle.commit_queue.specs.Seats.{HoldsNothing, session_table, session_view}
+use Rattle.commit_queue.specs.Seats.{session_table}
+use Rattle.commit_queue.specs.Shown.{SeatShown, HasFreeHands, session_shown}
 use Rattle.commit_pipeline.specs.Openings.{Opening}
 use Rattle.commit_pipeline.specs.declared.desk.Desk.{Desk}
 use Rattle.commit_pipeline.specs.Commits.{TellsDeath}
 
 -- A seat of the pipeline's table that holds no batch, with shares of one part each.
-pub record IsIdleDesk (table : TableId) (opening : Opening) (seat : TableId) (v : View) (own_parts dead_parts told_parts : ℕ) : Type 0 where
+pub record IsIdleDesk (table : TableId) (opening : Opening) (seat : TableId) (v : SeatShown) (own_parts dead_parts told_parts : ℕ) : Type 0 where
   pub of_table : seat ≡ table
   pub base : v.base ≡ opening.start.state.next
-  pub idle : HoldsNothing v
+  pub idle : HasFreeHands v
   pub none : v.pieces ≡ []
-  pub within : v.seat.published ≤ length v.history
+  pub within : v.published ≤ length v.history
   pub own_part : own_parts ≡ 1
   pub dead_part : dead_parts ≡ 1
   pub told_part : told_parts ≡ 1
@@ -24,7 +24,7 @@ pub record IsIdleDesk (table : TableId) (opening : Opening) (seat : TableId) (v 
 -- So it is of a session's desk.
 abbrev pub IsDeskIdle : {N M : Type 0} → TableId → Opening → Desk N M → Type 0
 IsDeskIdle table opening desk =
-    IsIdleDesk table opening (session_table desk.seat) (session_view desk.seat) desk.own.parts desk.dead.parts desk.told.parts
+    IsIdleDesk table opening (session_table desk.seat) (session_shown desk.seat) desk.own.parts desk.dead.parts desk.told.parts
 
 -- so many deaths it knows of
 abbrev pub known : {N M : Type 0} → Desk N M → ℕ

@@ -1,13 +1,12 @@
 -- What the end of a pipeline tells (docs/formats/ring.md, "Sessions beside one another").
 use Rattle.std.specs.Prelude.{◌≡◌, ◌≢◌, ℕ, ◌+◌, ◌<◌, ◌≤◌, Bool, List, [], ◌∷◌, ◌++◌, length, map, None, Contains}
+use Rattle.wal_base.specs.Prefixes.{IsPrefixOf}
 use Rattle.batch_repr.specs.declared.batch.Batch.{Batch}
 use Rattle.batch_repr.specs.declared.limits.TheConstants.{NUMBER_MAX, BATCHES_MAX}
 use Rattle.disk_face.specs.View.{DiskView}
+use Rattle.commit_queue.specs.Shown.{SeatShown}
 use Rattle.failover_writer.specs.State.{State, JournalView, acked}
 use Rattle.failover_writer.specs.Outcome.{JournalOutcome}
-use Rattle.publish_core.specs.Machine.{Among}
-use Rattle.commit_queue.specs.declared.view.View.{View}
-use Rattle.commit_queue.specs.Rule.{IsPrefix}
 use Rattle.commit_pipeline.specs.Openings.{Opening, IsOpened}
 use Rattle.commit_pipeline.specs.declared.standing.Standing.{Standing}
 use Rattle.commit_pipeline.specs.Standings.{KnowsDeath}
@@ -26,7 +25,7 @@ all_deaths (s ∷ ss) = all_deaths ss + (s.dead + s.told)
 -- The n places below n are the sessions' own, each once: so many are named, and each is among them.
 pub record EachOnce (n : ℕ) (places : List ℕ) : Type 0 where
   pub as_many : length places ≡ n
-  pub each : (i : ℕ) → i < n → Among i places
+  pub each : (i : ℕ) → i < n → Contains places i
 
 -- The journal holds these batches since the opening, and they are within both limits. What each session has seen is a prefix of
 -- them, each of them is one session's own, once, and each that a session has seen acked is. A session knows of a death only where
@@ -35,7 +34,7 @@ pub record Finishes (tells : Bool) (opening : Opening) (batches : List Batch) (s
     (visible count : ℕ) : Type 0 where
   pub opened : IsOpened tells opening
   pub keeps : JournalOutcome tells opening.start batches state v
-  pub seen : (s : Standing) → Contains ss s → IsPrefix s.seen batches
+  pub seen : (s : Standing) → Contains ss s → IsPrefixOf s.seen batches
   pub own : EachOnce (length batches) (owned ss)
   pub acked_is : (s : Standing) → Contains ss s → s.acked ≤ acked state
   pub dead : (s : Standing) → Contains ss s → KnowsDeath s → state.dead ≢ None
@@ -61,10 +60,10 @@ StillKeeps tells view opening journal = (batches : List Batch) × JournalOutcome
 
 -- The producer's seat has taken in the seats of these sessions: what each has seen is a prefix of its history, and it has seen
 -- acked what any of them has.
-pub record TakesAllBack (p : View) (ss : List Standing) (p' : View) : Type 0 where
+pub record TakesAllBack (p : SeatShown) (ss : List Standing) (p' : SeatShown) : Type 0 where
   pub history : p'.history ≡ p.history
   pub base : p'.base ≡ p.base
-  pub own : p'.seat.own ≡ p.seat.own ++ owned ss
-  pub acked_on : p.seat.acked ≤ p'.seat.acked
-  pub seen : (s : Standing) → Contains ss s → IsPrefix s.seen p.history
-  pub acked : (s : Standing) → Contains ss s → s.acked ≤ p'.seat.acked
+  pub own : p'.own ≡ p.own ++ owned ss
+  pub acked_on : p.acked ≤ p'.acked
+  pub seen : (s : Standing) → Contains ss s → IsPrefixOf s.seen p.history
+  pub acked : (s : Standing) → Contains ss s → s.acked ≤ p'.acked

@@ -1,13 +1,13 @@
 -- What sessions have seen once they have met (docs/formats/ring.md, "Sessions beside one another").
 use Rattle.std.specs.Prelude.{◌≡◌, ℕ, ◌+◌, ◌≤◌, List, length, Option, None, Some, slice_get}
+use Rattle.wal_base.specs.Prefixes.{IsPrefixOf}
 use Rattle.failover_writer.specs.declared.fault.DeadMark.{DeadMark}
-use Rattle.commit_queue.specs.Rule.{IsPrefix}
 use Rattle.commit_pipeline.specs.declared.standing.Standing.{Standing}
 use Rattle.commit_pipeline.specs.Standings.{KnowsDeath, SeesOn}
 
 -- The session of s has seen all that the one of o has seen.
 pub record HasSeenAll (o s : Standing) : Type 0 where
-  pub seen : IsPrefix o.seen s.seen
+  pub seen : IsPrefixOf o.seen s.seen
   pub acked : o.acked ≤ s.acked
 
 -- The own batches and the answers of a session are the same, and it has seen no less, and been told of no fewer deaths.

@@ -1,15 +1,14 @@
 -- What a try to number a batch does to a session's seat, and why it comes to what it comes to (docs/formats/ring.md, "The commit").
-use Rattle.std.specs.Prelude.{◌≡◌, ℕ, ◌+◌, ◌%◌, ◌<◌, ◌≤◌, Bool, List, ◌∷◌, ◌++◌, [], length, None, Some}
+use Rattle.std.specs.Prelude.{◌≡◌, ℕ, ◌+◌, ◌<◌, ◌≤◌, Bool, List, ◌∷◌, ◌++◌, [], length, None, Some}
 use mathlib.Core.Option.{some}
 use lib.ListN.{get_elem?}
 use Rattle.wal_base.specs.declared.entry.Entry.{Entry}
+use Rattle.wal_base.specs.Prefixes.{IsPrefixOf}
 use Rattle.batch_repr.specs.declared.batch.Batch.{Batch}
 use Rattle.batch_repr.specs.declared.limits.TheConstants.{NUMBER_MAX, BATCHES_MAX}
 use Rattle.batch_repr.specs.Batches.{count_of, end_of}
 use Rattle.record_queue.specs.declared.node.Filled.{Filled}
-use Rattle.publish_core.specs.Machine.{ends}
-use Rattle.commit_queue.specs.declared.view.View.{View}
-use Rattle.commit_queue.specs.Rule.{IsPrefix, numbers}
+use Rattle.commit_queue.specs.Shown.{end_of_first, SeatShown}
 use Rattle.commit_pipeline.specs.Sides.{CommitView}
 use Rattle.commit_pipeline.specs.declared.commit_side.Numbering.{Numbering}
 use Rattle.commit_pipeline.specs.declared.commit_side.Numbering.TheVariants as case
@@ -19,58 +18,54 @@ abbrev pub numbered : List Entry → ℕ → Batch
 numbered entries first = record { first = first; entries = entries }
 
 -- What a seat has seen is no less, and its own batches are the same.
-pub record SeatGoesOn (v v' : View) : Type 0 where
-  pub history : IsPrefix v.history v'.history
-  pub published : v.seat.published ≤ v'.seat.published
-  pub within : v'.seat.published ≤ length v'.history
-  pub acked : v.seat.acked ≤ v'.seat.acked
-  pub own : v'.seat.own ≡ v.seat.own
+pub record SeatGoesOn (v v' : SeatShown) : Type 0 where
+  pub history : IsPrefixOf v.history v'.history
+  pub published : v.published ≤ v'.published
+  pub within : v'.published ≤ length v'.history
+  pub acked : v.acked ≤ v'.acked
+  pub own : v'.own ≡ v.own
   pub base : v'.base ≡ v.base
   pub opening : v'.opening ≡ v.opening
   pub pieces : v'.pieces ≡ v.pieces
-  pub turn : v'.seat.turn ≡ v.seat.turn
+  pub turn : v'.turn ≡ v.turn
 
 -- The seat holds the batch, at this place, behind all that it has seen published. It begins where the batch before it ends.
-pub record HoldsNumbered (batch : Batch) (place : ℕ) (v v' : View) : Type 0 where
+pub record HoldsNumbered (batch : Batch) (place : ℕ) (v v' : SeatShown) : Type 0 where
   pub goes_on : SeatGoesOn v v'
-  pub held : v'.seat.held ≡ Some place
+  pub held : v'.held ≡ Some place
   pub at : get_elem? v'.history place ≡ some batch
-  pub behind : v'.seat.published ≤ place
-  pub follows : batch.first ≡ ends numbers v'.base v'.history place
+  pub behind : v'.published ≤ place
+  pub follows : batch.first ≡ end_of_first v'.base v'.history place
   pub within : end_of batch ≤ NUMBER_MAX
 
 -- The seat has seen n batches at least, of which the first n end at this number.
-pub record ShowsMany (n next : ℕ) (v v' : View) : Type 0 where
+pub record ShowsMany (n next : ℕ) (v v' : SeatShown) : Type 0 where
   pub goes_on : SeatGoesOn v v'
-  pub idle : v'.seat.held ≡ None
+  pub idle : v'.held ≡ None
   pub many : n ≤ length v'.history
-  pub end_is : next ≡ ends numbers v'.base v'.history n
+  pub end_is : next ≡ end_of_first v'.base v'.history n
 
 -- The batch would end past the numbers, behind n batches, fewer than there may be and no fewer than the seat had seen published.
-pub record ShowsExhausted (entries : List Entry) (next : ℕ) (v v' : View) : Type 0 where
+pub record ShowsExhausted (entries : List Entry) (next : ℕ) (v v' : SeatShown) : Type 0 where
   pub placed : ℕ
   pub shows : ShowsMany placed next v v'
-  pub no_fewer : v.seat.published ≤ placed
+  pub no_fewer : v.published ≤ placed
   pub few : placed < BATCHES_MAX
   pub over : NUMBER_MAX < next + count_of entries
 
--- The producer's seat has read the slot at head last, as 0.
-abbrev pub HasFreeSlot : View → Type 0
-HasFreeSlot v = v.seat.reading ≡ Some record { at = v.head % 64; word = 0 }
-
 -- The producer's seat has placed the batch behind all others, and holds none.
-pub record Appends (batch : Batch) (v v' : View) : Type 0 where
+pub record Appends (batch : Batch) (v v' : SeatShown) : Type 0 where
   pub history : v'.history ≡ v.history ++ batch ∷ []
   pub base : v'.base ≡ v.base
   pub opening : v'.opening ≡ v.opening
   pub pieces : v'.pieces ≡ []
-  pub own : v'.seat.own ≡ v.seat.own
-  pub turn : v'.seat.turn ≡ v.seat.turn
+  pub own : v'.own ≡ v.own
+  pub turn : v'.turn ≡ v.turn
 
 -- what a try to number a batch does to the seat
-abbrev pub Numbers : List Entry → View → Numbering → View → Type 0
+abbrev pub Numbers : List Entry → SeatShown → Numbering → SeatShown → Type 0
 Numbers entries v (case.Done first index) v' = HoldsNumbered (numbered entries first) index v v'
-Numbers entries v (case.Busy back node) v' = SeatGoesOn v v' × (v'.seat.held ≡ v.seat.held) × (back ≡ entries) × (node ≡ None)
+Numbers entries v (case.Busy back node) v' = SeatGoesOn v v' × (v'.held ≡ v.held) × (back ≡ entries) × (node ≡ None)
 Numbers entries v (case.TooMany next) v' = ShowsMany BATCHES_MAX next v v'
 Numbers entries v (case.Exhausted next) v' = ShowsExhausted entries next v v'
 

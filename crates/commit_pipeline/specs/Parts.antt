@@ -5,15 +5,14 @@ use Rattle.record_flow.specs.Passes.{FlowId}
 use Rattle.batch_repr.specs.declared.batch.Batch.{Batch}
 use Rattle.batch_repr.specs.declared.limits.TheConstants.{NUMBER_MAX, SESSIONS_MAX}
 use Rattle.batch_repr.specs.Batches.{IsContiguous, end_after}
-use Rattle.arena_list.specs.Versions.{Version}
+use Rattle.memtable_shards.specs.Versions.{Version}
 use Rattle.memtable_shards.specs.Versions.{AreShardsOf}
 use Rattle.commit_queue.specs.declared.pipe_table.PipeTable.{PipeTable}
 use Rattle.commit_queue.specs.declared.seats.FlushSeat.{FlushSeat}
 use Rattle.commit_queue.specs.declared.seats.ProducerSeat.{ProducerSeat}
 use Rattle.commit_queue.specs.declared.seats.SessionSeat.{SessionSeat}
-use Rattle.publish_core.specs.declared.seat.Kind.TheVariants.{Worker}
-use Rattle.commit_queue.specs.Views.{opened_view, shown_view}
 use Rattle.commit_queue.specs.Seats.{IsNewProducer, IsNewFlush, AreNewSessions, session_table, session_view}
+use Rattle.commit_queue.specs.Shown.{new_session_view}
 use Rattle.commit_pipeline.specs.Openings.{EndsBefore, Opening}
 use Rattle.commit_pipeline.specs.declared.standing.Standing.{Standing}
 use Rattle.commit_pipeline.specs.Standings.{new_standing}
@@ -68,7 +67,7 @@ pub record FitTogether (base : List Batch) (next sessions : ℕ) (table : PipeTa
 
 -- The seat is a new session's, of this table, over these shards.
 abbrev pub IsNewSeatOf : TableId → ℕ → List (List Version) → SessionSeat → Type 0
-IsNewSeatOf table next shards seat = (session_table seat ≡ table) × (session_view seat ≡ shown_view Worker (opened_view next shards))
+IsNewSeatOf table next shards seat = (session_table seat ≡ table) × (session_view seat ≡ new_session_view next shards)
 
 -- They are new sessions' seats, over the versions of the opening's base.
 pub record AreSeatsOf (table : TableId) (opening : Opening) (seats : List SessionSeat) : Type 0 where

@@ -1,5 +1,5 @@
 -- What contracts see behind the two locks, and what is done there (docs/formats/ring.md, "The commit").
-use Rattle.std.specs.Prelude.{◌≡◌, ◌≤◌, ℕ, List, [], ◌∷◌, ◌++◌, Bool, Result}
+use Rattle.std.specs.Prelude.{◌≡◌, ℕ, List, [], ◌∷◌, ◌++◌, Bool, Result}
 use Rattle.batch_repr.specs.declared.batch.Batch.{Batch}
 use Rattle.disk_face.specs.View.{DiskView}
 use Rattle.failover_writer.specs.declared.fault.Step.{Step}
@@ -12,8 +12,8 @@ use Rattle.record_flow.specs.declared.rule.FlowView.{FlowView}
 use Rattle.record_flow.specs.Views.{records_of}
 use Rattle.record_flow.specs.Flows.{WasEmpty}
 use Rattle.commit_queue.specs.declared.view.View.{View}
-use Rattle.publish_core.specs.Machine.{one_more}
 use Rattle.commit_queue.specs.Calls.{RaisesAcked}
+use Rattle.commit_queue.specs.Shown.{HasLookedSince}
 use Rattle.commit_pipeline.specs.Logging.{SettlesJournal, FallsUnlessAcked}
 
 -- behind the commit lock: the number that comes next, how many batches are numbered, and the records that were sent
@@ -60,7 +60,7 @@ AcksSynced old new = (raised : ℕ) × RaisesAcked old.seat (acked new.journal.s
 -- It was raised so, after head was looked at once more than before.
 pub record HasAckedSynced {Disk : Type 0} (old new : FlushView Disk) : Type 0 where
   pub before : FlushView Disk
-  pub since : one_more old.seat.seat.counts.ends ≤ new.seat.seat.counts.ends
+  pub since : HasLookedSince old.seat new.seat
   pub acks : AcksSynced before new
 
 -- They were moved until none was found, and then the journal was stepped as long as a step moved, which the acked word followed.

@@ -3,7 +3,8 @@ ghost use Rattle.std.specs.Prelude.{◌≡◌, ◌+◌, ◌<◌, None};
 ghost use Rattle.batch_repr.specs.declared.limits.TheConstants.{NUMBER_MAX, BATCHES_MAX};
 ghost use Rattle.batch_repr.specs.Batches.{count_of};
 ghost use Rattle.commit_queue.specs.Tables.{table_id_of};
-ghost use Rattle.commit_queue.specs.Seats.{session_table, session_view};
+ghost use Rattle.commit_queue.specs.Shown.{session_shown};
+ghost use Rattle.commit_queue.specs.Seats.{session_table};
 ghost use Rattle.commit_pipeline.specs.Numbering.{Numbers, CausesNumbering, SendsWhereNumbered};
 ghost use Rattle.commit_pipeline.specs.Numbering.{IsExhausted, added};
 ghost use Rattle.commit_pipeline.specs.Desks.{IsDeskIdle, Raises};
@@ -82,7 +83,7 @@ impl<N: PipeName> CommitSide<N> {
         requires desk { IsDeskIdle N.table N.opening desk.old }
         requires node { node ≡ None }
         ensures same { session_table desk.new.seat ≡ session_table desk.old.seat }
-        ensures told { Numbers batch (session_view desk.old.seat) result (session_view desk.new.seat) }
+        ensures told { Numbers batch (session_shown desk.old.seat) result (session_shown desk.new.seat) }
         ensures cause { CausesNumbering batch self.old result }
         ensures sends { SendsWhereNumbered batch sync self.old self.new result }
         ensures own { Raises desk.old.own (added result) desk.new.own }
@@ -133,7 +134,7 @@ impl<N: PipeName> CommitSide<N> {
         requires over { NUMBER_MAX < self.old.next + count_of batch }
         requires few { self.old.placed < BATCHES_MAX }
         ensures same { session_table desk.new.seat ≡ session_table desk.old.seat }
-        ensures told { Numbers batch (session_view desk.old.seat) result (session_view desk.new.seat) }
+        ensures told { Numbers batch (session_shown desk.old.seat) result (session_shown desk.new.seat) }
         ensures exhausted { IsExhausted self.old.next result }
         ensures own { desk.new.own ≡ desk.old.own }
         ensures dead { desk.new.dead ≡ desk.old.dead }

@@ -2,11 +2,12 @@
 ghost use Rattle.std.specs.Prelude.{◌≡◌, ◌+◌, ◌<◌, ◌≤◌, None, Some};
 ghost use Rattle.batch_repr.specs.declared.limits.TheConstants.{NUMBER_MAX, BATCHES_MAX};
 ghost use Rattle.batch_repr.specs.Batches.{end_of};
-ghost use Rattle.commit_queue.specs.Calls.{AwaitsBatch};
+ghost use Rattle.commit_queue.specs.Calls.{AwaitsBatch, HasFreeSlot};
 ghost use Rattle.commit_queue.specs.Tables.{IsOfTable};
+ghost use Rattle.commit_queue.specs.Shown.{session_shown, shown_by};
 ghost use Rattle.commit_queue.specs.Seats.{producer_table, producer_view};
-ghost use Rattle.commit_queue.specs.Seats.{session_table, session_view};
-ghost use Rattle.commit_pipeline.specs.Numbering.{HasFreeSlot, Appends, HoldsNumbered};
+ghost use Rattle.commit_queue.specs.Seats.{session_table};
+ghost use Rattle.commit_pipeline.specs.Numbering.{Appends, HoldsNumbered};
 
 use batch_repr::Numbered;
 use commit_queue::{PipeTable, ProducerSeat, SessionSeat};
@@ -26,8 +27,8 @@ pub(crate) fn enter<R: Wait>(
 ) -> u64
     requires table { IsOfTable table.now (producer_table producer.old) }
     requires seat { IsOfTable table.now (session_table seat.old) }
-    requires idle { (session_view seat.old).seat.held ≡ None }
-    requires base { (session_view seat.old).base ≡ (producer_view producer.old).base }
+    requires idle { (session_shown seat.old).held ≡ None }
+    requires base { (session_shown seat.old).base ≡ (producer_view producer.old).base }
     requires free { HasFreeSlot (producer_view producer.old) }
     requires awaits { AwaitsBatch (producer_view producer.old) batch.first (producer_view producer.old).head }
     requires few { (producer_view producer.old).head < BATCHES_MAX }
@@ -37,8 +38,8 @@ pub(crate) fn enter<R: Wait>(
     ensures same { session_table seat.new ≡ session_table seat.old }
     ensures index { result ≡ (producer_view producer.old).head }
     ensures awaits { AwaitsBatch (producer_view producer.new) (end_of batch) (result + 1) }
-    ensures appends { Appends batch (producer_view producer.old) (producer_view producer.new) }
-    ensures numbered { HoldsNumbered batch result (session_view seat.old) (session_view seat.new) }
+    ensures appends { Appends batch (shown_by (producer_view producer.old)) (shown_by (producer_view producer.new)) }
+    ensures numbered { HoldsNumbered batch result (session_shown seat.old) (session_shown seat.new) }
     ensures node { node.new ≡ Some record { rec = batch; sync = sync } }
 {
     table.place(producer, &batch);

@@ -2,6 +2,7 @@
 ghost use Rattle.std.specs.Prelude.{◌≡◌, ◌+◌, length, vec_len};
 ghost use Rattle.record_flow.specs.Passes.{taken_numbers};
 ghost use Rattle.commit_queue.specs.Tables.{table_id_of};
+ghost use Rattle.commit_queue.specs.Shown.{shown_by};
 ghost use Rattle.commit_queue.specs.Seats.{producer_table, producer_view};
 ghost use Rattle.commit_pipeline.specs.Ending.{EndsPipeline, TakesAllBack, owned, all_deaths};
 ghost use Rattle.commit_pipeline.specs.Ties.{IsSpare};
@@ -93,7 +94,7 @@ fn gather<N: PipeName, M: Ledger>(
     requires spare_own { IsSpare own.old.parts own.old.amount }
     requires spare_dead { IsSpare dead.old.parts dead.old.amount }
     ensures same { producer_table producer.new ≡ N.table }
-    ensures back { TakesAllBack (producer_view producer.old) sessions.items (producer_view producer.new) }
+    ensures back { TakesAllBack (shown_by (producer_view producer.old)) sessions.items (shown_by (producer_view producer.new)) }
     ensures own { (own.new.parts ≡ vec_len sessions) × (own.new.amount ≡ length (owned sessions.items)) }
     ensures dead { (dead.new.parts ≡ vec_len sessions + vec_len sessions) × (dead.new.amount ≡ all_deaths sessions.items) }
 {

@@ -2,6 +2,7 @@
 ghost use Rattle.std.specs.Prelude.{◌≡◌, ◌+◌, None, Err, true};
 ghost use Rattle.commit_queue.specs.Tables.{table_id_of};
 ghost use Rattle.commit_queue.specs.Calls.{HoldsUnapplied};
+ghost use Rattle.commit_queue.specs.Shown.{session_shown};
 ghost use Rattle.commit_queue.specs.Seats.{session_table, session_view};
 ghost use Rattle.commit_pipeline.specs.Commits.{TellsCommit};
 ghost use Rattle.commit_pipeline.specs.Desks.{IsDeskIdle, Raises, TellsFault, known};
@@ -101,7 +102,7 @@ impl<'a, D: Disk, G: Gate, N: PipeName, M: Ledger> Pipeline<'a, D, G, N, M> {
         requires desk { IsDeskIdle N.table N.opening desk.old }
         requires node { node ≡ None }
         ensures same { session_table desk.new.seat ≡ session_table desk.old.seat }
-        ensures started { StartsCommit N.opening batch (session_view desk.old.seat) result (session_view desk.new.seat) }
+        ensures started { StartsCommit N.opening batch (session_shown desk.old.seat) result (session_shown desk.new.seat) }
         ensures own { Raises desk.old.own (numbers_started result) desk.new.own }
         ensures dead { Raises desk.old.dead (deaths_started result) desk.new.dead }
         ensures met { Raises desk.old.told 0 desk.new.told }
@@ -138,7 +139,7 @@ impl<'a, D: Disk, G: Gate, N: PipeName, M: Ledger> Pipeline<'a, D, G, N, M> {
         requires desk { IsDeskIdle N.table N.opening desk.old }
         requires node { node ≡ None }
         ensures same { session_table desk.new.seat ≡ session_table desk.old.seat }
-        ensures taken { GetsNumber batch (session_view desk.old.seat) result (session_view desk.new.seat) }
+        ensures taken { GetsNumber batch (session_shown desk.old.seat) result (session_shown desk.new.seat) }
         ensures own { Raises desk.old.own (numbers_got result) desk.new.own }
         ensures dead { desk.new.dead ≡ desk.old.dead }
         ensures met { desk.new.told ≡ desk.old.told }
@@ -178,14 +179,14 @@ impl<'a, D: Disk, G: Gate, N: PipeName, M: Ledger> Pipeline<'a, D, G, N, M> {
         end: u64,
     )
         requires table { session_table desk.old.seat ≡ N.table }
-        requires no_turn { (session_view desk.old.seat).seat.turn ≡ None }
+        requires no_turn { (session_shown desk.old.seat).turn ≡ None }
         requires holds { HoldsUnapplied (session_view desk.old.seat) pieces }
-        requires end { IsHeldEnd (session_view desk.old.seat) end }
+        requires end { IsHeldEnd (session_shown desk.old.seat) end }
         ensures same { session_table desk.new.seat ≡ session_table desk.old.seat }
         ensures own { desk.new.own ≡ desk.old.own }
         ensures dead { desk.new.dead ≡ desk.old.dead }
         ensures met { desk.new.told ≡ desk.old.told }
-        ensures published { PublishesHeld (session_view desk.old.seat) (session_view desk.new.seat) }
+        ensures published { PublishesHeld (session_shown desk.old.seat) (session_shown desk.new.seat) }
     {
         let seat = &mut desk.seat;
         ShardGate::over(self.alloc, &self.table).apply_all(rt, seat, pieces);
@@ -207,7 +208,7 @@ impl<'a, D: Disk, G: Gate, N: PipeName, M: Ledger> Pipeline<'a, D, G, N, M> {
     ) -> Result<(), CommitFault>
         requires desk { IsDeskIdle N.table N.opening desk.old }
         ensures same { session_table desk.new.seat ≡ session_table desk.old.seat }
-        ensures waited { WaitsFor numbers (session_view desk.old.seat) result (session_view desk.new.seat) }
+        ensures waited { WaitsFor numbers (session_shown desk.old.seat) result (session_shown desk.new.seat) }
         ensures own { desk.new.own ≡ desk.old.own }
         ensures dead { Raises desk.old.dead (deaths_waited result) desk.new.dead }
         ensures met { desk.new.told ≡ desk.old.told }

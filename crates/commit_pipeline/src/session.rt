@@ -15,14 +15,15 @@ pub struct Session<N: PipeName, M: Ledger> {
 
 impl<N: PipeName, M: Ledger> Model for Session<N, M> {
     ghost use Rattle.commit_pipeline.specs.declared.standing.Standing.{Standing};
-    ghost use Rattle.commit_queue.specs.Seats.{session_table, session_view};
+    ghost use Rattle.commit_queue.specs.Shown.{session_shown};
+    ghost use Rattle.commit_queue.specs.Seats.{session_table};
     ghost use Rattle.commit_pipeline.specs.Standings.{standing, IsSession};
 
     ghost Value = { Standing };
 
-    ghost view = { λ s. standing (session_view s.desk.seat) s.desk.dead.amount s.desk.told.amount };
+    ghost view = { λ s. standing (session_shown s.desk.seat) s.desk.dead.amount s.desk.told.amount };
 
-    ghost invariant = { λ s. IsSession N.table N.opening (session_table s.desk.seat) (session_view s.desk.seat) s.desk.own.parts s.desk.own.amount s.desk.dead.parts s.desk.told.parts };
+    ghost invariant = { λ s. IsSession N.table N.opening (session_table s.desk.seat) (session_shown s.desk.seat) s.desk.own.parts s.desk.own.amount s.desk.dead.parts s.desk.told.parts };
 }
 
 /// The sessions of a pipeline, in the order of their numbers.

@@ -2,6 +2,7 @@
 use Rattle.std.proofs.Common.{◌≡◌, ◌≢◌, ℕ, ◌+◌, ◌<◌, ◌≤◌, List, length, get_or, set, Some, sym, refl, ap, ◌∙◌, subst, arith, length-set, get_or-set_other, get_or-set_same, true, max}
 use mathlib.Core.Option.{none}
 use Rattle.atomic_table.specs.Table.{step, keeps, Allows}
+use Rattle.wal_base.proofs.Laws.{prefix_same}
 use Rattle.memtable_shards.specs.Versions.{touches}
 use Rattle.publish_core.specs.declared.seat.Kind.TheVariants.{Spent}
 use Rattle.publish_core.specs.declared.seat.SeatState.{SeatState}
@@ -11,20 +12,21 @@ use Rattle.publish_core.proofs.Laws.{kept_raise_acked}
 use Rattle.publish_core.proofs.Laws.{kept_load_acked}
 use Rattle.commit_queue.specs.declared.pipe_table.TableOpening.{TableOpening}
 use Rattle.commit_queue.specs.declared.view.View.{View}
+use Rattle.commit_queue.specs.declared.layout.TheConstants.{ENDS, VISIBLE, ACKED, RING_FROM, TURNS_FROM, WORDS}
 use Rattle.commit_queue.specs.Rule.{RingState, numbers, Shows, Linked}
 use Rattle.commit_queue.specs.Views.{raising_view, acked_view}
 use Rattle.commit_queue.specs.Tells.{Seated, TellsAckedRaised, TellsAcked}
 use Rattle.commit_queue.proofs.Becomes.{linked, put_again, stays, shows_seats}
 
 shows_acked : (c : RingState) (words : List ℕ) (n : ℕ) → Shows c words → Shows (record c { acked = max c.acked n })
-    (set words 2 (max (get_or words 2 0) n))
-shows_acked c words n h = let wide : length words ≡ 75 = h.wide in let x : ℕ = max (get_or words 2 0) n in record {
-  wide = length-set words 2 x ∙ h.wide;
-  ends_word = get_or-set_other words 2 0 x 0 (λ e. omega arith) ∙ h.ends_word;
-  visible_word = get_or-set_other words 2 1 x 0 (λ e. omega arith) ∙ h.visible_word;
-  acked_word = get_or-set_same words 2 x 0 (omega arith) ∙ ap (λ (y : ℕ). max y n) h.acked_word;
-  ring_word = λ j l. get_or-set_other words 2 (j + 3) x 0 (λ e. omega arith) ∙ h.ring_word j l;
-  shard_word = λ j l. get_or-set_other words 2 (j + 67) x 0 (λ e. omega arith) ∙ h.shard_word j l;
+    (set words ACKED (max (get_or words ACKED 0) n))
+shows_acked c words n h = let wide : length words ≡ WORDS = h.wide in let x : ℕ = max (get_or words ACKED 0) n in record {
+  wide = length-set words ACKED x ∙ h.wide;
+  ends_word = get_or-set_other words ACKED ENDS x 0 (λ e. omega arith) ∙ h.ends_word;
+  visible_word = get_or-set_other words ACKED VISIBLE x 0 (λ e. omega arith) ∙ h.visible_word;
+  acked_word = get_or-set_same words ACKED x 0 (omega arith) ∙ ap (λ (y : ℕ). max y n) h.acked_word;
+  ring_word = λ j l. get_or-set_other words ACKED (j + RING_FROM) x 0 (λ e. omega arith) ∙ h.ring_word j l;
+  shard_word = λ j l. get_or-set_other words ACKED (j + TURNS_FROM) x 0 (λ e. omega arith) ∙ h.shard_word j l;
 }
 
 module _ (o : TableOpening) where
@@ -32,7 +34,7 @@ module _ (o : TableOpening) where
       → me.0.acked_known.is_flush ≡ true → me.0.seat.kind ≢ Spent → me.0.seat.loaded ≡ Some record {
         head = h;
         tail = t;
-      } → k ≤ h → Allows (Linked o) n id me 2 (λ x. max x k) (TellsAckedRaised (step n 2 k 0 none) me)
+      } → k ≤ h → Allows (Linked o) n id me ACKED (λ x. max x k) (TellsAckedRaised (step n ACKED k 0 none) me)
   raises_acked n id me k h t flush live loaded le s r wide has _ =
       let c : RingState = r.core in let v : View = me.0 in let ok = r.each_view id v has in let sound = r.sound in
       let seat : c.seats id ≡ v.seat = ok.seat in let w : View = raising_view v k in
@@ -43,13 +45,13 @@ module _ (o : TableOpening) where
         w,
         keeps,
         tt,
-        linked o s r id (set s.words 2 (max (get_or s.words 2 0) k)) w record {
+        linked o s r id (set s.words ACKED (max (get_or s.words ACKED 0) k)) w record {
           core = c';
           sound = kept_raise_acked numbers touches c sound k (omega arith);
           same_base = refl;
           same_made = refl;
           seats = put_again c.seats id v.seat seat;
-          longer = λ q b e. e;
+          longer = prefix_same c.batches;
           others = λ _. (refl, refl);
           few = r.few;
           small = r.small;
@@ -82,12 +84,12 @@ module _ (o : TableOpening) where
       )
 
   pub sees_acked : (n id : ℕ) (me : Seated) → Acts me.0.seat → ((m : ℕ) → me.0.acked_known.retired ≡ Some m → ⊥)
-      → Allows (Linked o) n id me 2 (λ x. x) (TellsAcked (step n 2 0 0 none) me)
+      → Allows (Linked o) n id me ACKED (λ x. x) (TellsAcked (step n ACKED 0 0 none) me)
   sees_acked n id me acts calm s r wide has _ =
       let c : RingState = r.core in let v : View = me.0 in let ok = r.each_view id v has in let sound = r.sound in
-      let seat : c.seats id ≡ v.seat = ok.seat in let x : ℕ = get_or s.words 2 0 in let w : View = acked_view v x in
+      let seat : c.seats id ≡ v.seat = ok.seat in let x : ℕ = get_or s.words ACKED 0 in let w : View = acked_view v x in
       let is : c.acked ≡ x = sym r.shows.acked_word in
-      stays o s 2 id me (TellsAcked (step n 2 0 0 none) me) w
+      stays o s ACKED id me (TellsAcked (step n ACKED 0 0 none) me) w
       (linked o s r id s.words w record {
         core = after_load_acked numbers touches c id;
         sound = kept_load_acked numbers touches c sound id (subst Acts (sym seat) acts);
@@ -95,7 +97,7 @@ module _ (o : TableOpening) where
         same_made = refl;
         seats = λ q. updated c.seats id (let d : SeatState = seat q in
             record d { acked = is q; counts = record d.counts { ackeds = one_more d.counts.ackeds } });
-        longer = λ q b e. e;
+        longer = prefix_same c.batches;
         others = λ _. (refl, refl);
         few = r.few;
         small = r.small;

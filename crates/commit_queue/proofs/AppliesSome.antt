@@ -1,14 +1,14 @@
 -- The pieces of a batch are applied one after another: what each call asks, and that in the end all are applied.
-use Rattle.std.proofs.Common.{◌≡◌, ◌⊎◌, inl, inr, ⊎_elim, Some, None, IsTrue, true, ℕ, ◌+◌, ◌<◌, ◌≤◌, List, Option, sym, refl, ap, ◌∙◌, subst, arith}
+use Rattle.std.proofs.Common.{◌≡◌, ◌⊎◌, ⊎_elim, Some, None, IsTrue, true, ℕ, ◌+◌, ◌<◌, ◌≤◌, List, ◌∷◌, Option, Contains, sym, refl, ap, ◌∙◌, subst, arith}
 use Rattle.std.proofs.lemmas.Bool.{cases_lt}
 use mathlib.Core.Option.{some, some-injective}
 use lib.ListN.{get_elem?}
+use Rattle.wal_base.proofs.Laws.{none_within, within_cases, within_head, within_tail}
 use Rattle.batch_repr.specs.declared.batch.Batch.{Batch}
-use Rattle.arena_list.specs.Versions.{Version}
+use Rattle.memtable_shards.specs.Versions.{Version}
 use Rattle.memtable_shards.specs.Pieces.{PiecesLeft, IsNextPiece, NoPieceIsLeft}
 use Rattle.memtable_shards.specs.Versions.{touches, piece_in, Gains, HaveOtherNumbers}
 use Rattle.memtable_shards.proofs.Laws.{next_is_piece, none_between, none_left}
-use Rattle.publish_core.specs.Machine.{Among}
 use Rattle.commit_queue.specs.declared.view.View.{View}
 use Rattle.commit_queue.specs.Views.{but_turns, taking_view, applied_view}
 use Rattle.commit_queue.specs.Tells.{TakesShard}
@@ -20,9 +20,9 @@ pub record AppliesSome (v : View) (all : PiecesLeft) (v' : View) (left : PiecesL
   pub no_turn : v'.seat.turn ≡ None
   pub entries : left.entries ≡ all.entries
   pub first : left.first ≡ all.first
-  pub before : (k : ℕ) → Among k v'.pieces → k < left.from
+  pub before : (k : ℕ) → Contains v'.pieces k → k < left.from
   pub done : (i k : ℕ) (b : Batch) → v.seat.held ≡ Some i → get_elem? v.history i ≡ some b → IsTrue (touches b k) → k < left.from
-      → Among k v'.pieces
+      → Contains v'.pieces k
 
 pub none_applied : (v : View) (all : PiecesLeft) → HoldsUnapplied v all → v.seat.turn ≡ None → AppliesSome v all v all
 none_applied v all h no_turn = record {
@@ -30,7 +30,7 @@ none_applied v all h no_turn = record {
   no_turn = no_turn;
   entries = refl;
   first = refl;
-  before = λ k a. absurd (subst (λ (l : List ℕ). Among k l) h.none a);
+  before = λ k a. absurd (none_within k (subst (λ (l : List ℕ). Contains l k) h.none a));
   done = λ i k b holds at touch below. let from = h.all in absurd (omega arith);
 }
 
@@ -66,7 +66,7 @@ module _ (v : View) (all : PiecesLeft) (h : HoldsUnapplied v all) (v' : View) (l
     is_piece : (piece ≡ piece_in shard h.batch) × IsTrue (touches h.batch shard)
     is_piece = next_is_piece left h.batch shard piece left_entries left_first next
 
-    is_new : Among shard v'.pieces → ⊥
+    is_new : Contains v'.pieces shard → ⊥
     is_new m = let b = a.before shard m in let o = next.on in omega arith
 
     -- the next piece may be applied in its shard, as this is taken
@@ -97,9 +97,11 @@ module _ (v : View) (all : PiecesLeft) (h : HoldsUnapplied v all) (v' : View) (l
       no_turn = refl;
       entries = a.entries;
       first = a.first;
-      before = λ k m. ⊎_elim (λ (e : k ≡ shard). omega arith) (λ (o : Among k v'.pieces). let l = a.before k o in let on = next.on in omega arith) m;
-      done = λ i k b holds at touch below. ⊎_elim (λ (l : k < left.from). inr (a.done i k b holds at touch l))
-          (λ (on : left.from ≤ k). inl (only_shard i k b holds at touch below on)) (cases_lt k left.from);
+      before = λ k m. ⊎_elim (λ (e : shard ≡ k). omega arith)
+          (λ (o : Contains v'.pieces k). let l = a.before k o in let on = next.on in omega arith) (within_cases shard v'.pieces k m);
+      done = λ i k b holds at touch below. ⊎_elim (λ (l : k < left.from). within_tail shard v'.pieces k (a.done i k b holds at touch l))
+          (λ (on : left.from ≤ k). subst (λ (q : ℕ). Contains (shard ∷ v'.pieces) q) (sym (only_shard i k b holds at touch below on))
+          (within_head shard v'.pieces)) (cases_lt k left.from);
     }
       where
         held : v1.seat.held ≡ Some h.index

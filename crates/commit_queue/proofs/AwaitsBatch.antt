@@ -3,12 +3,14 @@ use Rattle.std.proofs.Common.{◌≡◌, Option, unwrap_or, Some, None, [], ◌�
 use mathlib.Core.Option.{some}
 use lib.ListN.{get_elem?}
 use Rattle.wal_base.specs.declared.entry.Entry.{Entry}
+use Rattle.wal_base.proofs.Laws.{at_prefix}
 use Rattle.batch_repr.specs.declared.batch.Batch.{Batch}
 use Rattle.batch_repr.specs.declared.limits.TheConstants.{BATCHES_MAX}
-use Rattle.arena_list.specs.Versions.{Version}
+use Rattle.memtable_shards.specs.Versions.{Version}
 use Rattle.memtable_shards.specs.Pieces.{PiecesLeft}
 use Rattle.publish_core.specs.declared.seat.Kind.TheVariants.{Producer, Worker}
 use Rattle.publish_core.specs.declared.seat.Reading.{Reading}
+use Rattle.publish_core.specs.declared.state.TheConstants.{SLOTS}
 use Rattle.publish_core.specs.Machine.{ends, both_held, held_or}
 use Rattle.publish_core.proofs.Laws.{at_end, ends_snoc}
 use Rattle.commit_queue.specs.declared.view.View.{View}
@@ -47,7 +49,7 @@ pub can_place_next : (v v' : View) (free : Bool) (n p : ℕ) (b : Batch) → Awa
     → b.first ≡ n → p < BATCHES_MAX → CanPlace v' b
 can_place_next v v' free n p b a r found first few = let empty : r.0 ≡ 0 = r.2.0 found in let l : length v.history ≡ p = a.placed_is in
     subst (λ (x : View). CanPlace x b) (sym r.1) record {
-      empty = ap (λ (w : ℕ). Some (let x : Reading = record { at = v.head % 64; word = w } in x)) empty;
+      empty = ap (λ (w : ℕ). Some (let x : Reading = record { at = v.head % SLOTS; word = w } in x)) empty;
       idle = a.idle;
       follows = first ∙ a.next_is;
       few = omega arith;
@@ -135,7 +137,7 @@ unapplied_adopted v w v' pieces idle clean h t = record {
   index = h.index;
   batch = h.batch;
   holds = t.held ∙ ap (λ (x : Option ℕ). both_held x w.seat.held) idle ∙ h.holds;
-  at = t.has_both h.index h.batch h.at;
+  at = at_prefix w.history v'.history t.has_both h.index h.batch h.at;
   entries = h.entries;
   first = h.first;
   all = h.all;

@@ -1,21 +1,26 @@
 -- How a sound step of the ring's machine becomes a step that keeps the rule of the table.
-use Rattle.std.proofs.Common.{◌≡◌, ◌≢◌, ℕ, zero, suc, ◌+◌, ◌*◌, ◌^◌, ◌<◌, ◌≤◌, List, [], ◌∷◌, length, get_or, set, Some, None, sym, refl, ap, ◌∙◌, subst, ap₂, inl, inr, ⊎_elim, arith, length-set, get_or-set_other, get_or-set_same}
+use Rattle.std.proofs.Common.{◌≡◌, ◌≢◌, ℕ, zero, suc, ◌+◌, ◌*◌, ◌<◌, ◌≤◌, List, [], ◌∷◌, length, get_or, set, Some, None, sym, refl, ap, ◌∙◌, subst, ap₂, inl, inr, ⊎_elim, arith, length-set, get_or-set_other, get_or-set_same}
 use mathlib.Core.Option.{some}
 use lib.ListN.{get_elem?}
 use lib.Seq.{set-get_or}
 use Rattle.atomic_table.specs.Table.{Act, keeps, Valid, carried_after, stepped}
 use Rattle.atomic_table.proofs.Lists.{at_set}
+use Rattle.wal_base.specs.Prefixes.{IsPrefixOf}
+use Rattle.wal_base.proofs.Laws.{at_prefix, prefix_same, prefix_then}
 use Rattle.batch_repr.specs.declared.batch.Batch.{Batch}
-use Rattle.arena_list.specs.Versions.{Version}
+use Rattle.batch_repr.specs.declared.limits.TheConstants.{BATCHES_MAX}
+use Rattle.memtable_shards.specs.Versions.{Version}
 use Rattle.publish_core.specs.declared.seat.Kind.TheVariants.{Producer, Worker, Spent}
 use Rattle.publish_core.specs.declared.seat.SeatState.{SeatState}
+use Rattle.publish_core.specs.declared.state.TheConstants.{SLOTS, END_LIMIT}
 use Rattle.publish_core.specs.Machine.{Among, updated, ends, visible, Acts}
 use Rattle.publish_core.proofs.Laws.{put_here, put_else, at_put}
 use Rattle.commit_queue.specs.declared.pipe_table.TableOpening.{TableOpening}
 use Rattle.commit_queue.specs.declared.view.AckedKnown.{AckedKnown}
 use Rattle.commit_queue.specs.declared.view.View.{View}
+use Rattle.commit_queue.specs.declared.layout.TheConstants.{ENDS, VISIBLE, ACKED, RING_FROM, TURNS_FROM, WORDS, HALF}
 use Rattle.commit_queue.specs.Shards.{HasVersions}
-use Rattle.commit_queue.specs.Rule.{RingState, Slot, TableState, numbers, IsSoundRing, turn_word, Shows, IsPrefix, PiecesOk, ViewOk, AckedKnownOk, Linked}
+use Rattle.commit_queue.specs.Rule.{RingState, Slot, TableState, numbers, IsSoundRing, turn_word, Shows, PiecesOk, ViewOk, AckedKnownOk, Linked}
 use Rattle.commit_queue.specs.Tells.{Seated}
 
 -- a seat that acts was not taken in
@@ -30,15 +35,15 @@ pub record Becomes (o : TableOpening) (s : TableState) (r : Linked o s) (id : �
   pub same_base : core.base ≡ r.core.base
   pub same_made : core.made ≡ r.core.made
   pub seats : core.seats ≡ updated r.core.seats id w.seat
-  pub longer : IsPrefix r.core.batches core.batches
+  pub longer : IsPrefixOf r.core.batches core.batches
   pub others : id ≢ 0 → (core.batches ≡ r.core.batches) × (core.head ≡ r.core.head)
-  pub few : length core.batches ≤ 1048576
-  pub small : (i : ℕ) → i < length core.batches → ends numbers core.base core.batches (suc i) < 2 ^ 56
+  pub few : length core.batches ≤ BATCHES_MAX
+  pub small : (i : ℕ) → i < length core.batches → ends numbers core.base core.batches (suc i) < END_LIMIT
   pub first : (i : ℕ) (b : Batch) → get_elem? core.batches i ≡ some b → b.first ≡ ends numbers core.base core.batches i
   pub shows : Shows core words
   pub base_is : w.seat.kind ≢ Spent → (w.base ≡ r.core.base) × (w.absorbed_base ≡ r.core.base) × (w.opening ≡ o.shards.value)
-  pub known : IsPrefix w.history core.batches
-  pub absorbed : IsPrefix w.absorbed core.batches
+  pub known : IsPrefixOf w.history core.batches
+  pub absorbed : IsPrefixOf w.absorbed core.batches
   pub seen : w.absorbed ≡ [] → w.seat.seen ≤ length w.history
   pub producer : w.seat.kind ≡ Producer → id ≡ 0
   pub whole : id ≡ 0 → w.history ≡ core.batches
@@ -53,9 +58,9 @@ pub record Becomes (o : TableOpening) (s : TableState) (r : Linked o s) (id : �
       → AckedKnownOk core.acked core.made j a k
 
 -- a batch that stands at its place in the longer list, and whose place is within the shorter one, stands there too
-pub prefix_at : (xs ys : List Batch) → IsPrefix xs ys → (i : ℕ) → i < length xs → (b : Batch) → get_elem? ys i ≡ some b
+pub prefix_at : (xs ys : List Batch) → IsPrefixOf xs ys → (i : ℕ) → i < length xs → (b : Batch) → get_elem? ys i ≡ some b
     → get_elem? xs i ≡ some b
-prefix_at xs ys pre i l b e = let x = at_some xs i l in x.1 ∙ sym (pre i x.0 x.1) ∙ e
+prefix_at xs ys pre i l b e = let x = at_some xs i l in x.1 ∙ sym (at_prefix xs ys pre i x.0 x.1) ∙ e
   where
     at_some : (xs : List Batch) (i : ℕ) → i < length xs → (x : Batch) × (get_elem? xs i ≡ some x)
     at_some [] i l = absurd (omega arith)
@@ -63,7 +68,7 @@ prefix_at xs ys pre i l b e = let x = at_some xs i l in x.1 ∙ sym (pre i x.0 x
     at_some (x ∷ xs) (suc i) l = at_some xs i (omega arith)
 
 -- a shard's versions stay those of the opening and of what is applied, as batches are appended
-keeps_versions : (o : TableOpening) (s : TableState) (r : Linked o s) (c : RingState) → IsPrefix r.core.batches c.batches
+keeps_versions : (o : TableOpening) (s : TableState) (r : Linked o s) (c : RingState) → IsPrefixOf r.core.batches c.batches
     → c.done ≡ r.core.done → (k : ℕ) (x : List Version)
     → HasVersions o.shards.value r.core.batches (r.core.done k) k x → HasVersions o.shards.value c.batches (c.done k) k x
 keeps_versions o s r c longer dones k x h = subst (λ (d : List ℕ). HasVersions o.shards.value c.batches d k x)
@@ -71,7 +76,7 @@ keeps_versions o s r c longer dones k x h = subst (λ (d : List ℕ). HasVersion
       h.0,
       h.1,
       λ v. (
-        (λ has. ⊎_elim (λ old. inl old) (λ new. inr (new.0, new.1, new.2, longer new.0 new.1 new.3, new.4)) ((h.2 v).0 has)),
+        (λ has. ⊎_elim (λ old. inl old) (λ new. inr (new.0, new.1, new.2, at_prefix r.core.batches c.batches longer new.0 new.1 new.3, new.4)) ((h.2 v).0 has)),
         (λ has. ⊎_elim (λ old. (h.2 v).1 (inl old))
             (λ new. (h.2 v).1 (inr
             (new.0, new.1, new.2, prefix_at r.core.batches c.batches longer new.0 (r.sound.known new.0 k new.2) new.1 new.3, new.4))) has),
@@ -117,8 +122,8 @@ linked o s r id words w b = record {
       let away : j ≡ 0 → id ≢ 0 = λ z e. t.0 (z ∙ sym e) in record {
         seat = ap (λ (f : ℕ → SeatState). f j) b.seats ∙ put_else r.core.seats id w.seat j t.0 ∙ ok.seat;
         base = λ live. let e = ok.base live in (e.0 ∙ sym b.same_base, e.1 ∙ sym b.same_base, e.2);
-        known = λ k y e. b.longer k y (ok.known k y e);
-        absorbed = λ k y e. b.longer k y (ok.absorbed k y e);
+        known = prefix_then v.history r.core.batches b.core.batches ok.known b.longer;
+        absorbed = prefix_then v.absorbed r.core.batches b.core.batches ok.absorbed b.longer;
         seen = ok.seen;
         producer = ok.producer;
         whole = λ z. ok.whole z ∙ sym (b.others (away z)).0;
@@ -150,8 +155,8 @@ pub record Turns (o : TableOpening) (s : TableState) (r : Linked o s) (id : ℕ)
   pub shows : Shows core words
   pub base_is : (w.base ≡ v.base) × (w.absorbed_base ≡ v.absorbed_base) × (w.opening ≡ v.opening)
   pub same_kind : w.seat.kind ≡ v.seat.kind
-  pub known : IsPrefix w.history r.core.batches
-  pub absorbed : IsPrefix w.absorbed r.core.batches
+  pub known : IsPrefixOf w.history r.core.batches
+  pub absorbed : IsPrefixOf w.absorbed r.core.batches
   pub seen : w.absorbed ≡ [] → w.seat.seen ≤ length w.history
   pub whole : id ≡ 0 → w.history ≡ r.core.batches
   pub head_is : w.head ≡ v.head
@@ -175,17 +180,17 @@ turned o s r id words w v at t = let ok = r.each_view id v at in linked o s r id
   same_base = t.same_base;
   same_made = t.same_made;
   seats = t.seats;
-  longer = λ k b e. ap (λ (l : List Batch). get_elem? l k) t.batches ∙ e;
+  longer = subst (IsPrefixOf r.core.batches) (sym t.batches) (prefix_same r.core.batches);
   others = λ _. (t.batches, t.heads);
-  few = subst (λ (l : List Batch). length l ≤ 1048576) (sym t.batches) r.few;
-  small = subst (λ (x : ℕ × List Batch). (i : ℕ) → i < length x.1 → ends numbers x.0 x.1 (suc i) < 2 ^ 56)
+  few = subst (λ (l : List Batch). length l ≤ BATCHES_MAX) (sym t.batches) r.few;
+  small = subst (λ (x : ℕ × List Batch). (i : ℕ) → i < length x.1 → ends numbers x.0 x.1 (suc i) < END_LIMIT)
       (λ k. (sym t.same_base k, sym t.batches k)) r.small;
   first = subst (λ (x : ℕ × List Batch). (i : ℕ) (b : Batch) → get_elem? x.1 i ≡ some b → b.first ≡ ends numbers x.0 x.1 i)
       (λ k. (sym t.same_base k, sym t.batches k)) r.first;
   shows = t.shows;
   base_is = λ live. let e = ok.base (λ q. live (t.same_kind ∙ q)) in (t.base_is.0 ∙ e.0, t.base_is.1 ∙ e.1, t.base_is.2 ∙ e.2);
-  known = subst (IsPrefix w.history) (sym t.batches) t.known;
-  absorbed = subst (IsPrefix w.absorbed) (sym t.batches) t.absorbed;
+  known = subst (IsPrefixOf w.history) (sym t.batches) t.known;
+  absorbed = subst (IsPrefixOf w.absorbed) (sym t.batches) t.absorbed;
   seen = t.seen;
   producer = λ q. ok.producer (sym t.same_kind ∙ q);
   whole = λ z. t.whole z ∙ sym t.batches;
@@ -234,32 +239,32 @@ stays o s k id me then w l told = (
 )
 
 -- a step that writes x into the ring slot k
-pub shows_ring : (c c' : RingState) (words : List ℕ) (k x : ℕ) → k < 64 → Shows c words → c'.head ≡ c.head → c'.tail ≡ c.tail
+pub shows_ring : (c c' : RingState) (words : List ℕ) (k x : ℕ) → k < SLOTS → Shows c words → c'.head ≡ c.head → c'.tail ≡ c.tail
     → visible numbers c' ≡ visible numbers c → c'.acked ≡ c.acked → c'.turn ≡ c.turn → c'.ring ≡ updated c.ring k x → Shows c'
-    (set words (k + 3) x)
-shows_ring c c' words k x small h hd tl vis ack trn ring = let wide : length words ≡ 75 = h.wide in record {
-  wide = length-set words (k + 3) x ∙ h.wide;
-  ends_word = get_or-set_other words (k + 3) 0 x 0 (λ e. omega arith) ∙ h.ends_word
-      ∙ ap₂ (λ (a b : ℕ). a * 4294967296 + b) (sym hd) (sym tl);
-  visible_word = get_or-set_other words (k + 3) 1 x 0 (λ e. omega arith) ∙ h.visible_word ∙ sym vis;
-  acked_word = get_or-set_other words (k + 3) 2 x 0 (λ e. omega arith) ∙ h.acked_word ∙ sym ack;
-  ring_word = λ j l. subst (λ (f : ℕ → ℕ). get_or (set words (k + 3) x) (j + 3) 0 ≡ f j) (sym ring)
-      (at_put (λ (q y : ℕ). q < 64 → get_or (set words (k + 3) x) (q + 3) 0 ≡ y) c.ring k x j
-      (λ _. get_or-set_same words (k + 3) x 0 (omega arith))
-      (λ n l'. get_or-set_other words (k + 3) (j + 3) x 0 (λ e. n (omega arith)) ∙ h.ring_word j l') l);
-  shard_word = λ j l. get_or-set_other words (k + 3) (j + 67) x 0 (λ e. omega arith) ∙ h.shard_word j l
+    (set words (k + RING_FROM) x)
+shows_ring c c' words k x small h hd tl vis ack trn ring = let wide : length words ≡ WORDS = h.wide in record {
+  wide = length-set words (k + RING_FROM) x ∙ h.wide;
+  ends_word = get_or-set_other words (k + RING_FROM) ENDS x 0 (λ e. omega arith) ∙ h.ends_word
+      ∙ ap₂ (λ (a b : ℕ). a * HALF + b) (sym hd) (sym tl);
+  visible_word = get_or-set_other words (k + RING_FROM) VISIBLE x 0 (λ e. omega arith) ∙ h.visible_word ∙ sym vis;
+  acked_word = get_or-set_other words (k + RING_FROM) ACKED x 0 (λ e. omega arith) ∙ h.acked_word ∙ sym ack;
+  ring_word = λ j l. subst (λ (f : ℕ → ℕ). get_or (set words (k + RING_FROM) x) (j + RING_FROM) 0 ≡ f j) (sym ring)
+      (at_put (λ (q y : ℕ). q < SLOTS → get_or (set words (k + RING_FROM) x) (q + RING_FROM) 0 ≡ y) c.ring k x j
+      (λ _. get_or-set_same words (k + RING_FROM) x 0 (omega arith))
+      (λ n l'. get_or-set_other words (k + RING_FROM) (j + RING_FROM) x 0 (λ e. n (omega arith)) ∙ h.ring_word j l') l);
+  shard_word = λ j l. get_or-set_other words (k + RING_FROM) (j + TURNS_FROM) x 0 (λ e. omega arith) ∙ h.shard_word j l
       ∙ ap (λ (f : ℕ → ℕ). turn_word (f j)) (sym trn);
 }
 
 -- a step that writes x into word 0
-pub shows_ends : (c c' : RingState) (words : List ℕ) (x : ℕ) → Shows c words → x ≡ c'.head * 4294967296 + c'.tail
-    → visible numbers c' ≡ visible numbers c → c'.acked ≡ c.acked → c'.turn ≡ c.turn → c'.ring ≡ c.ring → Shows c' (set words 0 x)
-shows_ends c c' words x h is vis ack trn ring = let wide : length words ≡ 75 = h.wide in record {
-  wide = length-set words 0 x ∙ h.wide;
-  ends_word = get_or-set_same words 0 x 0 (omega arith) ∙ is;
-  visible_word = get_or-set_other words 0 1 x 0 (λ e. omega arith) ∙ h.visible_word ∙ sym vis;
-  acked_word = get_or-set_other words 0 2 x 0 (λ e. omega arith) ∙ h.acked_word ∙ sym ack;
-  ring_word = λ j l. get_or-set_other words 0 (j + 3) x 0 (λ e. omega arith) ∙ h.ring_word j l ∙ ap (λ (f : ℕ → ℕ). f j) (sym ring);
-  shard_word = λ j l. get_or-set_other words 0 (j + 67) x 0 (λ e. omega arith) ∙ h.shard_word j l
+pub shows_ends : (c c' : RingState) (words : List ℕ) (x : ℕ) → Shows c words → x ≡ c'.head * HALF + c'.tail
+    → visible numbers c' ≡ visible numbers c → c'.acked ≡ c.acked → c'.turn ≡ c.turn → c'.ring ≡ c.ring → Shows c' (set words ENDS x)
+shows_ends c c' words x h is vis ack trn ring = let wide : length words ≡ WORDS = h.wide in record {
+  wide = length-set words ENDS x ∙ h.wide;
+  ends_word = get_or-set_same words ENDS x 0 (omega arith) ∙ is;
+  visible_word = get_or-set_other words ENDS VISIBLE x 0 (λ e. omega arith) ∙ h.visible_word ∙ sym vis;
+  acked_word = get_or-set_other words ENDS ACKED x 0 (λ e. omega arith) ∙ h.acked_word ∙ sym ack;
+  ring_word = λ j l. get_or-set_other words ENDS (j + RING_FROM) x 0 (λ e. omega arith) ∙ h.ring_word j l ∙ ap (λ (f : ℕ → ℕ). f j) (sym ring);
+  shard_word = λ j l. get_or-set_other words ENDS (j + TURNS_FROM) x 0 (λ e. omega arith) ∙ h.shard_word j l
       ∙ ap (λ (f : ℕ → ℕ). turn_word (f j)) (sym trn);
 }

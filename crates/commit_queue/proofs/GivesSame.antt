@@ -1,6 +1,6 @@
 -- A shard that was taken may be given back with the same versions.
 use Rattle.std.proofs.Common.{ℕ, List, sym, ap, subst}
-use Rattle.arena_list.specs.Versions.{Version}
+use Rattle.memtable_shards.specs.Versions.{Version}
 use Rattle.memtable_shards.specs.Versions.{HasSameVersions}
 use Rattle.commit_queue.specs.declared.view.View.{View}
 use Rattle.commit_queue.specs.Tells.{TakesShard}

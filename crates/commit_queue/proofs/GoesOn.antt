@@ -1,22 +1,19 @@
 -- What a call that publishes or reads leaves of a view, and what of calls in a row.
-use Rattle.std.proofs.Common.{◌≡◌, ◌≢◌, ⊎_elim, le_refl, [], ◌∷◌, ℕ, suc, ◌%◌, ◌≤◌, List, length, sym, refl, ap, ◌∙◌, subst, arith}
+use Rattle.std.proofs.Common.{◌≡◌, ◌≢◌, ⊎_elim, le_refl, ℕ, ◌%◌, ◌≤◌, List, length, sym, refl, ap, ◌∙◌, subst, arith}
+use Rattle.wal_base.specs.Prefixes.{IsPrefixOf}
+use Rattle.wal_base.proofs.Laws.{longer_prefix, prefix_same, prefix_then}
 use Rattle.batch_repr.specs.declared.batch.Batch.{Batch}
 use Rattle.batch_repr.specs.declared.limits.TheConstants.{BATCHES_MAX}
 use Rattle.publish_core.specs.Machine.{ends}
-use Rattle.publish_core.proofs.Laws.{at_below, ends_mono}
+use Rattle.publish_core.proofs.Laws.{ends_mono}
 use Rattle.commit_queue.specs.declared.published.Published.{Published}
 use Rattle.commit_queue.specs.declared.published.Published.TheVariants.{Raised, NotReady, Raced}
 use Rattle.commit_queue.specs.declared.view.View.{View}
-use Rattle.commit_queue.specs.Rule.{numbers, IsPrefix}
+use Rattle.commit_queue.specs.Rule.{numbers}
 use Rattle.commit_queue.specs.Views.{read_view, ends_view}
 use Rattle.commit_queue.specs.Tells.{SeesVisible}
 use Rattle.commit_queue.specs.Calls.{looked_view, Tries, ViewGoesOn, SeesAcked}
 use Rattle.commit_queue.proofs.Publishes.{at_end_of}
-
-pub longer_prefix : (xs ys : List Batch) → IsPrefix xs ys → length xs ≤ length ys
-longer_prefix [] ys pre = omega arith
-longer_prefix (x ∷ xs) [] pre = let l = at_below {A = Batch} [] 0 x (pre 0 x refl) in absurd (omega arith)
-longer_prefix (x ∷ xs) (y ∷ ys) pre = let l = longer_prefix xs ys (λ k b e. pre (suc k) b e) in omega arith
 
 pub goes_on_same : (v : View) → ViewGoesOn v v
 goes_on_same v = record {
@@ -32,7 +29,7 @@ goes_on_same v = record {
   base = refl;
   opening = refl;
   head = refl;
-  history = λ k b e. e;
+  history = prefix_same v.history;
   whole = λ _. refl;
   published = le_refl v.seat.published;
   acked = le_refl v.seat.acked;
@@ -54,7 +51,7 @@ goes_on_both a b c f g = record {
   base = g.base ∙ f.base;
   opening = g.opening ∙ f.opening;
   head = g.head ∙ f.head;
-  history = λ k x e. g.history k x (f.history k x e);
+  history = prefix_then a.history b.history c.history f.history g.history;
   whole = λ k. g.whole (f.kind ∙ k) ∙ f.whole k;
   published = (let x = f.published in let y = g.published in omega arith);
   acked = (let x = f.acked in let y = g.acked in omega arith);
@@ -77,7 +74,7 @@ goes_on_read v at w = record {
   base = refl;
   opening = refl;
   head = refl;
-  history = λ k b e. e;
+  history = prefix_same v.history;
   whole = λ _. refl;
   published = le_refl v.seat.published;
   acked = le_refl v.seat.acked;
@@ -99,7 +96,7 @@ tries_goes_on v v' (Raised i e) t = subst (ViewGoesOn v) (sym t.view) record {
   base = refl;
   opening = refl;
   head = refl;
-  history = λ k b q. t.goes_further k b (t.goes_on k b q);
+  history = prefix_then v.history t.claimed t.history t.goes_on t.goes_further;
   whole = t.whole;
   published = t.published;
   acked = le_refl v.seat.acked;
@@ -120,7 +117,7 @@ tries_goes_on v v' (NotReady h t w) s = ⊎_elim
       base = refl;
       opening = refl;
       head = refl;
-      history = λ k b q. q;
+      history = prefix_same v.history;
       whole = λ _. refl;
       published = le_refl v.seat.published;
       acked = le_refl v.seat.acked;
@@ -140,7 +137,7 @@ tries_goes_on v v' (NotReady h t w) s = ⊎_elim
       base = refl;
       opening = refl;
       head = refl;
-      history = λ k b q. q;
+      history = prefix_same v.history;
       whole = λ _. refl;
       published = le_refl v.seat.published;
       acked = le_refl v.seat.acked;
@@ -161,7 +158,7 @@ tries_goes_on v v' (Raced h t) s = subst (ViewGoesOn v) (sym s.view) record {
   base = refl;
   opening = refl;
   head = refl;
-  history = λ k b q. q;
+  history = prefix_same v.history;
   whole = λ _. refl;
   published = le_refl v.seat.published;
   acked = le_refl v.seat.acked;
@@ -205,7 +202,7 @@ acked_goes_on v v' r t = subst (ViewGoesOn v) (sym t.0) record {
   base = refl;
   opening = refl;
   head = refl;
-  history = λ k b q. q;
+  history = prefix_same v.history;
   whole = λ _. refl;
   published = le_refl v.seat.published;
   acked = t.1;
@@ -217,7 +214,7 @@ acked_goes_on v v' r t = subst (ViewGoesOn v) (sym t.0) record {
 pub past_all : (a v v' : View) (r n e : ℕ) → ViewGoesOn a v → SeesVisible v r v' → n ≤ length a.history
     → e ≡ ends numbers a.base a.history n → e ≤ r → n ≤ v'.seat.published
 past_all a v v' r n e g t few end le = let h : List Batch = t.history in
-    let pre : IsPrefix a.history h = λ k b q. t.grew.0 k b (g.history k b q) in let l = longer_prefix a.history h pre in
+    let pre : IsPrefixOf a.history h = prefix_then a.history v.history h g.history t.grew.0 in let l = longer_prefix a.history h pre in
     let same : e ≡ ends numbers v.base h n = end ∙ at_end_of a.history h pre a.base n few
     ∙ ap (λ (x : ℕ). ends numbers x h n) (sym g.base) in
     let end_is = t.end_is in

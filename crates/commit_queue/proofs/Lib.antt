@@ -16,3 +16,5 @@ mod AppliesSome
 mod GivesSame
 mod Versioned
 mod TakesTurns
+mod Limits
+mod Shown

@@ -4,9 +4,10 @@ use mathlib.Core.Option.{some, some-injective}
 use lib.ListN.{get_elem?, length-replicate, get_or-replicate}
 use Rattle.atomic_table.specs.Table as table
 use Rattle.atomic_table.proofs.Lists.{at_map}
+use Rattle.wal_base.proofs.Laws.{prefix_same}
 use Rattle.batch_repr.specs.declared.batch.Batch.{Batch}
 use Rattle.memtable_shards.specs.declared.sharding.TheConstants.{SHARDS}
-use Rattle.arena_list.specs.Versions.{Version}
+use Rattle.memtable_shards.specs.Versions.{Version}
 use Rattle.memtable_shards.specs.Versions.{touches}
 use Rattle.publish_core.specs.Machine.{nobody}
 use Rattle.publish_core.specs.Schedule as start
@@ -14,16 +15,17 @@ use Rattle.publish_core.proofs.Laws.{put_here, at_below}
 use Rattle.publish_core.proofs.Laws.{opens}
 use Rattle.commit_queue.specs.declared.pipe_table.TableOpening.{TableOpening}
 use Rattle.commit_queue.specs.declared.view.View.{View}
+use Rattle.commit_queue.specs.declared.layout.TheConstants.{VISIBLE, RING_FROM, TURNS_FROM, WORDS}
 use Rattle.commit_queue.specs.Shards.{NumberedBelow, IsApplied}
 use Rattle.commit_queue.specs.Rule.{RingState, Slot, numbers, ViewOk, AtHome, Linked}
 use Rattle.commit_queue.specs.Views.{first_view}
 
 -- the words of a new table
 abbrev pub opening_words : ℕ → List ℕ
-opening_words base = set (replicate 75 0) 1 base
+opening_words base = set (replicate WORDS 0) VISIBLE base
 
-word_zero : (base i : ℕ) → i < 75 → i ≢ 1 → get_or (opening_words base) i 0 ≡ 0
-word_zero base i l n = get_or-set_other (replicate 75 0) 1 i base 0 n ∙ get_or-replicate {A = ℕ} 75 i 0 0 l
+word_zero : (base i : ℕ) → i < WORDS → i ≢ VISIBLE → get_or (opening_words base) i 0 ≡ 0
+word_zero base i l n = get_or-set_other (replicate WORDS 0) VISIBLE i base 0 n ∙ get_or-replicate {A = ℕ} WORDS i 0 0 l
 
 -- a place within a list has an item, however it is read
 item_at : {A : Type 0} (xs : List A) (i : ℕ) → i < length xs → (x : A) × (get_elem? xs i ≡ some x) × (slice_get xs i ≡ Some x)
@@ -51,7 +53,7 @@ pub begins : (o : TableOpening) (slots : List Slot) → length o.shards.value �
     → slots ≡ map Some o.shards.value → Linked o (table.opening (opening_words o.base) slots (first_view o.base o.shards.value))
 begins o slots eight below are = let base : ℕ = o.base in let shards : List (List Version) = o.shards.value in
     let c : RingState = start.opening base in
-    let wide : length (opening_words base) ≡ 75 = length-set (replicate 75 0) 1 base ∙ length-replicate {A = ℕ} 75 0 in record {
+    let wide : length (opening_words base) ≡ WORDS = length-set (replicate WORDS 0) VISIBLE base ∙ length-replicate {A = ℕ} WORDS 0 in record {
       core = c;
       sound = opens numbers touches base;
       base_is = refl;
@@ -62,10 +64,10 @@ begins o slots eight below are = let base : ℕ = o.base in let shards : List (L
       shows = record {
         wide = wide;
         ends_word = word_zero base 0 (omega arith) (λ e. omega arith) ∙ (omega arith);
-        visible_word = get_or-set_same (replicate 75 0) 1 base 0 (omega arith);
+        visible_word = get_or-set_same (replicate WORDS 0) VISIBLE base 0 (omega arith);
         acked_word = word_zero base 2 (omega arith) (λ e. omega arith);
-        ring_word = λ k l. word_zero base (k + 3) (omega arith) (λ e. omega arith);
-        shard_word = λ k l. word_zero base (k + 67) (omega arith) (λ e. omega arith);
+        ring_word = λ k l. word_zero base (k + RING_FROM) (omega arith) (λ e. omega arith);
+        shard_word = λ k l. word_zero base (k + TURNS_FROM) (omega arith) (λ e. omega arith);
       };
       made = refl;
       each_view = λ j v e. view j v e;
@@ -76,8 +78,8 @@ begins o slots eight below are = let base : ℕ = o.base in let shards : List (L
     view zero v e = subst (ViewOk o.shards.value (start.opening o.base) 0) (some-injective (first_view o.base o.shards.value) v e) record {
       seat = put_here (λ _. nobody) 0 (first_view o.base o.shards.value).seat;
       base = λ _. (refl, refl, refl);
-      known = λ k b q. let l = at_below {A = Batch} [] k b q in absurd (omega arith);
-      absorbed = λ k b q. let l = at_below {A = Batch} [] k b q in absurd (omega arith);
+      known = prefix_same [];
+      absorbed = prefix_same [];
       seen = λ _. omega arith;
       producer = λ _. refl;
       whole = λ _. refl;

@@ -6,12 +6,15 @@ use native.Mathlib.Decide.{ℕ_discrete}
 use native.Mathlib.Nat.{mod-eq_of_lt}
 use lib.ListN.{get_elem?}
 use Rattle.atomic_table.specs.Table.{step, keeps, Allows}
-use Rattle.atomic_table.proofs.Lists.{at_longer}
+use Rattle.wal_base.specs.Prefixes.{IsPrefixOf}
+use Rattle.wal_base.proofs.Laws.{prefix_same, prefix_then}
 use Rattle.batch_repr.specs.declared.batch.Batch.{Batch}
+use Rattle.batch_repr.specs.declared.limits.TheConstants.{BATCHES_MAX}
 use Rattle.memtable_shards.specs.Versions.{touches}
 use Rattle.publish_core.specs.declared.seat.Kind.TheVariants.{Producer, Spent}
 use Rattle.publish_core.specs.declared.seat.Reading.{Reading}
 use Rattle.publish_core.specs.declared.seat.SeatState.{SeatState}
+use Rattle.publish_core.specs.declared.state.TheConstants.{SLOTS, END_LIMIT}
 use Rattle.publish_core.specs.Machine.{updated, ends, Acts, after_load_slot, placed_seat, after_place, after_admit}
 use Rattle.publish_core.proofs.Laws.{append_at, at_below, at_end, ends_append, ends_snoc}
 use Rattle.publish_core.proofs.Laws.{all_admitted, kept_place}
@@ -19,20 +22,21 @@ use Rattle.publish_core.proofs.Laws.{kept_admit}
 use Rattle.publish_core.proofs.Laws.{kept_load_slot}
 use Rattle.commit_queue.specs.declared.pipe_table.TableOpening.{TableOpening}
 use Rattle.commit_queue.specs.declared.view.View.{View}
-use Rattle.commit_queue.specs.Rule.{RingState, numbers, IsPrefix, Linked}
+use Rattle.commit_queue.specs.declared.layout.TheConstants.{ENDS, RING_FROM, HALF}
+use Rattle.commit_queue.specs.Rule.{RingState, numbers, Linked}
 use Rattle.commit_queue.specs.Views.{read_seat, read_view, placed_view, admitted_view}
 use Rattle.commit_queue.specs.Tells.{Seated, TellsSlot, TellsPlaced, TellsAdmitted}
 use Rattle.commit_queue.specs.Calls.{CanPlace, next_number}
 use Rattle.commit_queue.proofs.Becomes.{linked, turned, stays, shows_seats, shows_ring, shows_ends, put_again}
 
 module _ (o : TableOpening) where
-  pub sees_slot : (n id : ℕ) (me : Seated) (at : ℕ) → at < 64 → Acts me.0.seat
-      → Allows (Linked o) n id me (at + 3) (λ x. x) (TellsSlot (step n (at + 3) 0 0 none) me)
+  pub sees_slot : (n id : ℕ) (me : Seated) (at : ℕ) → at < SLOTS → Acts me.0.seat
+      → Allows (Linked o) n id me (at + RING_FROM) (λ x. x) (TellsSlot (step n (at + RING_FROM) 0 0 none) me)
   sees_slot n id me at small acts s r wide has _ =
-      let c : RingState = r.core in let v : View = me.0 in let ok = r.each_view id v has in let x : ℕ = get_or s.words (at + 3) 0 in
+      let c : RingState = r.core in let v : View = me.0 in let ok = r.each_view id v has in let x : ℕ = get_or s.words (at + RING_FROM) 0 in
       let w : View = read_view v at x in
-      let back : at + 3 - 3 ≡ at = omega arith in
-      stays o s (at + 3) id me (TellsSlot (step n (at + 3) 0 0 none) me) w
+      let back : at + RING_FROM - RING_FROM ≡ at = omega arith in
+      stays o s (at + RING_FROM) id me (TellsSlot (step n (at + RING_FROM) 0 0 none) me) w
       (turned o s r id s.words w v has record {
         core = after_load_slot numbers touches c id at;
         sound = kept_load_slot numbers touches c r.sound id at (subst Acts (sym ok.seat) acts) small;
@@ -59,12 +63,12 @@ module _ (o : TableOpening) where
       })
       (refl, ap (λ (a : ℕ). read_view v a x) (sym back))
 
-  pub places : (n : ℕ) (me : Seated) (at new : ℕ) (b : Batch) → at ≡ me.0.head % 64 → new ≡ 2 * (b.first + numbers b)
+  pub places : (n : ℕ) (me : Seated) (at new : ℕ) (b : Batch) → at ≡ me.0.head % SLOTS → new ≡ 2 * (b.first + numbers b)
       → me.0.seat.held ≡ None → me.0.seat.reading ≡ Some record {
         at = at;
         word = 0;
-      } → b.first ≡ next_number me.0 → 0 < numbers b → b.first + numbers b < 2 ^ 56 → length me.0.history < 1048576
-      → Allows (Linked o) n 0 me (at + 3) (λ _. new) (λ _. TellsPlaced b (step n (at + 3) new 0 none) me new)
+      } → b.first ≡ next_number me.0 → 0 < numbers b → b.first + numbers b < END_LIMIT → length me.0.history < BATCHES_MAX
+      → Allows (Linked o) n 0 me (at + RING_FROM) (λ _. new) (λ _. TellsPlaced b (step n (at + RING_FROM) new 0 none) me new)
   places n me at new b at_is new_is idle read first pos fits few s r wide has _ =
       let c : RingState = r.core in let v : View = me.0 in let ok = r.each_view 0 v has in let i : ℕ = length c.batches in
       let w : View = placed_view v b in
@@ -73,8 +77,8 @@ module _ (o : TableOpening) where
       let base' : v.base ≡ c.base =
       (ok.base (λ e. let q : Producer ≡ Spent = sym r.sound.producer ∙ ap (λ (d : SeatState). d.kind) seat ∙ e in cc)).0 in
       let all : i ≡ c.head = all_admitted numbers touches c r.sound idle' in
-      let at_head : at ≡ c.head % 64 = at_is ∙ ap (λ (z : ℕ). z % 64) (ok.head refl) in
-      let read' : (c.seats 0).reading ≡ Some record { at = c.head % 64; word = 0 } = ap (λ (d : SeatState). d.reading) seat ∙ read
+      let at_head : at ≡ c.head % SLOTS = at_is ∙ ap (λ (z : ℕ). z % SLOTS) (ok.head refl) in
+      let read' : (c.seats 0).reading ≡ Some record { at = c.head % SLOTS; word = 0 } = ap (λ (d : SeatState). d.reading) seat ∙ read
       ∙ ap (λ (z : ℕ). Some (let x : Reading = record { at = z; word = 0 } in x)) at_head in
       let first' : b.first ≡ ends numbers c.base c.batches i = first ∙ (λ k. ends numbers (base' k) (hist k) (len k)) in
       let c' : RingState = after_place numbers touches c b in let sound' = kept_place numbers touches c r.sound b all idle' read' pos in
@@ -85,19 +89,19 @@ module _ (o : TableOpening) where
         w,
         keeps,
         tt,
-        linked o s r 0 (set s.words (at + 3) new) w record {
+        linked o s r 0 (set s.words (at + RING_FROM) new) w record {
           core = c';
           sound = sound';
           same_base = refl;
           same_made = refl;
           seats = ap₂ (λ (d : SeatState) (j : ℕ). updated c.seats 0 (placed_seat numbers touches d j)) seat (sym len);
-          longer = λ k x e. append_at c.batches (b ∷ []) k (at_below c.batches k x e) ∙ e;
+          longer = (b ∷ [], refl);
           others = λ ne. absurd (ne refl);
           few = omega arith;
           small = λ k l. dite (ℕ_discrete k i)
-              (λ is. subst (λ (z : ℕ). ends numbers c.base (c.batches ++ b ∷ []) (suc z) < 2 ^ 56) (sym is)
-              (let g : ends numbers c.base (c.batches ++ b ∷ []) (suc i) < 2 ^ 56 = omega arith in g))
-              (λ ne. let l' : k < i = omega arith in subst (λ (z : ℕ). z < 2 ^ 56)
+              (λ is. subst (λ (z : ℕ). ends numbers c.base (c.batches ++ b ∷ []) (suc z) < END_LIMIT) (sym is)
+              (let g : ends numbers c.base (c.batches ++ b ∷ []) (suc i) < END_LIMIT = omega arith in g))
+              (λ ne. let l' : k < i = omega arith in subst (λ (z : ℕ). z < END_LIMIT)
               (sym (ends_append numbers c.base c.batches (b ∷ []) (suc k) (omega arith))) (r.small k l'));
           first = λ k x e. dite (ℕ_discrete k i)
               (λ is. let same : b ≡ x = some-injective b x (sym (at_end c.batches b) ∙ ap (get_elem? (c.batches ++ b ∷ [])) (sym is) ∙ e) in
@@ -106,12 +110,12 @@ module _ (o : TableOpening) where
               (λ ne. let l = at_below (c.batches ++ b ∷ []) k x e in
               let l' : k < i = omega arith in r.first k x (sym (append_at c.batches (b ∷ []) k l') ∙ e)
               ∙ sym (ends_append numbers c.base c.batches (b ∷ []) k (omega arith)));
-          shows = shows_ring c c' s.words at new (let m : c.head % 64 < 64 = omega arith in omega arith) r.shows refl refl
+          shows = shows_ring c c' s.words at new (let m : c.head % SLOTS < SLOTS = omega arith in omega arith) r.shows refl refl
               (ends_append numbers c.base c.batches (b ∷ []) c.published (omega arith)) refl refl
               (ap₂ (updated c.ring) (sym at_head) (ap (λ (z : ℕ). 2 * (z + numbers b)) (sym first') ∙ sym new_is));
           base_is = ok.base;
-          known = subst (λ (l : List Batch). IsPrefix (l ++ b ∷ []) (c.batches ++ b ∷ [])) (sym hist) (λ k x e. e);
-          absorbed = λ k x e. at_longer c.batches (b ∷ []) k x (ok.absorbed k x e);
+          known = subst (λ (l : List Batch). IsPrefixOf (l ++ b ∷ []) (c.batches ++ b ∷ [])) (sym hist) (prefix_same (c.batches ++ b ∷ []));
+          absorbed = prefix_then v.absorbed c.batches (c.batches ++ b ∷ []) ok.absorbed (b ∷ [], refl);
           seen = λ _. omega (arith, length-append v.history (b ∷ []));
           producer = λ _. refl;
           whole = λ _. ap (λ (l : List Batch). l ++ b ∷ []) hist;
@@ -131,30 +135,30 @@ module _ (o : TableOpening) where
       )
 
   pub admits : (n : ℕ) (me : Seated) → length me.0.history ≡ me.0.head + 1
-      → Allows (Linked o) n 0 me 0 (λ x. (x + 4294967296) % 2 ^ 64) (TellsAdmitted (step n 0 4294967296 0 none) me)
+      → Allows (Linked o) n 0 me ENDS (λ x. (x + HALF) % 2 ^ 64) (TellsAdmitted (step n ENDS HALF 0 none) me)
   admits n me more s r wide has _ =
       let c : RingState = r.core in let v : View = me.0 in let ok = r.each_view 0 v has in let w : View = admitted_view v in
       let more' : length c.batches ≡ c.head + 1 = ap length (sym (ok.whole refl)) ∙ more ∙ ap (λ (z : ℕ). z + 1) (ok.head refl) in
-      let x : ℕ = get_or s.words 0 0 in let is : x ≡ c.head * 4294967296 + c.tail = r.shows.ends_word in let few = r.few in
+      let x : ℕ = get_or s.words ENDS 0 in let is : x ≡ c.head * HALF + c.tail = r.shows.ends_word in let few = r.few in
       let th = r.sound.tail_head in
       let c' : RingState = after_admit numbers touches c in (
         w,
         keeps,
         tt,
-        linked o s r 0 (set s.words 0 ((x + 4294967296) % 2 ^ 64)) w record {
+        linked o s r 0 (set s.words ENDS ((x + HALF) % 2 ^ 64)) w record {
           core = c';
           sound = kept_admit numbers touches c r.sound more';
           same_base = refl;
           same_made = refl;
           seats = put_again c.seats 0 v.seat ok.seat;
-          longer = λ k y e. e;
+          longer = prefix_same c.batches;
           others = λ ne. absurd (ne refl);
           few = r.few;
           small = r.small;
           first = r.first;
-          shows = shows_ends c c' s.words ((x + 4294967296) % 2 ^ 64) r.shows
-              (mod-eq_of_lt (let g : x + 4294967296 < 2 ^ 64 = omega arith in g)
-              ∙ (let g : x + 4294967296 ≡ (c.head + 1) * 4294967296 + c.tail = omega arith in g)) refl refl refl refl;
+          shows = shows_ends c c' s.words ((x + HALF) % 2 ^ 64) r.shows
+              (mod-eq_of_lt (let g : x + HALF < 2 ^ 64 = omega arith in g)
+              ∙ (let g : x + HALF ≡ (c.head + 1) * HALF + c.tail = omega arith in g)) refl refl refl refl;
           base_is = ok.base;
           known = ok.known;
           absorbed = ok.absorbed;
@@ -174,17 +178,17 @@ module _ (o : TableOpening) where
       )
 
   -- the same for the seat that is the producer's
-  pub places_at : (n id : ℕ) (me : Seated) (at new : ℕ) (b c : Batch) → id ≡ 0 → c ≡ b → at ≡ me.0.head % 64
-      → new ≡ 2 * (c.first + numbers c) → 0 < numbers c → c.first + numbers c < 2 ^ 56 → CanPlace me.0 c
-      → Allows (Linked o) n id me (at + 3) (λ _. new) (λ _. TellsPlaced b (step n (at + 3) new 0 none) me new)
+  pub places_at : (n id : ℕ) (me : Seated) (at new : ℕ) (b c : Batch) → id ≡ 0 → c ≡ b → at ≡ me.0.head % SLOTS
+      → new ≡ 2 * (c.first + numbers c) → 0 < numbers c → c.first + numbers c < END_LIMIT → CanPlace me.0 c
+      → Allows (Linked o) n id me (at + RING_FROM) (λ _. new) (λ _. TellsPlaced b (step n (at + RING_FROM) new 0 none) me new)
   places_at n id me at new b c z e at_is new_is pos small can = subst
-      (λ (x : ℕ × Batch). Allows (Linked o) n x.0 me (at + 3) (λ _. new) (λ _. TellsPlaced x.1 (step n (at + 3) new 0 none) me new))
+      (λ (x : ℕ × Batch). Allows (Linked o) n x.0 me (at + RING_FROM) (λ _. new) (λ _. TellsPlaced x.1 (step n (at + RING_FROM) new 0 none) me new))
       (λ k. (sym z k, e k))
       (places n me at new c at_is new_is can.idle
       (can.empty ∙ ap (λ (y : ℕ). Some (let r : Reading = record { at = y; word = 0 } in r)) (sym at_is)) can.follows pos small can.few)
 
   pub admits_at : (n id : ℕ) (me : Seated) → id ≡ 0 → length me.0.history ≡ me.0.head + 1
-      → Allows (Linked o) n id me 0 (λ x. (x + 4294967296) % 2 ^ 64) (TellsAdmitted (step n 0 4294967296 0 none) me)
+      → Allows (Linked o) n id me ENDS (λ x. (x + HALF) % 2 ^ 64) (TellsAdmitted (step n ENDS HALF 0 none) me)
   admits_at n id me z more = subst
-      (λ (x : ℕ). Allows (Linked o) n x me 0 (λ y. (y + 4294967296) % 2 ^ 64) (TellsAdmitted (step n 0 4294967296 0 none) me)) (sym z)
+      (λ (x : ℕ). Allows (Linked o) n x me ENDS (λ y. (y + HALF) % 2 ^ 64) (TellsAdmitted (step n ENDS HALF 0 none) me)) (sym z)
       (admits n me more)

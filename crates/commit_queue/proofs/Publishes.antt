@@ -1,12 +1,15 @@
 -- Marking and publishing keep the rule of the table.
-use Rattle.std.proofs.Common.{◌≡◌, ℕ, zero, suc, ◌+◌, ◌*◌, ◌%◌, ◌<◌, ◌≤◌, max, eqb, IsTrue, lt_of_not-le, List, [], ◌∷◌, length, get_or, set, Some, None, sym, refl, ap, ◌∙◌, subst, ap₂, ⊎_elim, arith, length-set, get_or-set_other, get_or-set_same}
+use Rattle.std.specs.Prelude.{Contains}
+use Rattle.std.proofs.Common.{◌≡◌, ℕ, suc, ◌+◌, ◌*◌, ◌%◌, ◌<◌, ◌≤◌, max, eqb, IsTrue, lt_of_not-le, List, [], ◌∷◌, length, get_or, set, Some, None, sym, refl, ap, ◌∙◌, subst, ap₂, ⊎_elim, arith, length-set, get_or-set_other, get_or-set_same}
 use mathlib.Core.Logic.{dite}
-use mathlib.Core.Option.{none, some, some-injective}
+use mathlib.Core.Option.{none, some}
 use native.Mathlib.Decide.{ℕ_discrete, dec_le}
 use lib.ListN.{get_elem?}
 use prog.Atomic.{either}
 use Rattle.atomic_table.specs.Table.{step, keeps, Allows}
 use Rattle.atomic_table.proofs.Lists.{exchanged}
+use Rattle.wal_base.specs.Prefixes.{IsPrefixOf}
+use Rattle.wal_base.proofs.Laws.{prefix_same}
 use Rattle.batch_repr.specs.declared.batch.Batch.{Batch}
 use Rattle.batch_repr.specs.Batches.{IsContiguous}
 use Rattle.memtable_shards.specs.Versions.{touches}
@@ -14,8 +17,9 @@ use Rattle.publish_core.specs.declared.seat.Kind.TheVariants.{Producer}
 use Rattle.publish_core.specs.declared.seat.Claim.TheVariants.{Free, Taken, Emptied}
 use Rattle.publish_core.specs.declared.seat.Stage.TheVariants.{Held, Marked}
 use Rattle.publish_core.specs.declared.seat.SeatState.{SeatState}
+use Rattle.publish_core.specs.declared.state.TheConstants.{SLOTS}
 use Rattle.publish_core.specs.Machine.{updated, ends, visible, Acts, one_more, Among, end_of, after_load_ends, after_load_visible, after_claim_won, after_claim_lost, won, lost}
-use Rattle.publish_core.proofs.Laws.{at_below, ends_mono, ends_less}
+use Rattle.publish_core.proofs.Laws.{ends_append, ends_mono, ends_less}
 use Rattle.publish_core.proofs.Laws.{word_at, at_stage}
 use Rattle.publish_core.proofs.Laws.{marked_state, marking}
 use Rattle.publish_core.proofs.Laws.{kept_claim_won, emptied_state, emptying, raised_state, raising}
@@ -23,24 +27,20 @@ use Rattle.publish_core.proofs.Laws.{kept_load_ends, kept_load_visible, kept_cla
 use Rattle.publish_core.proofs.Laws.{has_all}
 use Rattle.commit_queue.specs.declared.pipe_table.TableOpening.{TableOpening}
 use Rattle.commit_queue.specs.declared.view.View.{View}
-use Rattle.commit_queue.specs.Rule.{RingState, TableState, numbers, turn_word, Shows, IsPrefix, Linked}
+use Rattle.commit_queue.specs.declared.layout.TheConstants.{ENDS, VISIBLE, ACKED, RING_FROM, TURNS_FROM, WORDS, HALF}
+use Rattle.commit_queue.specs.Rule.{RingState, TableState, numbers, turn_word, Shows, Linked}
 use Rattle.commit_queue.specs.Views.{marked_view, ends_view, lost_view, won_view, emptied_view, raised_view, visible_view, settled_view}
 use Rattle.commit_queue.specs.Tells.{Seated, high, low, TellsMarked, TellsEnds, TellsClaim, TellsEmptied, TellsRaised, TellsVisible, TellsSettled, TopsAt}
 use Rattle.commit_queue.specs.Calls.{IsAppliedAll}
 use Rattle.commit_queue.proofs.Becomes.{acts_live, turned, Goes, stays, shows_seats, shows_ring, shows_ends, prefix_at}
 use Rattle.commit_queue.proofs.Versioned.{in_row}
+use Rattle.commit_queue.proofs.Shown.{among, contained}
 
-pub at_end_of : (xs ys : List Batch) → IsPrefix xs ys → (v n : ℕ) → n ≤ length xs → ends numbers v xs n ≡ ends numbers v ys n
-at_end_of xs ys pre v zero l = refl
-at_end_of [] ys pre v (suc n) l = absurd (omega arith)
-at_end_of (x ∷ xs) [] pre v (suc n) l = let e : get_elem? {A = Batch} [] 0 ≡ some x = pre 0 x refl in absurd
-    (let h = at_below {A = Batch} [] 0 x e in omega arith)
-at_end_of (x ∷ xs) (y ∷ ys) pre v (suc n) l = let e : y ≡ x = some-injective y x (pre 0 x refl) in
-    at_end_of xs ys (λ k b e. pre (suc k) b e) (v + numbers x) n (omega arith)
-    ∙ ap (λ (z : Batch). ends numbers (v + numbers z) ys n) (sym e)
+pub at_end_of : (xs ys : List Batch) → IsPrefixOf xs ys → (v n : ℕ) → n ≤ length xs → ends numbers v xs n ≡ ends numbers v ys n
+at_end_of xs ys pre v n l = sym (ends_append numbers v xs pre.0 n l) ∙ ap (λ (h : List Batch). ends numbers v h n) (sym pre.1)
 
 -- a word of two halves, each below 2^32, has these halves
-pub halves : (r h t : ℕ) → r ≡ h * 4294967296 + t → t < 4294967296 → (h ≡ high r) × (t ≡ low r)
+pub halves : (r h t : ℕ) → r ≡ h * HALF + t → t < HALF → (h ≡ high r) × (t ≡ low r)
 halves r h t e l = (omega arith, omega arith)
 
 module _ (o : TableOpening) where
@@ -48,10 +48,10 @@ module _ (o : TableOpening) where
   base_of : (s : TableState) (r : Linked o s) (id : ℕ) (v : View) → get_elem? s.views id ≡ some v → Acts v.seat → v.base ≡ r.core.base
   base_of s r id v has acts = ((r.each_view id v has).base (acts_live v.seat acts)).0
 
-  pub marks : (n id : ℕ) (me : Seated) (at new i : ℕ) → at ≡ i % 64 → Acts me.0.seat → me.0.seat.held ≡ Some i
+  pub marks : (n id : ℕ) (me : Seated) (at new i : ℕ) → at ≡ i % SLOTS → Acts me.0.seat → me.0.seat.held ≡ Some i
       → (me.0.seat.kind ≡ Producer → i < me.0.head)
       → me.0.absorbed ≡ [] → IsAppliedAll me.0 i → new ≡ 2 * ends numbers me.0.base me.0.history (suc i) + 1
-      → Allows (Linked o) n id me (at + 3) (λ _. new) (λ _. TellsMarked (step n (at + 3) new 0 none) me new)
+      → Allows (Linked o) n id me (at + RING_FROM) (λ _. new) (λ _. TellsMarked (step n (at + RING_FROM) new 0 none) me new)
   marks n id me at new i at_is acts holds admitted calm applied new_is s r wide has _ =
       let c : RingState = r.core in let v : View = me.0 in let ok = r.each_view id v has in let w : View = marked_view v i in
       let sound = r.sound in let seat : c.seats id ≡ v.seat = ok.seat in
@@ -66,15 +66,15 @@ module _ (o : TableOpening) where
       let knows : (b : Batch) (k : ℕ) → get_elem? c.batches i ≡ some b → IsTrue (touches b k) → Among (record { batch = i; shard = k })
       (c.seats id).knows =
       λ b k e t. subst (λ (d : SeatState). Among (record { batch = i; shard = k }) d.knows) (sym seat)
-      ((ok.pieces i k holds).1 (applied b k (prefix_at v.history c.batches ok.known i near b e) t)) in
-      let word = (word_at numbers touches c sound i (Held id) h.0 h.1 tt).0 in let r0 : ℕ = c.ring (i % 64) in
+      ((ok.pieces i k holds).1 (among k v.pieces (applied b k (prefix_at v.history c.batches ok.known i near b e) t))) in
+      let word = (word_at numbers touches c sound i (Held id) h.0 h.1 tt).0 in let r0 : ℕ = c.ring (i % SLOTS) in
       let end_is : ends numbers v.base v.history (suc i) ≡ end_of numbers c i = at_end_of v.history c.batches ok.known v.base (suc i) near
       ∙ ap (λ (y : ℕ). ends numbers y c.batches (suc i)) (base_of s r id v has acts) in
       let is : r0 + 1 ≡ new = omega arith in (
         w,
         keeps,
         tt,
-        turned o s r id (set s.words (at + 3) new) w v has record {
+        turned o s r id (set s.words (at + RING_FROM) new) w v has record {
           core = marked_state numbers touches c id i;
           sound = marking numbers touches c sound id i acts' holds' below knows;
           same_base = refl;
@@ -102,12 +102,12 @@ module _ (o : TableOpening) where
         (refl, λ j q. let same : i ≡ j = cc in ap (marked_view v) same),
       )
 
-  pub sees_ends : (n id : ℕ) (me : Seated) → Acts me.0.seat → Allows (Linked o) n id me 0 (λ x. x) (TellsEnds (step n 0 0 0 none) me)
+  pub sees_ends : (n id : ℕ) (me : Seated) → Acts me.0.seat → Allows (Linked o) n id me ENDS (λ x. x) (TellsEnds (step n ENDS 0 0 none) me)
   sees_ends n id me acts s r wide has _ =
-      let c : RingState = r.core in let v : View = me.0 in let ok = r.each_view id v has in let x : ℕ = get_or s.words 0 0 in
+      let c : RingState = r.core in let v : View = me.0 in let ok = r.each_view id v has in let x : ℕ = get_or s.words ENDS 0 in
       let few = r.few in let th = r.sound.tail_head in let hl = r.sound.head_length in
       let hv = halves x c.head c.tail r.shows.ends_word (omega arith) in let w : View = ends_view v (high x) (low x) in
-      stays o s 0 id me (TellsEnds (step n 0 0 0 none) me) w
+      stays o s ENDS id me (TellsEnds (step n ENDS 0 0 none) me) w
       (turned o s r id s.words w v has record {
         core = after_load_ends numbers touches c id;
         sound = kept_load_ends numbers touches c r.sound id (subst Acts (sym ok.seat) acts);
@@ -139,16 +139,16 @@ module _ (o : TableOpening) where
       })
       (refl, refl, omega arith)
 
-  pub settles : (n id : ℕ) (me : Seated) → Acts me.0.seat → Allows (Linked o) n id me 0 (λ x. x) (TellsSettled (step n 0 0 0 none) me)
+  pub settles : (n id : ℕ) (me : Seated) → Acts me.0.seat → Allows (Linked o) n id me ENDS (λ x. x) (TellsSettled (step n ENDS 0 0 none) me)
   settles n id me acts s r wide has _ =
-      let c : RingState = r.core in let v : View = me.0 in let ok = r.each_view id v has in let x : ℕ = get_or s.words 0 0 in
+      let c : RingState = r.core in let v : View = me.0 in let ok = r.each_view id v has in let x : ℕ = get_or s.words ENDS 0 in
       let few = r.few in let th = r.sound.tail_head in let hl = r.sound.head_length in let pt = r.sound.published_tail in
       let hv = halves x c.head c.tail r.shows.ends_word (omega arith) in
       let w : View = settled_view (ends_view v (high x) (low x)) c.batches in let seat : c.seats id ≡ v.seat = ok.seat in
       let sn : v.seat.seen ≤ length c.batches = subst (λ (d : SeatState). d.seen ≤ length c.batches) seat (r.sound.each_seat id).seen in
       let pb : v.seat.published ≤ c.published = subst (λ (d : SeatState). d.published ≤ c.published) seat
       (r.sound.each_seat id).published.0 in
-      stays o s 0 id me (TellsSettled (step n 0 0 0 none) me) w
+      stays o s ENDS id me (TellsSettled (step n ENDS 0 0 none) me) w
       (turned o s r id s.words w v has record {
         core = after_load_ends numbers touches c id;
         sound = kept_load_ends numbers touches c r.sound id (subst Acts (sym ok.seat) acts);
@@ -165,8 +165,8 @@ module _ (o : TableOpening) where
         shows = shows_seats c _ s.words r.shows;
         base_is = (refl, refl, refl);
         same_kind = refl;
-        known = λ k b q. q;
-        absorbed = λ k b q. let l = at_below {A = Batch} [] k b q in absurd (omega arith);
+        known = prefix_same c.batches;
+        absorbed = (c.batches, refl);
         seen = λ _. sn;
         whole = λ z. refl;
         head_is = refl;
@@ -193,29 +193,29 @@ module _ (o : TableOpening) where
             retired = ok.acked_known.retired;
             whole = λ k. sym (ok.whole (ok.producer k));
             all = subst
-                (λ (d : SeatState). length c.batches ≤ length d.own → (i : ℕ) → i < length c.batches → Among i d.own)
-                seat (has_all numbers touches c r.sound id);
+                (λ (d : SeatState). length c.batches ≤ length d.own → (i : ℕ) → i < length c.batches → Contains d.own i)
+                seat (λ enough i l. contained i (c.seats id).own (has_all numbers touches c r.sound id enough i l));
           },
         ),
       )
 
   pub claims : (n id : ℕ) (me : Seated) (old new h t w : ℕ)
-      → old ≡ h * 4294967296 + t → new ≡ old + 1 → t < 4294967296 → h < 4294967296 → Acts me.0.seat → me.0.seat.claim ≡ Free → me.0.seat.loaded ≡ Some record { head = h; tail = t } → t < h
+      → old ≡ h * HALF + t → new ≡ old + 1 → t < HALF → h < HALF → Acts me.0.seat → me.0.seat.claim ≡ Free → me.0.seat.loaded ≡ Some record { head = h; tail = t } → t < h
       → me.0.seat.reading ≡ Some record {
-        at = t % 64;
+        at = t % SLOTS;
         word = w;
-      } → w % 2 ≡ 1 → Allows (Linked o) n id me 0 (λ x. either (eqb x old) new x) (TellsClaim (step n 0 old new none) me)
+      } → w % 2 ≡ 1 → Allows (Linked o) n id me ENDS (λ x. either (eqb x old) new x) (TellsClaim (step n ENDS old new none) me)
   claims n id me old new h t w old_is new_is tl hl acts free loaded lt read odd s r wide has _ =
-      let c : RingState = r.core in let v : View = me.0 in let ok = r.each_view id v has in let x : ℕ = get_or s.words 0 0 in
+      let c : RingState = r.core in let v : View = me.0 in let ok = r.each_view id v has in let x : ℕ = get_or s.words ENDS 0 in
       let sound = r.sound in let few = r.few in let th = sound.tail_head in let hh = sound.head_length in
       let seat : c.seats id ≡ v.seat = ok.seat in
-      let shows : x ≡ c.head * 4294967296 + c.tail = r.shows.ends_word in let acts' : Acts (c.seats id) = subst Acts (sym seat) acts in
-      let then = TellsClaim (step n 0 old new none) me in let hx = halves x c.head c.tail shows (omega arith) in
-      exchanged x old new (Goes o s 0 id me then)
+      let shows : x ≡ c.head * HALF + c.tail = r.shows.ends_word in let acts' : Acts (c.seats id) = subst Acts (sym seat) acts in
+      let then = TellsClaim (step n ENDS old new none) me in let hx = halves x c.head c.tail shows (omega arith) in
+      exchanged x old new (Goes o s ENDS id me then)
       (λ hit. let hd : c.head ≡ h = omega arith in let tt' : c.tail ≡ t = omega arith in
       let free' : (c.seats id).claim ≡ Free = ap (λ (d : SeatState). d.claim) seat ∙ free in
       let front = (sound.each_seat id).front record { head = h; tail = t } record {
-        at = t % 64;
+        at = t % SLOTS;
         word = w;
       } (ap (λ (d : SeatState). d.loaded) seat ∙ loaded) (ap (λ (d : SeatState). d.reading) seat ∙ read) lt refl odd in
       let marked' : (c.stage c.tail ≡ Marked) × (w ≡ 2 * end_of numbers c c.tail + 1) = ⊎_elim (λ (a : t < c.tail). absurd (omega arith))
@@ -227,7 +227,7 @@ module _ (o : TableOpening) where
         w',
         keeps,
         tt,
-        turned o s r id (set s.words 0 new) w' v has record {
+        turned o s r id (set s.words ENDS new) w' v has record {
           core = after_claim_won numbers touches c id;
           sound = kept_claim_won numbers touches c sound id acts' free' (omega arith) marked'.0;
           same_base = refl;
@@ -238,7 +238,7 @@ module _ (o : TableOpening) where
           shows = shows_ends c (after_claim_won numbers touches c id) s.words new r.shows (omega arith) refl refl refl refl;
           base_is = (refl, refl, refl);
           same_kind = refl;
-          known = λ k b e. e;
+          known = prefix_same c.batches;
           absorbed = ok.absorbed;
           seen = λ _. let q : low x ≡ c.tail = sym low_is in omega arith;
           whole = λ z. refl;
@@ -264,7 +264,7 @@ module _ (o : TableOpening) where
         ),
       ))
       (λ miss. let w' : View = lost_view v (high x) (low x) in
-      stays o s 0 id me then w'
+      stays o s ENDS id me then w'
       (turned o s r id s.words w' v has record {
         core = after_claim_lost numbers touches c id;
         sound = kept_claim_lost numbers touches c sound id acts';
@@ -291,15 +291,15 @@ module _ (o : TableOpening) where
       })
       (refl, (λ hit. absurd (miss hit)), λ _. refl))
 
-  pub empties : (n id : ℕ) (me : Seated) (at t : ℕ) → at ≡ t % 64 → Acts me.0.seat → me.0.seat.claim ≡ Taken t
-      → Allows (Linked o) n id me (at + 3) (λ _. 0) (λ _. TellsEmptied (step n (at + 3) 0 0 none) me 0)
+  pub empties : (n id : ℕ) (me : Seated) (at t : ℕ) → at ≡ t % SLOTS → Acts me.0.seat → me.0.seat.claim ≡ Taken t
+      → Allows (Linked o) n id me (at + RING_FROM) (λ _. 0) (λ _. TellsEmptied (step n (at + RING_FROM) 0 0 none) me 0)
   empties n id me at t at_is acts claim s r wide has _ =
       let c : RingState = r.core in let v : View = me.0 in let ok = r.each_view id v has in let w : View = emptied_view v t in
       let seat : c.seats id ≡ v.seat = ok.seat in (
         w,
         keeps,
         tt,
-        turned o s r id (set s.words (at + 3) 0) w v has record {
+        turned o s r id (set s.words (at + RING_FROM) 0) w v has record {
           core = emptied_state numbers touches c id t;
           sound = emptying numbers touches c r.sound id t (subst Acts (sym seat) acts) (ap (λ (d : SeatState). d.claim) seat ∙ claim);
           same_base = refl;
@@ -335,25 +335,25 @@ module _ (o : TableOpening) where
       (λ no. let lt = lt_of_not-le no in let a = ends_mono numbers v xs n m (omega arith) in let b : max m n ≡ m = omega arith in
       (let g : max (ends numbers v xs m) (ends numbers v xs n) ≡ ends numbers v xs m = omega arith in g) ∙ ap (ends numbers v xs) (sym b))
 
-  -- a step that writes x into word 1
+  -- a step that writes x into the visible word
   shows_visible : (c c' : RingState) (words : List ℕ) (x : ℕ) → Shows c words → x ≡ visible numbers c' → c'.head ≡ c.head → c'.tail ≡ c.tail
-      → c'.acked ≡ c.acked → c'.turn ≡ c.turn → c'.ring ≡ c.ring → Shows c' (set words 1 x)
-  shows_visible c c' words x h is hd tl ack trn ring = let wide : length words ≡ 75 = h.wide in record {
-    wide = length-set words 1 x ∙ h.wide;
-    ends_word = get_or-set_other words 1 0 x 0 (λ e. omega arith) ∙ h.ends_word ∙ ap₂ (λ (a b : ℕ). a * 4294967296 + b) (sym hd) (sym tl);
-    visible_word = get_or-set_same words 1 x 0 (omega arith) ∙ is;
-    acked_word = get_or-set_other words 1 2 x 0 (λ e. omega arith) ∙ h.acked_word ∙ sym ack;
-    ring_word = λ j l. get_or-set_other words 1 (j + 3) x 0 (λ e. omega arith) ∙ h.ring_word j l ∙ ap (λ (f : ℕ → ℕ). f j) (sym ring);
-    shard_word = λ j l. get_or-set_other words 1 (j + 67) x 0 (λ e. omega arith) ∙ h.shard_word j l
+      → c'.acked ≡ c.acked → c'.turn ≡ c.turn → c'.ring ≡ c.ring → Shows c' (set words VISIBLE x)
+  shows_visible c c' words x h is hd tl ack trn ring = let wide : length words ≡ WORDS = h.wide in record {
+    wide = length-set words VISIBLE x ∙ h.wide;
+    ends_word = get_or-set_other words VISIBLE ENDS x 0 (λ e. omega arith) ∙ h.ends_word ∙ ap₂ (λ (a b : ℕ). a * HALF + b) (sym hd) (sym tl);
+    visible_word = get_or-set_same words VISIBLE x 0 (omega arith) ∙ is;
+    acked_word = get_or-set_other words VISIBLE ACKED x 0 (λ e. omega arith) ∙ h.acked_word ∙ sym ack;
+    ring_word = λ j l. get_or-set_other words VISIBLE (j + RING_FROM) x 0 (λ e. omega arith) ∙ h.ring_word j l ∙ ap (λ (f : ℕ → ℕ). f j) (sym ring);
+    shard_word = λ j l. get_or-set_other words VISIBLE (j + TURNS_FROM) x 0 (λ e. omega arith) ∙ h.shard_word j l
         ∙ ap (λ (f : ℕ → ℕ). turn_word (f j)) (sym trn);
   }
 
   pub raises : (n id : ℕ) (me : Seated) (e t : ℕ) → e ≡ ends numbers me.0.base me.0.history (suc t) → suc t ≤ length me.0.history
-      → Acts me.0.seat → me.0.seat.claim ≡ Emptied t → Allows (Linked o) n id me 1 (λ x. max x e) (TellsRaised (step n 1 e 0 none) me)
+      → Acts me.0.seat → me.0.seat.claim ≡ Emptied t → Allows (Linked o) n id me VISIBLE (λ x. max x e) (TellsRaised (step n VISIBLE e 0 none) me)
   raises n id me e t e_is near acts claim s r wide has _ =
       let c : RingState = r.core in let v : View = me.0 in let ok = r.each_view id v has in let sound = r.sound in
       let p : ℕ = max c.published (suc t) in let w : View = raised_view v p c.batches in let seat : c.seats id ≡ v.seat = ok.seat in
-      let x : ℕ = get_or s.words 1 0 in let c' : RingState = raised_state numbers touches c id t in
+      let x : ℕ = get_or s.words VISIBLE 0 in let c' : RingState = raised_state numbers touches c id t in
       let sound' = raising numbers touches c sound id t (subst Acts (sym seat) acts) (ap (λ (d : SeatState). d.claim) seat ∙ claim) in
       let end_is : e ≡ ends numbers c.base c.batches (suc t) = e_is ∙ at_end_of v.history c.batches ok.known v.base (suc t) near
       ∙ ap (λ (y : ℕ). ends numbers y c.batches (suc t)) (base_of s r id v has acts) in
@@ -365,7 +365,7 @@ module _ (o : TableOpening) where
         w,
         keeps,
         tt,
-        turned o s r id (set s.words 1 (max x e)) w v has record {
+        turned o s r id (set s.words VISIBLE (max x e)) w v has record {
           core = c';
           sound = sound';
           same_base = refl;
@@ -376,7 +376,7 @@ module _ (o : TableOpening) where
           shows = shows_visible c c' s.words (max x e) r.shows is refl refl refl refl refl;
           base_is = (refl, refl, refl);
           same_kind = refl;
-          known = λ k b q. q;
+          known = prefix_same c.batches;
           absorbed = ok.absorbed;
           seen = λ _. omega arith;
           whole = λ z. refl;
@@ -402,25 +402,25 @@ module _ (o : TableOpening) where
         ),
       )
 
-  pub sees_visible : (n id : ℕ) (me : Seated) → Acts me.0.seat → Allows (Linked o) n id me 1 (λ x. x) (TellsVisible (step n 1 0 0 none) me)
+  pub sees_visible : (n id : ℕ) (me : Seated) → Acts me.0.seat → Allows (Linked o) n id me VISIBLE (λ x. x) (TellsVisible (step n VISIBLE 0 0 none) me)
   sees_visible n id me acts s r wide has _ =
       let c : RingState = r.core in let v : View = me.0 in let ok = r.each_view id v has in let sound = r.sound in
       let w : View = visible_view v c.published c.batches in let seat : c.seats id ≡ v.seat = ok.seat in
       let a = sound.published_tail in let b = sound.tail_head in let d = sound.head_length in
       let vb : v.base ≡ c.base = base_of s r id v has acts in
-      let word : get_or s.words 1 0 ≡ ends numbers c.base c.batches c.published = r.shows.visible_word in
-      let reaches : (k : ℕ) → k ≤ length c.batches → ends numbers v.base c.batches k ≤ get_or s.words 1 0 → k ≤ c.published = λ k l e. dite
+      let word : get_or s.words VISIBLE 0 ≡ ends numbers c.base c.batches c.published = r.shows.visible_word in
+      let reaches : (k : ℕ) → k ≤ length c.batches → ends numbers v.base c.batches k ≤ get_or s.words VISIBLE 0 → k ≤ c.published = λ k l e. dite
       (dec_le k c.published) (λ le. le) (λ no. let lt = lt_of_not-le no in
       let less = ends_less numbers c.base c.batches sound.counted c.published k lt l in
-      let e' : ends numbers c.base c.batches k ≤ get_or s.words 1 0 = subst (λ (y : ℕ). ends numbers y c.batches k ≤ get_or s.words 1 0)
+      let e' : ends numbers c.base c.batches k ≤ get_or s.words VISIBLE 0 = subst (λ (y : ℕ). ends numbers y c.batches k ≤ get_or s.words VISIBLE 0)
       vb e in absurd (omega arith)) in
-      let tops : TopsAt v.base c.batches c.published (get_or s.words 1 0) = λ k l e. dite
+      let tops : TopsAt v.base c.batches c.published (get_or s.words VISIBLE 0) = λ k l e. dite
       (dec_le c.published k) (λ le. le) (λ no. let lt = lt_of_not-le no in
       let less = ends_less numbers c.base c.batches sound.counted k c.published lt (omega arith) in
-      let e' : get_or s.words 1 0 ≤ ends numbers c.base c.batches k = subst (λ (y : ℕ). get_or s.words 1 0 ≤ ends numbers y c.batches k)
+      let e' : get_or s.words VISIBLE 0 ≤ ends numbers c.base c.batches k = subst (λ (y : ℕ). get_or s.words VISIBLE 0 ≤ ends numbers y c.batches k)
       vb e in absurd (omega arith)) in
       let sn : v.seat.seen ≤ length c.batches = subst (λ (d : SeatState). d.seen ≤ length c.batches) seat (sound.each_seat id).seen in
-      stays o s 1 id me (TellsVisible (step n 1 0 0 none) me) w
+      stays o s VISIBLE id me (TellsVisible (step n VISIBLE 0 0 none) me) w
       (turned o s r id s.words w v has record {
         core = after_load_visible numbers touches c id;
         sound = kept_load_visible numbers touches c sound id (subst Acts (sym seat) acts);
@@ -437,7 +437,7 @@ module _ (o : TableOpening) where
         shows = shows_seats c _ s.words r.shows;
         base_is = (refl, refl, refl);
         same_kind = refl;
-        known = λ k b q. q;
+        known = prefix_same c.batches;
         absorbed = ok.absorbed;
         seen = λ _. omega arith;
         whole = λ z. refl;

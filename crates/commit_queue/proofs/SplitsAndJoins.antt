@@ -1,17 +1,20 @@
 -- Cutting a seat in two and joining two seats keep the rule of the table.
-use Rattle.std.proofs.Common.{Bool, List, None, Option, Some, [], ap, ap₂, append-nil, arith, cond, false, inl, inr, length, length-append, length-set, max, refl, set, subst, suc, sym, true, zero, ℕ, ⊎_elim, ◌++◌, ◌+◌, ◌<◌, ◌^◌, ◌∙◌, ◌∷◌, ◌≡◌, ◌≢◌, ◌≤◌, ◌⊎◌}
+use Rattle.std.proofs.Common.{Bool, List, None, Option, Some, [], ap, ap₂, append-nil, arith, cond, false, inl, inr, length, length-append, length-set, max, refl, set, subst, suc, sym, true, zero, ℕ, ⊎_elim, ◌++◌, ◌+◌, ◌<◌, ◌∙◌, ◌∷◌, ◌≡◌, ◌≢◌, ◌≤◌, ◌⊎◌}
 use mathlib.Core.Option.{some, some-injective}
 use lib.ListN.{get_elem?}
 use Rattle.atomic_table.specs.Table.{Splits, Joins}
 use Rattle.atomic_table.proofs.Lists.{at_set, set_else}
+use Rattle.wal_base.specs.Prefixes.{IsPrefixOf}
 use Rattle.batch_repr.specs.declared.batch.Batch.{Batch}
-use Rattle.arena_list.specs.Versions.{Version}
+use Rattle.batch_repr.specs.declared.limits.TheConstants.{BATCHES_MAX}
+use Rattle.memtable_shards.specs.Versions.{Version}
 use Rattle.memtable_shards.specs.Versions.{touches}
 use Rattle.publish_core.specs.declared.seat.Kind.{Kind}
 use Rattle.publish_core.specs.declared.seat.Kind.TheVariants.{Producer, Note, Worker, Spent}
 use Rattle.publish_core.specs.declared.seat.Claim.TheVariants.{Free}
 use Rattle.publish_core.specs.declared.seat.Pair.{Pair}
 use Rattle.publish_core.specs.declared.seat.SeatState.{SeatState}
+use Rattle.publish_core.specs.declared.state.TheConstants.{END_LIMIT}
 use Rattle.publish_core.specs.Machine.{Among, updated, ends, both_held, shown_seat, joined, nobody, after_tell, after_hand, after_join}
 use Rattle.publish_core.proofs.Laws.{put_here, put_else, at_below}
 use Rattle.publish_core.proofs.Laws.{kept_tell, kept_hand}
@@ -21,7 +24,7 @@ use Rattle.commit_queue.specs.declared.pipe_table.TableOpening.{TableOpening}
 use Rattle.commit_queue.specs.declared.view.AckedKnown.{AckedKnown}
 use Rattle.commit_queue.specs.declared.view.View.{View}
 use Rattle.commit_queue.specs.Shards.{HasVersions}
-use Rattle.commit_queue.specs.Rule.{RingState, TableState, numbers, IsSoundRing, Shows, IsPrefix, PiecesOk, ViewOk, AckedKnownOk, Linked}
+use Rattle.commit_queue.specs.Rule.{RingState, TableState, numbers, IsSoundRing, Shows, PiecesOk, ViewOk, AckedKnownOk, Linked}
 use Rattle.commit_queue.specs.Views.{no_acked, without_batch, handed_view, shown_view, telling_view, flush_view, later, joined_view, spent_view}
 use Rattle.commit_queue.proofs.Becomes.{same_pieces}
 
@@ -49,8 +52,8 @@ reseated o s r c' vs sound b l shows dones turns made views = record {
   sound = sound;
   base_is = b ∙ r.base_is;
   below = r.below;
-  few = subst (λ (x : List Batch). length x ≤ 1048576) (sym l) r.few;
-  small = subst (λ (x : ℕ × List Batch). (i : ℕ) → i < length x.1 → ends numbers x.0 x.1 (suc i) < 2 ^ 56) (λ k. (sym b k, sym l k))
+  few = subst (λ (x : List Batch). length x ≤ BATCHES_MAX) (sym l) r.few;
+  small = subst (λ (x : ℕ × List Batch). (i : ℕ) → i < length x.1 → ends numbers x.0 x.1 (suc i) < END_LIMIT) (λ k. (sym b k, sym l k))
       r.small;
   first = subst (λ (x : ℕ × List Batch). (i : ℕ) (y : Batch) → get_elem? x.1 i ≡ some y → y.first ≡ ends numbers x.0 x.1 i)
       (λ k. (sym b k, sym l k)) r.first;
@@ -67,8 +70,8 @@ same_view : (opening : List (List Version)) (c c' : RingState) (j : ℕ) (v : Vi
 same_view opening c c' j v seat b l h dn dk ok = record {
   seat = seat ∙ ok.seat;
   base = λ live. let e = ok.base live in (e.0 ∙ sym b, e.1 ∙ sym b, e.2);
-  known = subst (IsPrefix v.history) (sym l) ok.known;
-  absorbed = subst (IsPrefix v.absorbed) (sym l) ok.absorbed;
+  known = subst (IsPrefixOf v.history) (sym l) ok.known;
+  absorbed = subst (IsPrefixOf v.absorbed) (sym l) ok.absorbed;
   seen = ok.seen;
   producer = ok.producer;
   whole = λ z. ok.whole z ∙ sym l;
@@ -365,8 +368,8 @@ module _ (o : TableOpening) where
       (λ (t : (j ≡ other) × (spent_view ≡ x)). subst (λ (y : ℕ × View). ViewOk o.shards.value c' y.0 y.1) (λ k. (sym t.0 k, t.1 k)) record {
         seat = put_here (updated c.seats id d) other nobody;
         base = λ live. absurd (live refl);
-        known = λ k b e. let l = at_below {A = Batch} [] k b e in absurd (omega arith);
-        absorbed = λ k b e. let l = at_below {A = Batch} [] k b e in absurd (omega arith);
+        known = (c'.batches, refl);
+        absorbed = (c'.batches, refl);
         seen = λ _. omega arith;
         producer = λ e. let q : Spent ≡ Producer = e in cc;
         whole = λ z. absurd (ask.away z);

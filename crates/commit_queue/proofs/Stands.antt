@@ -1,8 +1,12 @@
 -- What holds of a seat between two calls holds after each call.
-use Rattle.std.proofs.Common.{◌≡◌, Option, Some, None, [], ◌∷◌, ◌++◌, ℕ, suc, ◌+◌, ◌<◌, ◌≤◌, ◌^◌, List, length, length-append, sym, refl, ap, ap₂, ◌∙◌, subst, arith, Bool, cond, false}
+use Rattle.std.proofs.Common.{◌≡◌, Option, Some, None, [], ◌∷◌, ◌++◌, ℕ, suc, ◌+◌, ◌<◌, ◌≤◌, List, length, length-append, sym, refl, ap, ap₂, ◌∙◌, subst, arith, Bool, cond, false}
+use Rattle.wal_base.proofs.Laws.{longer_prefix}
 use Rattle.batch_repr.specs.declared.batch.Batch.{Batch}
-use Rattle.arena_list.specs.Versions.{Version}
+use Rattle.batch_repr.specs.declared.limits.TheConstants.{BATCHES_MAX}
+use Rattle.memtable_shards.specs.declared.sharding.TheConstants.{SHARDS}
+use Rattle.memtable_shards.specs.Versions.{Version}
 use Rattle.publish_core.specs.declared.seat.Kind.TheVariants.{Worker}
+use Rattle.publish_core.specs.declared.state.TheConstants.{END_LIMIT}
 use Rattle.publish_core.specs.Machine.{ends, both_held}
 use Rattle.publish_core.proofs.Laws.{ends_snoc}
 use Rattle.commit_queue.specs.declared.view.AckedKnown.{AckedKnown}
@@ -13,14 +17,13 @@ use Rattle.commit_queue.specs.Tells.{Seated}
 use Rattle.commit_queue.specs.Stands.{HasTicket, HoldsLast, slots_out, CarriesTurn, ProducerStands, SessionStands, NoteStands, FlushStands}
 use Rattle.commit_queue.specs.Calls.{next_number, CanPlace, HasPlaced, TakesBack, TakesIn, ViewGoesOn}
 use Rattle.commit_queue.proofs.Publishes.{at_end_of}
-use Rattle.commit_queue.proofs.GoesOn.{longer_prefix}
 
 -- the producer's last batch, where neither the batch held nor the history changes
 last_same : (v v' : View) (e : ℕ) → v'.seat.held ≡ v.seat.held → v'.history ≡ v.history → v'.base ≡ v.base → HoldsLast v e → HoldsLast v' e
 last_same v v' e held hist base has j h = let t = has j (sym held ∙ h) in
     (t.0 ∙ ap length (sym hist), t.1 ∙ ap₂ (λ (b : ℕ) (l : List Batch). ends numbers b l (suc j)) (sym base) (sym hist), t.2)
 
-last_placed : (v : View) (b : Batch) (e : ℕ) → b.first ≡ next_number v → e ≡ b.first + numbers b → e < 2 ^ 56
+last_placed : (v : View) (b : Batch) (e : ℕ) → b.first ≡ next_number v → e ≡ b.first + numbers b → e < END_LIMIT
     → HoldsLast (placed_view v b) e
 last_placed v b e follows is small j h = let n : ℕ = length v.history in let same : n ≡ j = cc in (
   ap suc (sym same) ∙ (let g : suc n ≡ length (v.history ++ b ∷ []) = omega (arith, length-append v.history (b ∷ [])) in g),
@@ -70,7 +73,7 @@ pub carries_none : (m : Seated) → m.1 ≡ [] → m.0.seat.turn ≡ None → Ca
 carries_none m carried none = record { turn_is = none; within = λ k e. let z : ◌≡◌ {A = Option ℕ} None (Some k) = e in cc; carries = carried }
 
 -- a seat has the turn on this shard
-pub carries_shard : (m : Seated) (k : ℕ) → k < 8 → m.1 ≡ slots_out (Some k) → m.0.seat.turn ≡ Some k → CarriesTurn m (Some k)
+pub carries_shard : (m : Seated) (k : ℕ) → k < SHARDS → m.1 ≡ slots_out (Some k) → m.0.seat.turn ≡ Some k → CarriesTurn m (Some k)
 carries_shard m k small carried turn = record {
   turn_is = turn;
   within = λ j e. let same : k ≡ j = (let z : ◌≡◌ {A = Option ℕ} (Some k) (Some j) = e in cc) in omega arith;
@@ -111,7 +114,7 @@ producer_opens id m base opening z e = subst (λ (x : Seated). ProducerStands id
 }
 
 pub producer_places : (id id' : ℕ) (m m' : Seated) (b : Batch) (head end new : ℕ) (turn : Option ℕ) → ProducerStands id m head end turn
-    → id' ≡ id → m'.1 ≡ m.1 → m'.0 ≡ placed_view m.0 b → CanPlace m.0 b → new ≡ b.first + numbers b → new < 2 ^ 56
+    → id' ≡ id → m'.1 ≡ m.1 → m'.0 ≡ placed_view m.0 b → CanPlace m.0 b → new ≡ b.first + numbers b → new < END_LIMIT
     → ProducerStands id' m' head new turn
 producer_places id id' m m' b head end new turn p same carried e can is small = let a = p.admitted in let f = can.few in let w = p.within in
     let n : length (m.0.history ++ b ∷ []) ≡ length m.0.history + 1 = length-append m.0.history (b ∷ []) in
@@ -201,7 +204,7 @@ producer_turns id id' m m' head end turn turn' p same t carries = record {
   free = ap (λ (v : View). v.seat.claim) t ∙ p.free;
   carries = carries;
   admitted = subst (λ (v : View). v.head ≤ length v.history) (sym t) p.admitted;
-  few = subst (λ (v : View). length v.history ≤ 1048576) (sym t) p.few;
+  few = subst (λ (v : View). length v.history ≤ BATCHES_MAX) (sym t) p.few;
   within = subst (λ (v : View). v.seat.published ≤ length v.history) (sym t) p.within;
   holds = subst (λ (v : View). HoldsLast v end) (sym t) p.holds;
 }

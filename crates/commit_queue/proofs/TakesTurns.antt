@@ -9,8 +9,10 @@ use lib.Seq.{set-get_or}
 use prog.Atomic.{either}
 use Rattle.atomic_table.specs.Table.{step, keeps, takes, gives, rest, put_back, Allows}
 use Rattle.atomic_table.proofs.Lists.{at_set, set_here, set_else, exchanged}
+use Rattle.wal_base.proofs.Laws.{at_prefix}
 use Rattle.batch_repr.specs.declared.batch.Batch.{Batch}
-use Rattle.arena_list.specs.Versions.{Version}
+use Rattle.memtable_shards.specs.declared.sharding.TheConstants.{SHARDS}
+use Rattle.memtable_shards.specs.Versions.{Version}
 use Rattle.memtable_shards.specs.Versions.{piece_in, touches, Gains, HasSameVersions}
 use Rattle.publish_core.specs.declared.seat.Pair.{Pair}
 use Rattle.publish_core.specs.declared.seat.SeatState.{SeatState}
@@ -22,12 +24,14 @@ use Rattle.publish_core.proofs.Laws.{put_here, put_else, at_put}
 use Rattle.publish_core.proofs.Laws.{kept_take, kept_busy, giving, applying}
 use Rattle.commit_queue.specs.declared.pipe_table.TableOpening.{TableOpening}
 use Rattle.commit_queue.specs.declared.view.View.{View}
+use Rattle.commit_queue.specs.declared.layout.TheConstants.{ENDS, VISIBLE, ACKED, RING_FROM, TURNS_FROM, WORDS, HALF}
 use Rattle.commit_queue.specs.Shards.{NumberedBelow, HasVersions, AreApplied, ShowsBelow}
 use Rattle.commit_queue.specs.Rule.{RingState, Slot, TableState, numbers, IsSoundRing, turn_word, Shows, PiecesOk, ViewOk, AtHome, Linked}
 use Rattle.commit_queue.specs.Views.{taking_view, busy_view, given_view, applied_view}
 use Rattle.commit_queue.specs.Tells.{Seated, TakesShard, TellsTaken, TellsGiven, TellsApplied}
 use Rattle.commit_queue.proofs.Becomes.{acts_live, turned, Goes, shows_seats}
 use Rattle.commit_queue.proofs.Versioned.{same_versions, gains_piece, shows_below, lacks_piece}
+use Rattle.commit_queue.proofs.Shown.{contained}
 
 -- the word of a shard is 0 where no seat has the turn
 no_turn : (t : ℕ) → turn_word t ≡ 0 → t ≡ 0
@@ -35,21 +39,21 @@ no_turn zero e = refl
 no_turn (suc j) e = absurd (omega arith)
 
 -- a step that writes x into the word of the shard k
-shows_turn : (c c' : RingState) (words : List ℕ) (k x t : ℕ) → k < 8 → Shows c words → c'.head ≡ c.head → c'.tail ≡ c.tail
+shows_turn : (c c' : RingState) (words : List ℕ) (k x t : ℕ) → k < SHARDS → Shows c words → c'.head ≡ c.head → c'.tail ≡ c.tail
     → visible numbers c' ≡ visible numbers c → c'.acked ≡ c.acked → c'.ring ≡ c.ring → c'.turn ≡ updated c.turn k t → x ≡ turn_word t
-    → Shows c' (set words (k + 67) x)
-shows_turn c c' words k x t small h hd tl vis ack ring trn is = let wide : length words ≡ 75 = h.wide in record {
-  wide = length-set words (k + 67) x ∙ h.wide;
-  ends_word = get_or-set_other words (k + 67) 0 x 0 (λ e. omega arith) ∙ h.ends_word
-      ∙ ap₂ (λ (a b : ℕ). a * 4294967296 + b) (sym hd) (sym tl);
-  visible_word = get_or-set_other words (k + 67) 1 x 0 (λ e. omega arith) ∙ h.visible_word ∙ sym vis;
-  acked_word = get_or-set_other words (k + 67) 2 x 0 (λ e. omega arith) ∙ h.acked_word ∙ sym ack;
-  ring_word = λ j l. get_or-set_other words (k + 67) (j + 3) x 0 (λ e. omega arith) ∙ h.ring_word j l
+    → Shows c' (set words (k + TURNS_FROM) x)
+shows_turn c c' words k x t small h hd tl vis ack ring trn is = let wide : length words ≡ WORDS = h.wide in record {
+  wide = length-set words (k + TURNS_FROM) x ∙ h.wide;
+  ends_word = get_or-set_other words (k + TURNS_FROM) ENDS x 0 (λ e. omega arith) ∙ h.ends_word
+      ∙ ap₂ (λ (a b : ℕ). a * HALF + b) (sym hd) (sym tl);
+  visible_word = get_or-set_other words (k + TURNS_FROM) VISIBLE x 0 (λ e. omega arith) ∙ h.visible_word ∙ sym vis;
+  acked_word = get_or-set_other words (k + TURNS_FROM) ACKED x 0 (λ e. omega arith) ∙ h.acked_word ∙ sym ack;
+  ring_word = λ j l. get_or-set_other words (k + TURNS_FROM) (j + RING_FROM) x 0 (λ e. omega arith) ∙ h.ring_word j l
       ∙ ap (λ (f : ℕ → ℕ). f j) (sym ring);
-  shard_word = λ j l. subst (λ (f : ℕ → ℕ). get_or (set words (k + 67) x) (j + 67) 0 ≡ turn_word (f j)) (sym trn)
-      (at_put (λ (q y : ℕ). q < 8 → get_or (set words (k + 67) x) (q + 67) 0 ≡ turn_word y) c.turn k t j
-      (λ _. get_or-set_same words (k + 67) x 0 (omega arith) ∙ is)
-      (λ n l'. get_or-set_other words (k + 67) (j + 67) x 0 (λ e. n (omega arith)) ∙ h.shard_word j l') l);
+  shard_word = λ j l. subst (λ (f : ℕ → ℕ). get_or (set words (k + TURNS_FROM) x) (j + TURNS_FROM) 0 ≡ turn_word (f j)) (sym trn)
+      (at_put (λ (q y : ℕ). q < SHARDS → get_or (set words (k + TURNS_FROM) x) (q + TURNS_FROM) 0 ≡ turn_word y) c.turn k t j
+      (λ _. get_or-set_same words (k + TURNS_FROM) x 0 (omega arith) ∙ is)
+      (λ n l'. get_or-set_other words (k + TURNS_FROM) (j + TURNS_FROM) x 0 (λ e. n (omega arith)) ∙ h.shard_word j l') l);
 }
 
 -- ---- a step of a seat on a shard
@@ -195,7 +199,7 @@ module _ (o : TableOpening) where
       let published : v.seat.published ≤ c.published = subst (λ (d : SeatState). d.published ≤ c.published) ok.seat
       (sound.each_seat id).published.0 in
       let covers : AreApplied v.history v.seat.published (c.done k) k = λ i b lt there t.
-      before_tail c sound i (let l = sound.published_tail in omega arith) b k (ok.known i b there) t in record {
+      before_tail c sound i (let l = sound.published_tail in omega arith) b k (at_prefix v.history c.batches ok.known i b there) t in record {
         view = refl;
         batches = c.batches;
         done = c.done k;
@@ -206,21 +210,21 @@ module _ (o : TableOpening) where
             ShowsBelow l.0 v.history v.seat.published (ends numbers l.1 v.history v.seat.published) k y) (λ q. (sym same.2 q, sym same.0 q))
             (shows_below o.shards.value c.base v.history c.batches (c.done k) k v.seat.published y r.first ok.known covers has);
         lacks = λ i b holds there new. lacks_piece o.shards.value c.base c.batches (c.done k) k i b y
-            (subst (λ (n : ℕ). NumberedBelow n o.shards.value) (sym r.base_is) r.below) r.first (ok.known i b there)
-            (λ a. new ((ok.pieces i k holds).0 a)) has;
+            (subst (λ (n : ℕ). NumberedBelow n o.shards.value) (sym r.base_is) r.below) r.first (at_prefix v.history c.batches ok.known i b there)
+            (λ a. new (contained k v.pieces ((ok.pieces i k holds).0 a))) has;
       }
 
   -- the shard is at home, and the seat takes it
-  takes_free : (s : TableState) (r : Linked o s) (id k : ℕ) (v : View) (y : List Version) → get_elem? s.views id ≡ some v → k < 8
+  takes_free : (s : TableState) (r : Linked o s) (id k : ℕ) (v : View) (y : List Version) → get_elem? s.views id ≡ some v → k < SHARDS
       → Acts v.seat → v.seat.turn ≡ None → r.core.turn k ≡ 0 → HasVersions o.shards.value r.core.batches (r.core.done k) k y
       → Linked o record {
-        words = set s.words (k + 67) 1;
+        words = set s.words (k + TURNS_FROM) 1;
         homes = set s.homes k none;
         views = set s.views id (taking_view v k y);
       }
   takes_free s r id k v y at small acts no_hand free has =
       let c : RingState = r.core in let ok = r.each_view id v at in let turn : ℕ → ℕ = updated c.turn k (suc id) in
-      moved o s r id k (set s.words (k + 67) 1) (set s.homes k none) v at record {
+      moved o s r id k (set s.words (k + TURNS_FROM) 1) (set s.homes k none) v at record {
         hand = Some k;
         knows = v.seat.knows;
         taken = y;
@@ -246,14 +250,14 @@ module _ (o : TableOpening) where
   -- the shard is out, and the seat counts that
   finds_busy : (s : TableState) (r : Linked o s) (id k : ℕ) (v : View) → get_elem? s.views id ≡ some v → Acts v.seat
       → Linked o record {
-        words = set s.words (k + 67) (get_or s.words (k + 67) 0);
+        words = set s.words (k + TURNS_FROM) (get_or s.words (k + TURNS_FROM) 0);
         homes = s.homes;
         views = set s.views id (busy_view v);
       }
   finds_busy s r id k v at acts =
       let c : RingState = r.core in let ok = r.each_view id v at in
       subst (λ (ws : List ℕ). Linked o record { words = ws; homes = s.homes; views = set s.views id (busy_view v) })
-      (sym (set-get_or s.words (k + 67) 0))
+      (sym (set-get_or s.words (k + TURNS_FROM) 0))
       (turned o s r id s.words (busy_view v) v at record {
         core = after_busy numbers touches c id;
         sound = kept_busy numbers touches c r.sound id (subst Acts (sym ok.seat) acts);
@@ -279,12 +283,12 @@ module _ (o : TableOpening) where
         turns = refl;
       })
 
-  pub takes_shard : (n id : ℕ) (me : Seated) (k : ℕ) → k < 8 → Acts me.0.seat → me.0.seat.turn ≡ None
-      → Allows (Linked o) n id me (k + 67) (λ x. either (eqb x 0) 1 x) (TellsTaken (step n (k + 67) 0 1 none) me)
+  pub takes_shard : (n id : ℕ) (me : Seated) (k : ℕ) → k < SHARDS → Acts me.0.seat → me.0.seat.turn ≡ None
+      → Allows (Linked o) n id me (k + TURNS_FROM) (λ x. either (eqb x 0) 1 x) (TellsTaken (step n (k + TURNS_FROM) 0 1 none) me)
   takes_shard n id me k small acts no_hand s r wide at _ =
-      let c : RingState = r.core in let v : View = me.0 in let x : ℕ = get_or s.words (k + 67) 0 in
-      let back : k ≡ k + 67 - 67 = omega arith in
-      exchanged x 0 1 (Goes o s (k + 67) id me (TellsTaken (step n (k + 67) 0 1 none) me))
+      let c : RingState = r.core in let v : View = me.0 in let x : ℕ = get_or s.words (k + TURNS_FROM) 0 in
+      let back : k ≡ k + TURNS_FROM - TURNS_FROM = omega arith in
+      exchanged x 0 1 (Goes o s (k + TURNS_FROM) id me (TellsTaken (step n (k + TURNS_FROM) 0 1 none) me))
       (λ hit. let free : c.turn k ≡ 0 = no_turn (c.turn k) (sym (r.shows.shard_word k small) ∙ hit) in
       let h = r.homes k small free in let y : List Version = h.0 in (
         taking_view v k y,
@@ -301,21 +305,21 @@ module _ (o : TableOpening) where
 
   -- the seat ends its turn on the shard k, and leaves it at home with the versions y
   ends_turn : (s : TableState) (r : Linked o s) (id k : ℕ) (v : View) (y : List Version) (knows : List Pair) (pieces : List ℕ) (done : ℕ → List ℕ)
-      → length s.homes ≡ 8 → get_elem? s.views id ≡ some v → (r.core.seats id).turn ≡ Some k
+      → length s.homes ≡ SHARDS → get_elem? s.views id ≡ some v → (r.core.seats id).turn ≡ Some k
       → IsSoundRing (core_after r.core id (seat_after v.seat None knows) (updated r.core.turn k 0) done)
       → ((q : ℕ) → q ≢ k → done q ≡ r.core.done q)
       → ((i q : ℕ) → Among i (done q) → Among i (r.core.done q) ⊎ (v.seat.held ≡ Some i))
       → PiecesOk (record r.core { done = done }) (view_after v None knows v.taken pieces) → (v.seat.held ≡ None → pieces ≡ [])
       → HasVersions o.shards.value r.core.batches (done k) k y
       → Linked o record {
-        words = set s.words (k + 67) 0;
+        words = set s.words (k + TURNS_FROM) 0;
         homes = set s.homes k (some (Some y));
         views = set s.views id (view_after v None knows v.taken pieces);
       }
   ends_turn s r id k v y knows pieces done wide at hand sound else_done more has_pieces idle has =
       let c : RingState = r.core in let turn : ℕ → ℕ = updated c.turn k 0 in
-      let mine = (r.sound.each_seat id).turn k hand in let small : k < 8 = mine.0 in
-      moved o s r id k (set s.words (k + 67) 0) (set s.homes k (some (Some y))) v at record {
+      let mine = (r.sound.each_seat id).turn k hand in let small : k < SHARDS = mine.0 in
+      moved o s r id k (set s.words (k + TURNS_FROM) 0) (set s.homes k (some (Some y))) v at record {
         hand = None;
         knows = knows;
         taken = v.taken;
@@ -336,9 +340,9 @@ module _ (o : TableOpening) where
         home = λ _. (y, set_here s.homes k (some (Some y)) (omega arith), has);
       }
 
-  pub gives_shard : (n id : ℕ) (me : Seated) (k : ℕ) (y : List Version) (slots : List (ℕ × Slot)) → n ≡ 8 → Acts me.0.seat
+  pub gives_shard : (n id : ℕ) (me : Seated) (k : ℕ) (y : List Version) (slots : List (ℕ × Slot)) → n ≡ SHARDS → Acts me.0.seat
       → me.0.seat.turn ≡ Some k → me.1 ≡ (k, Some y) ∷ slots → HasSameVersions me.0.taken y
-      → Allows (Linked o) n id me (k + 67) (λ _. 0) (λ _. TellsGiven (step n (k + 67) 0 0 none) me 0)
+      → Allows (Linked o) n id me (k + TURNS_FROM) (λ _. 0) (λ _. TellsGiven (step n (k + TURNS_FROM) 0 0 none) me 0)
   gives_shard n id me k y slots eight acts hand carried same s r wide at _ =
       let c : RingState = r.core in let v : View = me.0 in let ok = r.each_view id v at in
       let has_hand : (c.seats id).turn ≡ Some k = ap (λ (d : SeatState). d.turn) ok.seat ∙ hand in
@@ -350,7 +354,7 @@ module _ (o : TableOpening) where
         gives,
         tt,
         subst (λ (l : List (ℕ × Slot)). Linked o record {
-          words = set s.words (k + 67) 0;
+          words = set s.words (k + TURNS_FROM) 0;
           homes = put_back s.homes l;
           views = set s.views id (given_view v);
         }) (sym carried)
@@ -374,12 +378,12 @@ module _ (o : TableOpening) where
     (λ a. ⊎_elim (λ here. inl (λ j. record { batch = sym same j; shard = here j })) (λ there. inr ((ok x q e).1 there)) a),
   )
 
-  pub gives_applied : (n id : ℕ) (me : Seated) (k i : ℕ) (b : Batch) (y : List Version) (slots : List (ℕ × Slot)) → n ≡ 8 → Acts me.0.seat
+  pub gives_applied : (n id : ℕ) (me : Seated) (k i : ℕ) (b : Batch) (y : List Version) (slots : List (ℕ × Slot)) → n ≡ SHARDS → Acts me.0.seat
       → me.0.seat.turn ≡ Some k → me.0.seat.held ≡ Some i → get_elem? me.0.history i ≡ some b → me.1 ≡ (k, Some y) ∷ slots
       → Gains me.0.taken (piece_in k b) y
-      → Allows (Linked o) n id me (k + 67) (λ _. 0) (λ _. TellsApplied (step n (k + 67) 0 0 none) me 0)
+      → Allows (Linked o) n id me (k + TURNS_FROM) (λ _. 0) (λ _. TellsApplied (step n (k + TURNS_FROM) 0 0 none) me 0)
   gives_applied n id me k i b y slots eight acts hand holds there carried gains s r wide at _ =
-      let c : RingState = r.core in let v : View = me.0 in let ok = r.each_view id v at in let back : k ≡ k + 67 - 67 = omega arith in
+      let c : RingState = r.core in let v : View = me.0 in let ok = r.each_view id v at in let back : k ≡ k + TURNS_FROM - TURNS_FROM = omega arith in
       let done : ℕ → List ℕ = updated c.done k (i ∷ c.done k) in let pair : Pair = record { batch = i; shard = k } in
       let has_hand : (c.seats id).turn ≡ Some k = ap (λ (d : SeatState). d.turn) ok.seat ∙ hand in
       let near = ((r.sound.each_seat id).held i (ap (λ (d : SeatState). d.held) ok.seat ∙ holds)).0 in
@@ -387,12 +391,12 @@ module _ (o : TableOpening) where
       subst (λ (d : SeatState). IsSoundRing (core_after c id (seat_after d None (pair ∷ d.knows)) (updated c.turn k 0) done)) ok.seat
       (applying numbers touches c r.sound id k i (subst Acts (sym ok.seat) acts) has_hand near) in
       let has = subst (λ (l : List ℕ). HasVersions o.shards.value c.batches l k y) (sym (put_here c.done k (i ∷ c.done k)))
-      (gains_piece o.shards.value c.batches (c.done k) k v.taken y i b (ok.known i b there) gains (ok.turn k hand)) in (
+      (gains_piece o.shards.value c.batches (c.done k) k v.taken y i b (at_prefix v.history c.batches ok.known i b there) gains (ok.turn k hand)) in (
         applied_view v i k,
         gives,
         tt,
         subst (λ (l : List (ℕ × Slot)). Linked o record {
-          words = set s.words (k + 67) 0;
+          words = set s.words (k + TURNS_FROM) 0;
           homes = put_back s.homes l;
           views = set s.views id (applied_view v i k);
         }) (sym carried)

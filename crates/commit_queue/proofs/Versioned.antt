@@ -1,5 +1,5 @@
 -- The versions of a shard: what keeps them, what a batch adds, and what is seen below the end of the first batches.
-use Rattle.std.proofs.Common.{◌≡◌, ◌≢◌, ◌⊎◌, inl, inr, ⊎_elim, ℕ, zero, suc, ◌+◌, ◌≤◌, ◌<◌, List, [], ◌∷◌, length, take, refl, sym, ap, ◌∙◌, subst, lt_of_not-le, arith}
+use Rattle.std.proofs.Common.{◌≡◌, ◌≢◌, ◌⊎◌, inl, inr, ⊎_elim, ℕ, zero, suc, ◌+◌, ◌≤◌, ◌<◌, List, [], ◌∷◌, ◌++◌, length, take, refl, sym, ap, ◌∙◌, subst, lt_of_not-le, arith}
 use Rattle.std.specs.Prelude.{Contains}
 use mathlib.Core.Logic.{dite}
 use mathlib.Core.Option.{some, some-injective, some-ne-none}
@@ -7,16 +7,17 @@ use native.Mathlib.Decide.{dec_le}
 use lib.ListN.{get_elem?}
 use Rattle.std.proofs.lemmas.Option.{slice_get_within, get_or_from_slice_get}
 use Rattle.std.proofs.lemmas.List.Elements.{Contains-append_left, Contains-append_right, Contains-append_cases, filter-append}
-use Rattle.wal_base.proofs.Laws.{none_within}
+use Rattle.wal_base.specs.Prefixes.{IsPrefixOf}
+use Rattle.wal_base.proofs.Laws.{none_within, at_prefix}
 use Rattle.batch_repr.specs.declared.batch.Batch.{Batch}
 use Rattle.batch_repr.specs.Batches.{IsContiguous, end_of}
-use Rattle.arena_list.specs.Versions.{Version}
+use Rattle.memtable_shards.specs.Versions.{Version}
 use Rattle.memtable_shards.specs.Versions.{versions_of, versions_in, of_shard, piece_in, Gains, HasSameVersions}
 use Rattle.memtable_shards.proofs.Laws.{version_within, in_piece, touched}
 use Rattle.publish_core.specs.Machine.{Among, ends}
 use Rattle.publish_core.proofs.Laws.{ends_mono}
 use Rattle.commit_queue.specs.Shards.{NumberedBelow, IsApplied, HasVersions, AreApplied, ShowsBelow, LacksPiece}
-use Rattle.commit_queue.specs.Rule.{numbers, IsPrefix}
+use Rattle.commit_queue.specs.Rule.{numbers}
 use Rattle.commit_queue.proofs.Becomes.{prefix_at}
 
 -- ---- the pieces of the first batches
@@ -84,17 +85,19 @@ piece_within base batches in_order i b k v at h =
     (omega arith, omega arith)
 
 -- a batch that begins at or below a number below the end of the first n is one of these
-among_first : (base : ℕ) (xs ys : List Batch) → IsPrefix xs ys → (n i number : ℕ) → number < ends numbers base xs n
-    → ends numbers base ys i ≤ number → (i < n) × (i < length xs)
-among_first base xs ys goes_on zero i number below from = let m = ends_mono numbers base ys 0 i (omega arith) in absurd (omega arith)
-among_first base [] ys goes_on (suc n) i number below from = let m = ends_mono numbers base ys 0 i (omega arith) in absurd (omega arith)
-among_first base (x ∷ xs) [] goes_on (suc n) i number below from = absurd (some-ne-none x (sym (goes_on 0 x refl)))
-among_first base (x ∷ xs) (y ∷ ys) goes_on (suc n) zero number below from = (omega arith, omega arith)
-among_first base (x ∷ xs) (y ∷ ys) goes_on (suc n) (suc i) number below from =
-    let same : y ≡ x = some-injective y x (goes_on 0 x refl) in
-    let rest = among_first (base + numbers x) xs ys (λ k b at. goes_on (suc k) b at) n i number below
-    (subst (λ (z : Batch). ends numbers (base + numbers z) ys i ≤ number) same from) in
+among_front : (base : ℕ) (xs more : List Batch) (n i number : ℕ) → number < ends numbers base xs n
+    → ends numbers base (xs ++ more) i ≤ number → (i < n) × (i < length xs)
+among_front base xs more zero i number below from = let m = ends_mono numbers base (xs ++ more) 0 i (omega arith) in absurd (omega arith)
+among_front base [] more (suc n) i number below from = let m = ends_mono numbers base more 0 i (omega arith) in absurd (omega arith)
+among_front base (x ∷ xs) more (suc n) zero number below from = (omega arith, omega arith)
+among_front base (x ∷ xs) more (suc n) (suc i) number below from =
+    let rest = among_front (base + numbers x) xs more n i number below from in
     (omega (arith, rest.0), omega (arith, rest.1))
+
+among_first : (base : ℕ) (xs ys : List Batch) → IsPrefixOf xs ys → (n i number : ℕ) → number < ends numbers base xs n
+    → ends numbers base ys i ≤ number → (i < n) × (i < length xs)
+among_first base xs ys goes_on n i number below from = among_front base xs goes_on.0 n i number below
+    (subst (λ (l : List Batch). ends numbers base l i ≤ number) goes_on.1 from)
 
 -- ---- the versions of a shard
 
@@ -124,7 +127,7 @@ gains_piece opening batches done k old new i b at gains has = (has.0, has.1, λ 
 
 -- Where the first n batches of a history are applied, their versions and those of the opening are what is seen below their end.
 pub shows_below : (opening : List (List Version)) (base : ℕ) (history batches : List Batch) (done : List ℕ) (k n : ℕ) (versions : List Version)
-    → BeginInOrder base batches → IsPrefix history batches → AreApplied history n done k → HasVersions opening batches done k versions
+    → BeginInOrder base batches → IsPrefixOf history batches → AreApplied history n done k → HasVersions opening batches done k versions
     → ShowsBelow opening history n (ends numbers base history n) k versions
 shows_below opening base history batches done k n versions in_order goes_on applied has =
     (has.0, has.1, λ v below. ((λ h. to v below ((has.2 v).0 h)), (λ h. (has.2 v).1 (from v h))))
@@ -140,7 +143,7 @@ shows_below opening base history batches done k n versions in_order goes_on appl
         → Contains has.0 v ⊎ IsApplied batches done k v
     from v (inl first) = inl first
     from v (inr h) = let its = at_piece k n history v h in
-        inr (its.0, its.1, applied its.0 its.1 its.2 its.3 (touched k its.1 v its.4), goes_on its.0 its.1 its.3, its.4)
+        inr (its.0, its.1, applied its.0 its.1 its.2 its.3 (touched k its.1 v its.4), at_prefix history batches goes_on its.0 its.1 its.3, its.4)
 
 -- a batch that is not applied has numbers of its own
 pub lacks_piece : (opening : List (List Version)) (base : ℕ) (batches : List Batch) (done : List ℕ) (k i : ℕ) (b : Batch) (versions : List Version)

@@ -1,35 +1,42 @@
 -- What the calls ask and answer, over what a seat knows before and after (docs/formats/ring.md, "The ring").
-use Rattle.std.specs.Prelude.{◌≡◌, ◌≢◌, ◌⊎◌, ◌↔◌, ℕ, suc, ◌+◌, ◌*◌, ◌%◌, ◌<◌, ◌≤◌, min, max, Bool, true, false, IsTrue, List, [], ◌++◌, length, Some, None, unwrap_or}
+use Rattle.std.specs.Prelude.{◌≡◌, ◌≢◌, ◌⊎◌, ◌↔◌, ℕ, suc, ◌+◌, ◌*◌, ◌%◌, ◌<◌, ◌≤◌, min, max, Bool, true, false, IsTrue, List, [], ◌++◌, length, Some, None, unwrap_or, Contains}
 use mathlib.Core.Option.{some}
 use lib.ListN.{get_elem?}
+use Rattle.wal_base.specs.Prefixes.{IsPrefixOf}
 use Rattle.batch_repr.specs.declared.batch.Batch.{Batch}
 use Rattle.batch_repr.specs.declared.limits.TheConstants.{BATCHES_MAX}
 use Rattle.publish_core.specs.declared.seat.Claim.TheVariants.{Free}
-use Rattle.publish_core.specs.declared.seat.Kind.TheVariants.{Note, Producer}
-use Rattle.publish_core.specs.Machine.{Among, ends, both_held, held_or}
+use Rattle.publish_core.specs.declared.seat.Kind.TheVariants.{Producer}
+use Rattle.publish_core.specs.Machine.{ends, both_held, held_or}
 use Rattle.commit_queue.specs.declared.published.Published.{Published}
 use Rattle.commit_queue.specs.declared.published.Published.TheVariants.{Raised, NotReady, Raced}
 use Rattle.commit_queue.specs.declared.view.View.{View}
-use Rattle.arena_list.specs.Versions.{Version}
+use Rattle.memtable_shards.specs.Versions.{Version}
 use Rattle.memtable_shards.specs.Pieces.{PiecesLeft}
 use Rattle.memtable_shards.specs.Versions.{piece_in, touches, Gains, HasSameVersions}
-use Rattle.commit_queue.specs.Rule.{numbers, IsPrefix}
+use Rattle.publish_core.specs.declared.state.TheConstants.{SLOTS}
+use Rattle.commit_queue.specs.Rule.{numbers}
 use Rattle.commit_queue.specs.Views.{read_view, marked_view, ends_view, lost_view, won_view, emptied_view, raised_view}
-use Rattle.commit_queue.specs.Views.{raising_view, acked_view, told_acked, telling_view, shown_view, settled_view}
+use Rattle.commit_queue.specs.Views.{raising_view, acked_view, told_acked, telling_view, settled_view}
 use Rattle.commit_queue.specs.Views.{given_view, applied_view}
 use Rattle.commit_queue.specs.Tells.{high, low, IsSettledBy}
+use Rattle.commit_queue.specs.Shown.{told_view}
 
 -- The slot at head was read, and was found free exactly where the word was 0.
 abbrev pub ReadsHeadSlot : View → Bool → View → Type 0
-ReadsHeadSlot v free v' = (word : ℕ) × (v' ≡ read_view v (v.head % 64) word) × (IsTrue free ↔ (word ≡ 0))
+ReadsHeadSlot v free v' = (word : ℕ) × (v' ≡ read_view v (v.head % SLOTS) word) × (IsTrue free ↔ (word ≡ 0))
 
 -- the number that the next batch begins with: the end of the last one, or the table's first number
 abbrev pub next_number : View → ℕ
 next_number v = ends numbers v.base v.history (length v.history)
 
+-- The slot at head was read last, as 0.
+abbrev pub HasFreeSlot : View → Type 0
+HasFreeSlot v = v.seat.reading ≡ Some record { at = v.head % SLOTS; word = 0 }
+
 -- The slot at head was read last, as 0, and this is not forgotten; nothing is held; the batch follows the last one.
 pub record CanPlace (v : View) (b : Batch) : Type 0 where
-  pub empty : v.seat.reading ≡ Some record { at = v.head % 64; word = 0 }
+  pub empty : HasFreeSlot v
   pub idle : v.seat.held ≡ None
   pub follows : b.first ≡ next_number v
   pub few : length v.history < BATCHES_MAX
@@ -53,7 +60,7 @@ pub record HoldsAdmitted (v : View) : Type 0 where
 
 -- The batch i, which the seat holds, is applied in each shard where it leaves a version.
 abbrev pub IsAppliedAll : View → ℕ → Type 0
-IsAppliedAll v i = (b : Batch) (k : ℕ) → get_elem? v.history i ≡ some b → IsTrue (touches b k) → Among k v.pieces
+IsAppliedAll v i = (b : Batch) (k : ℕ) → get_elem? v.history i ≡ some b → IsTrue (touches b k) → Contains v.pieces k
 
 -- The seat holds a batch that is admitted, and applied in each shard where it leaves a version.
 pub record CanMark (v : View) : Type 0 where
@@ -89,7 +96,7 @@ MarksHeld v v' = (i : ℕ) → v.seat.held ≡ Some i → v' ≡ marked_view v i
 
 -- the view once the ends and the front's slot are read
 abbrev pub looked_view : View → ℕ → ℕ → ℕ → View
-looked_view v h t w = read_view (ends_view v h t) (t % 64) w
+looked_view v h t w = read_view (ends_view v h t) (t % SLOTS) w
 
 -- The batch i, which ends at e, was taken from the front, its slot emptied, and the visible number raised to at least e:
 -- so many batches are published. The history grew once as the front was claimed, and again at the end.
@@ -99,8 +106,8 @@ pub record TriesRaised (v : View) (i e : ℕ) (v' : View) : Type 0 where
   pub count : ℕ
   pub history : List Batch
   pub view : v' ≡ raised_view (emptied_view (won_view (looked_view v head i (2 * e + 1)) i claimed) i) count history
-  pub goes_on : IsPrefix v.history claimed
-  pub goes_further : IsPrefix claimed history
+  pub goes_on : IsPrefixOf v.history claimed
+  pub goes_further : IsPrefixOf claimed history
   pub within : suc i ≤ length claimed
   pub end_is : e ≡ ends numbers v.base claimed (suc i)
   pub past : suc i ≤ count
@@ -143,8 +150,8 @@ SettlesView v v' = (r : ℕ) × (h : List Batch) × (v' ≡ settled_view (ends_v
 -- The seat of v has taken in that of w: it has seen what both had seen, and holds what either held.
 pub record TakesIn (v w v' : View) : Type 0 where
   pub calm : v'.absorbed ≡ []
-  pub goes_on : IsPrefix v.history v'.history
-  pub has_both : IsPrefix w.history v'.history
+  pub goes_on : IsPrefixOf v.history v'.history
+  pub has_both : IsPrefixOf w.history v'.history
   pub same_base : w.base ≡ v.base
   pub published : v'.seat.published ≡ max v.seat.published w.seat.published
   pub acked : v'.seat.acked ≡ max v.seat.acked w.seat.acked
@@ -165,7 +172,7 @@ pub record TakesIn (v w v' : View) : Type 0 where
 
 -- The seat of v, which has met that of w, has seen what both had seen.
 abbrev pub SeesBoth : View → View → View → Type 0
-SeesBoth v w v' = TakesIn (telling_view v) (shown_view Note w) v'
+SeesBoth v w v' = TakesIn (telling_view v) (told_view w) v'
 
 -- What a call that publishes or reads leaves of a view, and a meeting for which there was no memory.
 pub record ViewGoesOn (v v' : View) : Type 0 where
@@ -181,7 +188,7 @@ pub record ViewGoesOn (v v' : View) : Type 0 where
   pub base : v'.base ≡ v.base
   pub opening : v'.opening ≡ v.opening
   pub head : v'.head ≡ v.head
-  pub history : IsPrefix v.history v'.history
+  pub history : IsPrefixOf v.history v'.history
   pub whole : v.seat.kind ≡ Producer → v'.history ≡ v.history
   pub published : v.seat.published ≤ v'.seat.published
   pub acked : v.seat.acked ≤ v'.seat.acked
@@ -211,7 +218,7 @@ pub record GivesApplied (v : View) (versions : List Version) : Type 0 where
   pub holds : v.seat.held ≡ Some index
   pub at : get_elem? v.history index ≡ some batch
   pub has_piece : IsTrue (touches batch shard)
-  pub new : Among shard v.pieces → ⊥
+  pub new : Contains v.pieces shard → ⊥
   pub gains : Gains v.taken (piece_in shard batch) versions
 
 -- what a seat may give back, and whether it has applied a piece
@@ -228,7 +235,7 @@ EndsTurn v true v' = (i k : ℕ) → v.seat.held ≡ Some i → v.seat.turn ≡ 
 -- was among what it had seen. Where that was the flush seat, no more is seen acked than it had raised the word to.
 pub record TakesBack (p w p' : View) : Type 0 where
   pub history : p'.history ≡ p.history
-  pub has_both : IsPrefix w.history p.history
+  pub has_both : IsPrefixOf w.history p.history
   pub same_base : w.base ≡ p.base
   pub calm : p'.absorbed ≡ []
   pub published : p'.seat.published ≡ max p.seat.published w.seat.published
@@ -237,7 +244,7 @@ pub record TakesBack (p w p' : View) : Type 0 where
   pub within_back : w.seat.published ≤ length w.history
   pub own : p'.seat.own ≡ p.seat.own ++ w.seat.own
   -- where its own batches are as many as there are, it has them all
-  pub all : length p'.history ≤ length p'.seat.own → (i : ℕ) → i < length p'.history → Among i p'.seat.own
+  pub all : length p'.history ≤ length p'.seat.own → (i : ℕ) → i < length p'.history → Contains p'.seat.own i
   pub kind : p'.seat.kind ≡ p.seat.kind
   pub held : p'.seat.held ≡ p.seat.held
   pub pieces : p'.pieces ≡ p.pieces ++ w.pieces

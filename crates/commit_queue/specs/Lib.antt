@@ -1,6 +1,7 @@
 pub mod Shards
 pub mod Rule
 pub mod Views
+pub mod Shown
 pub mod Tells
 pub mod Stands
 pub mod Tables

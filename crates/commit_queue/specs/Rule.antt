@@ -1,19 +1,24 @@
 -- The rule of the table: its words, the shards at home and all views are one sound state of the ring's machine (docs/formats/ring.md, "The ring").
-use Rattle.std.specs.Prelude.{◌≡◌, ◌≢◌, ℕ, zero, suc, ◌+◌, ◌*◌, ◌^◌, ◌<◌, ◌≤◌, List, [], length, Option, Some, None, slice_index, true}
+use Rattle.std.specs.Prelude.{◌≡◌, ◌≢◌, ℕ, zero, suc, ◌+◌, ◌*◌, ◌<◌, ◌≤◌, List, [], length, Option, Some, None, slice_index, true}
 use mathlib.Core.Option.{some}
 use mathlib.Core.Option as maybe
 use lib.ListN.{get_elem?}
 use Rattle.atomic_table.specs.Table as table
+use Rattle.wal_base.specs.Prefixes.{IsPrefixOf}
 use Rattle.batch_repr.specs.declared.batch.Batch.{Batch}
+use Rattle.batch_repr.specs.declared.limits.TheConstants.{BATCHES_MAX}
 use Rattle.batch_repr.specs.Batches.{count_of}
-use Rattle.arena_list.specs.Versions.{Version}
+use Rattle.memtable_shards.specs.declared.sharding.TheConstants.{SHARDS}
+use Rattle.memtable_shards.specs.Versions.{Version}
 use Rattle.memtable_shards.specs.Versions.{touches}
 use Rattle.publish_core.specs.declared.seat.Kind.TheVariants.{Producer, Spent}
+use Rattle.publish_core.specs.declared.state.TheConstants.{SLOTS, END_LIMIT}
 use Rattle.publish_core.specs.Machine.{Among, CoreState, ends, visible}
 use Rattle.publish_core.specs.Sound.{Sound}
 use Rattle.commit_queue.specs.declared.view.AckedKnown.{AckedKnown}
 use Rattle.commit_queue.specs.declared.view.View.{View}
 use Rattle.commit_queue.specs.declared.pipe_table.TableOpening.{TableOpening}
+use Rattle.commit_queue.specs.declared.layout.TheConstants.{ENDS, VISIBLE, ACKED, RING_FROM, TURNS_FROM, WORDS, HALF}
 use Rattle.commit_queue.specs.Shards.{HasVersions, NumberedBelow}
 
 -- a state of the ring's machine, over batches as they are written
@@ -43,16 +48,12 @@ turn_word (suc j) = 1
 
 -- The words show this state of the machine.
 pub record Shows (c : RingState) (words : List ℕ) : Type 0 where
-  pub wide : length words ≡ 75
-  pub ends_word : slice_index words 0 ≡ c.head * 4294967296 + c.tail
-  pub visible_word : slice_index words 1 ≡ visible numbers c
-  pub acked_word : slice_index words 2 ≡ c.acked
-  pub ring_word : (k : ℕ) → k < 64 → slice_index words (k + 3) ≡ c.ring k
-  pub shard_word : (k : ℕ) → k < 8 → slice_index words (k + 67) ≡ turn_word (c.turn k)
-
--- Each batch of the first list stands at its place in the second.
-abbrev pub IsPrefix : List Batch → List Batch → Type 0
-IsPrefix xs ys = (k : ℕ) (b : Batch) → get_elem? xs k ≡ some b → get_elem? ys k ≡ some b
+  pub wide : length words ≡ WORDS
+  pub ends_word : slice_index words ENDS ≡ c.head * HALF + c.tail
+  pub visible_word : slice_index words VISIBLE ≡ visible numbers c
+  pub acked_word : slice_index words ACKED ≡ c.acked
+  pub ring_word : (k : ℕ) → k < SLOTS → slice_index words (k + RING_FROM) ≡ c.ring k
+  pub shard_word : (k : ℕ) → k < SHARDS → slice_index words (k + TURNS_FROM) ≡ turn_word (c.turn k)
 
 -- What the seat j knows of the acked word holds: acked and made are the machine's, seen is what it has seen acked.
 pub record AckedKnownOk (acked made j seen : ℕ) (k : AckedKnown) : Type 0 where
@@ -69,8 +70,8 @@ PiecesOk c v = (i k : ℕ) → v.seat.held ≡ Some i
 pub record ViewOk (opening : List (List Version)) (c : RingState) (j : ℕ) (v : View) : Type 0 where
   pub seat : c.seats j ≡ v.seat
   pub base : v.seat.kind ≢ Spent → (v.base ≡ c.base) × (v.absorbed_base ≡ c.base) × (v.opening ≡ opening)
-  pub known : IsPrefix v.history c.batches
-  pub absorbed : IsPrefix v.absorbed c.batches
+  pub known : IsPrefixOf v.history c.batches
+  pub absorbed : IsPrefixOf v.absorbed c.batches
   pub seen : v.absorbed ≡ [] → v.seat.seen ≤ length v.history
   pub producer : v.seat.kind ≡ Producer → j ≡ 0
   pub whole : j ≡ 0 → v.history ≡ c.batches
@@ -90,10 +91,10 @@ pub record Linked (o : TableOpening) (s : TableState) : Type 0 where
   pub sound : IsSoundRing core
   pub base_is : core.base ≡ o.base
   pub below : NumberedBelow o.base o.shards.value
-  pub few : length core.batches ≤ 1048576
-  pub small : (i : ℕ) → i < length core.batches → ends numbers core.base core.batches (suc i) < 2 ^ 56
+  pub few : length core.batches ≤ BATCHES_MAX
+  pub small : (i : ℕ) → i < length core.batches → ends numbers core.base core.batches (suc i) < END_LIMIT
   pub first : (i : ℕ) (b : Batch) → get_elem? core.batches i ≡ some b → b.first ≡ ends numbers core.base core.batches i
   pub shows : Shows core s.words
   pub made : length s.views ≡ core.made
   pub each_view : (j : ℕ) (v : View) → get_elem? s.views j ≡ some v → ViewOk o.shards.value core j v
-  pub homes : (k : ℕ) → k < 8 → core.turn k ≡ 0 → AtHome o.shards.value core s.homes k
+  pub homes : (k : ℕ) → k < SHARDS → core.turn k ≡ 0 → AtHome o.shards.value core s.homes k

@@ -1,8 +1,7 @@
 -- What is seen of each kind of seat: the table that it is of, and what it knows (docs/formats/ring.md, "The ring").
-use Rattle.std.specs.Prelude.{◌≡◌, ℕ, List, All, length, None}
+use Rattle.std.specs.Prelude.{◌≡◌, ℕ, List, All, length}
 use Rattle.atomic_table.specs.Seated.{TableId}
-use Rattle.publish_core.specs.declared.seat.Kind.TheVariants.{Worker}
-use Rattle.arena_list.specs.Versions.{Version}
+use Rattle.memtable_shards.specs.Versions.{Version}
 use Rattle.commit_queue.specs.declared.pipe_table.PipeTable.{PipeTable}
 use Rattle.commit_queue.specs.declared.seats.ProducerSeat.{ProducerSeat}
 use Rattle.commit_queue.specs.declared.seats.SessionSeat.{SessionSeat}
@@ -10,8 +9,9 @@ use Rattle.commit_queue.specs.declared.seats.Handed.{Handed}
 use Rattle.commit_queue.specs.declared.seats.FlushSeat.{FlushSeat}
 use Rattle.commit_queue.specs.declared.view.View.{View}
 use Rattle.commit_queue.specs.Tables.{IsOfTable}
-use Rattle.commit_queue.specs.Views.{first_view, opened_view, shown_view, flush_view, without_batch, handed_view}
+use Rattle.commit_queue.specs.Views.{first_view, opened_view, flush_view, without_batch, handed_view}
 use Rattle.commit_queue.specs.Calls.{SeesBoth, ViewGoesOn}
+use Rattle.commit_queue.specs.Shown.{new_session_view, HasFreeHands, shown_by}
 
 abbrev pub producer_table : ProducerSeat → TableId
 producer_table p = p.seat.table_id
@@ -43,7 +43,7 @@ flush_seat_view f = f.seat.me.0
 
 -- The seat holds no batch and has no turn.
 abbrev pub HoldsNothing : View → Type 0
-HoldsNothing v = (v.seat.held ≡ None) × (v.seat.turn ≡ None)
+HoldsNothing v = HasFreeHands (shown_by v)
 
 -- The producer's seat of a new table.
 abbrev pub IsNewProducer : PipeTable → ℕ → List (List Version) → ProducerSeat → Type 0
@@ -55,7 +55,7 @@ IsNewFlush table base opening f = IsOfTable table (flush_table f) × (flush_seat
 
 -- A session's seat of a new table.
 abbrev pub IsNewSession : PipeTable → ℕ → List (List Version) → SessionSeat → Type 0
-IsNewSession table base opening s = IsOfTable table (session_table s) × (session_view s ≡ shown_view Worker (opened_view base opening))
+IsNewSession table base opening s = IsOfTable table (session_table s) × (session_view s ≡ new_session_view base opening)
 
 -- So many seats of new sessions.
 pub record AreNewSessions (table : PipeTable) (base : ℕ) (opening : List (List Version)) (count : ℕ) (seats : List SessionSeat) : Type 0 where

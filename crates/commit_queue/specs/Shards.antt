@@ -3,7 +3,7 @@ use Rattle.std.specs.Prelude.{◌≡◌, ◌⊎◌, ◌↔◌, ℕ, ◌<◌, Lis
 use mathlib.Core.Option.{some}
 use lib.ListN.{get_elem?}
 use Rattle.batch_repr.specs.declared.batch.Batch.{Batch}
-use Rattle.arena_list.specs.Versions.{Version}
+use Rattle.memtable_shards.specs.Versions.{Version}
 use Rattle.memtable_shards.specs.Versions.{versions_in, of_shard, piece_in, touches, HaveOtherNumbers}
 use Rattle.publish_core.specs.Machine.{Among}
 

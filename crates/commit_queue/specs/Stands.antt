@@ -1,7 +1,10 @@
 -- What holds of each kind of seat between two calls, of its view and of the numbers that it keeps for the code (docs/formats/ring.md, "The ring").
-use Rattle.std.specs.Prelude.{◌≡◌, ℕ, suc, ◌^◌, ◌<◌, ◌≤◌, List, [], ◌∷◌, length, Option, Some, None, true, false}
+use Rattle.std.specs.Prelude.{◌≡◌, ℕ, suc, ◌<◌, ◌≤◌, List, [], ◌∷◌, length, Option, Some, None, true, false}
+use Rattle.batch_repr.specs.declared.limits.TheConstants.{BATCHES_MAX}
+use Rattle.memtable_shards.specs.declared.sharding.TheConstants.{SHARDS}
 use Rattle.publish_core.specs.declared.seat.Claim.TheVariants.{Free}
 use Rattle.publish_core.specs.declared.seat.Kind.TheVariants.{Note, Producer, Worker}
+use Rattle.publish_core.specs.declared.state.TheConstants.{END_LIMIT}
 use Rattle.publish_core.specs.Machine.{ends}
 use Rattle.commit_queue.specs.declared.view.View.{View}
 use Rattle.commit_queue.specs.Rule.{Slot, numbers}
@@ -10,12 +13,12 @@ use Rattle.commit_queue.specs.Tells.{Seated}
 -- The batch that the seat holds, if any, has this index and this end.
 abbrev pub HasTicket : View → ℕ → ℕ → Type 0
 HasTicket v index end = (i : ℕ) → v.seat.held ≡ Some i
-    → (i ≡ index) × (suc i ≤ length v.history) × (end ≡ ends numbers v.base v.history (suc i)) × (end < 2 ^ 56)
+    → (i ≡ index) × (suc i ≤ length v.history) × (end ≡ ends numbers v.base v.history (suc i)) × (end < END_LIMIT)
 
 -- The batch that the producer's seat holds, if any, is the last one and has this end.
 abbrev pub HoldsLast : View → ℕ → Type 0
 HoldsLast v end = (i : ℕ) → v.seat.held ≡ Some i
-    → (suc i ≡ length v.history) × (end ≡ ends numbers v.base v.history (suc i)) × (end < 2 ^ 56)
+    → (suc i ≡ length v.history) × (end ≡ ends numbers v.base v.history (suc i)) × (end < END_LIMIT)
 
 -- the slot that is out with a seat: that of the shard of its turn, which is empty meanwhile
 abbrev pub slots_out : Option ℕ → List (ℕ × Slot)
@@ -25,7 +28,7 @@ slots_out (Some k) = (k, None) ∷ []
 -- The seat has its turn, if any, on this shard, and carries its slot alone.
 pub record CarriesTurn (me : Seated) (turn : Option ℕ) : Type 0 where
   pub turn_is : me.0.seat.turn ≡ turn
-  pub within : (k : ℕ) → turn ≡ Some k → k < 8
+  pub within : (k : ℕ) → turn ≡ Some k → k < SHARDS
   pub carries : me.1 ≡ slots_out turn
 
 -- what holds of the producer's seat
@@ -37,7 +40,7 @@ pub record ProducerStands (id : ℕ) (me : Seated) (head end : ℕ) (turn : Opti
   pub free : me.0.seat.claim ≡ Free
   pub carries : CarriesTurn me turn
   pub admitted : me.0.head ≤ length me.0.history
-  pub few : length me.0.history ≤ 1048576
+  pub few : length me.0.history ≤ BATCHES_MAX
   pub within : me.0.seat.published ≤ length me.0.history
   pub holds : HoldsLast me.0 end
 

@@ -1,18 +1,20 @@
 -- What each step tells, of the view before, the word found and the view after (docs/formats/ring.md, "The ring").
-use Rattle.std.specs.Prelude.{◌≡◌, ◌≢◌, ℕ, suc, ◌+◌, ◌-◌, ◌*◌, ◌/◌, ◌%◌, ◌<◌, ◌≤◌, List, ◌∷◌, length, Some}
+use Rattle.std.specs.Prelude.{◌≡◌, ◌≢◌, ℕ, suc, ◌+◌, ◌-◌, ◌*◌, ◌/◌, ◌%◌, ◌<◌, ◌≤◌, List, ◌∷◌, length, Some, Contains}
 use Rattle.atomic_table.specs.Table.{Me, Step, rest}
 use Rattle.batch_repr.specs.declared.batch.Batch.{Batch}
 use Rattle.batch_repr.specs.declared.limits.TheConstants.{BATCHES_MAX}
 use Rattle.batch_repr.specs.Batches.{IsContiguous}
-use Rattle.arena_list.specs.Versions.{Version}
+use Rattle.memtable_shards.specs.Versions.{Version}
 use Rattle.publish_core.specs.declared.seat.Claim.TheVariants.{Taken, Emptied}
 use Rattle.publish_core.specs.declared.seat.Kind.TheVariants.{Producer}
 use Rattle.publish_core.specs.declared.seat.Reading.{Reading}
 use mathlib.Core.Option.{some}
 use lib.ListN.{get_elem?}
-use Rattle.publish_core.specs.Machine.{Among, ends}
+use Rattle.wal_base.specs.Prefixes.{IsPrefixOf}
+use Rattle.publish_core.specs.Machine.{ends}
 use Rattle.commit_queue.specs.declared.view.View.{View}
-use Rattle.commit_queue.specs.Rule.{Slot, numbers, IsPrefix}
+use Rattle.commit_queue.specs.declared.layout.TheConstants.{RING_FROM, TURNS_FROM, HALF}
+use Rattle.commit_queue.specs.Rule.{Slot, numbers}
 use Rattle.commit_queue.specs.Views.{read_view, placed_view, admitted_view, marked_view, ends_view, lost_view, won_view}
 use Rattle.commit_queue.specs.Views.{emptied_view, raised_view, visible_view, settled_view, raising_view, acked_view}
 use Rattle.commit_queue.specs.Views.{taking_view, busy_view, given_view, applied_view}
@@ -22,17 +24,17 @@ use Rattle.commit_queue.specs.Shards.{HasVersions, AreApplied, ShowsBelow, Lacks
 abbrev pub Seated : Type 0
 Seated = Me Slot View
 
--- the head in a word 0
+-- the head in a word of both ends
 abbrev pub high : ℕ → ℕ
-high r = r / 4294967296
+high r = r / HALF
 
--- the tail in a word 0
+-- the tail in a word of both ends
 abbrev pub low : ℕ → ℕ
-low r = r % 4294967296
+low r = r % HALF
 
 -- The history grew to h, which reaches to n. The producer's does not grow: it is whole.
 abbrev pub Grew : View → List Batch → ℕ → Type 0
-Grew v h n = IsPrefix v.history h × (n ≤ length h) × (v.seat.kind ≡ Producer → h ≡ v.history)
+Grew v h n = IsPrefixOf v.history h × (n ≤ length h) × (v.seat.kind ≡ Producer → h ≡ v.history)
 
 -- Each batch that ends at or below r is among the first n.
 abbrev pub ReachesTo : ℕ → List Batch → ℕ → ℕ → Type 0
@@ -44,7 +46,7 @@ TopsAt base h n r = (k : ℕ) → k ≤ length h → r ≤ ends numbers base h k
 
 -- A ring slot was read.
 abbrev pub TellsSlot : Step Slot → Seated → ℕ → Seated → Type 0
-TellsSlot st m r m' = (m'.1 ≡ m.1) × (m'.0 ≡ read_view m.0 (st.word - 3) r)
+TellsSlot st m r m' = (m'.1 ≡ m.1) × (m'.0 ≡ read_view m.0 (st.word - RING_FROM) r)
 
 -- The batch b was placed.
 abbrev pub TellsPlaced : Batch → Step Slot → Seated → ℕ → Seated → Type 0
@@ -107,8 +109,8 @@ TellsAcked st m r m' = (m'.1 ≡ m.1) × (m'.0 ≡ acked_view m.0 r) × (m.0.sea
 
 -- What holds of the view v of a seat that took in another, by the rule, where h are the batches of the table.
 pub record IsSettledBy (v : View) (h : List Batch) : Type 0 where
-  pub goes_on : IsPrefix v.history h
-  pub has_absorbed : IsPrefix v.absorbed h
+  pub goes_on : IsPrefixOf v.history h
+  pub has_absorbed : IsPrefixOf v.absorbed h
   pub same_base : v.absorbed_base ≡ v.base
   pub within : v.seat.seen ≤ length h
   pub published_within : v.seat.published ≤ length h
@@ -117,7 +119,7 @@ pub record IsSettledBy (v : View) (h : List Batch) : Type 0 where
   pub retired : (n : ℕ) → v.acked_known.retired ≡ Some n → v.seat.acked ≤ n
   pub whole : v.seat.kind ≡ Producer → h ≡ v.history
   -- where its own batches are as many as there are, it has them all
-  pub all : length h ≤ length v.seat.own → (i : ℕ) → i < length h → Among i v.seat.own
+  pub all : length h ≤ length v.seat.own → (i : ℕ) → i < length h → Contains v.seat.own i
 
 -- Head and tail were read, and the history is now that of both seats.
 abbrev pub TellsSettled : Step Slot → Seated → ℕ → Seated → Type 0
@@ -130,15 +132,15 @@ pub record TakesShard (v : View) (k : ℕ) (versions : List Version) (v' : View)
   pub view : v' ≡ taking_view v k versions
   pub batches : List Batch
   pub done : List ℕ
-  pub goes_on : IsPrefix v.history batches
+  pub goes_on : IsPrefixOf v.history batches
   pub has : HasVersions v.opening batches done k versions
   pub covers : AreApplied v.history v.seat.published done k
   pub below : ShowsBelow v.opening v.history v.seat.published (ends numbers v.base v.history v.seat.published) k versions
-  pub lacks : (i : ℕ) (b : Batch) → v.seat.held ≡ Some i → get_elem? v.history i ≡ some b → (Among k v.pieces → ⊥) → LacksPiece b k versions
+  pub lacks : (i : ℕ) (b : Batch) → v.seat.held ≡ Some i → get_elem? v.history i ≡ some b → (Contains v.pieces k → ⊥) → LacksPiece b k versions
 
 -- The shard was taken, with these versions; or it was found taken.
 abbrev pub TellsTaken : Step Slot → Seated → ℕ → Seated → Type 0
-TellsTaken st m r m' = let k = st.word - 67 in
+TellsTaken st m r m' = let k = st.word - TURNS_FROM in
     (r ≡ 0 → (x : List Version) × (m'.1 ≡ (k, Some x) ∷ m.1) × TakesShard m.0 k x m'.0)
     × (r ≢ 0 → (m'.1 ≡ m.1) × (m'.0 ≡ busy_view m.0))
 
@@ -148,4 +150,4 @@ TellsGiven st m r m' = (m'.1 ≡ rest m.1) × (m'.0 ≡ given_view m.0)
 
 -- The shard was given back, with the batch applied that the seat holds.
 abbrev pub TellsApplied : Step Slot → Seated → ℕ → Seated → Type 0
-TellsApplied st m r m' = (m'.1 ≡ rest m.1) × ((i : ℕ) → m.0.seat.held ≡ Some i → m'.0 ≡ applied_view m.0 i (st.word - 67))
+TellsApplied st m r m' = (m'.1 ≡ rest m.1) × ((i : ℕ) → m.0.seat.held ≡ Some i → m'.0 ≡ applied_view m.0 i (st.word - TURNS_FROM))

@@ -1,7 +1,7 @@
 -- What a seat knows after each kind of step (docs/formats/ring.md, "The ring").
 use Rattle.std.specs.Prelude.{◌≡◌, ℕ, suc, ◌+◌, max, List, [], ◌∷◌, ◌++◌, length, Some, None, false, true, cond}
 use Rattle.batch_repr.specs.declared.batch.Batch.{Batch}
-use Rattle.arena_list.specs.Versions.{Version}
+use Rattle.memtable_shards.specs.Versions.{Version}
 use Rattle.publish_core.specs.declared.seat.Claim.TheVariants.{Free, Taken, Emptied}
 use Rattle.publish_core.specs.declared.seat.Kind.{Kind}
 use Rattle.publish_core.specs.declared.seat.Kind.TheVariants.{Note, Worker, Producer}

@@ -3,6 +3,7 @@ ghost use Rattle.std.specs.Prelude.{◌≡◌, None, true};
 ghost use Rattle.publish_core.specs.declared.seat.Kind.TheVariants.{Worker};
 ghost use Rattle.publish_core.specs.Machine.{Acts};
 
+use crate::layout::{ACKED, ENDS, HALF};
 use crate::pipe_table::{PipeTable, TableSeat};
 use crate::seats::{FlushSeat, SessionSeat};
 use crate::steps::{LoadAcked, LoadEnds, RaiseAcked};
@@ -39,10 +40,10 @@ impl PipeTable {
         ensures same { IsSameSeat seat.old seat.new × (seat.new.me.1 ≡ seat.old.me.1) }
         ensures raised { RaisesAcked seat.old.me.0 n result seat.new.me.0 }
     {
-        let both = self.table.shared.load::<LoadEnds>(seat, 0);
-        let head = both / 4294967296;
+        let both = self.table.shared.load::<LoadEnds>(seat, ENDS);
+        let head = both / HALF;
         let to = n.min(head);
-        self.table.shared.fetch_max::<RaiseAcked>(seat, 2, to);
+        self.table.shared.fetch_max::<RaiseAcked>(seat, ACKED, to);
         to
     }
 
@@ -53,6 +54,6 @@ impl PipeTable {
         ensures same { IsSameSeat seat.old seat.new × (seat.new.me.1 ≡ seat.old.me.1) }
         ensures seen { SeesAcked seat.old.me.0 result seat.new.me.0 }
     {
-        self.table.shared.load::<LoadAcked>(seat, 2)
+        self.table.shared.load::<LoadAcked>(seat, ACKED)
     }
 }

@@ -3,6 +3,7 @@ ghost use Rattle.std.specs.Prelude.{◌≡◌, ◌<◌, [], None, Some, true, Ma
 ghost use Rattle.memtable_shards.specs.declared.sharding.TheConstants.{SHARDS};
 ghost use Rattle.publish_core.specs.Machine.{Acts};
 
+use crate::layout::TURNS_FROM;
 use crate::pipe_table::{PipeTable, TableSeat};
 use crate::steps::{GiveApplied, GiveShard, TakeShard};
 use memtable_shards::Shard;
@@ -27,7 +28,7 @@ impl PipeTable {
     {
         let words = &self.table.shared;
         let nothing: Option<Shard> = None;
-        if words.compare_exchange::<TakeShard>(seat, shard + 67, 0, 1) != 0 {
+        if words.compare_exchange::<TakeShard>(seat, shard + TURNS_FROM, 0, 1) != 0 {
             return nothing;
         }
         words.exchange(seat, shard, nothing)
@@ -50,7 +51,7 @@ impl PipeTable {
             None => {}
             Some(_) => unreachable!(),
         }
-        words.store::<GiveShard>(seat, shard + 67, 0);
+        words.store::<GiveShard>(seat, shard + TURNS_FROM, 0);
         self.returned[shard].notify_one();
     }
 
@@ -71,7 +72,7 @@ impl PipeTable {
             None => {}
             Some(_) => unreachable!(),
         }
-        words.store::<GiveApplied>(seat, shard + 67, 0);
+        words.store::<GiveApplied>(seat, shard + TURNS_FROM, 0);
         self.returned[shard].notify_one();
     }
 }

@@ -5,7 +5,8 @@
 //! the machine of which a table is one sound state; on `batch_repr` for the batches that are placed;
 //! and on `memtable_shards` for the shards that lie in the table's slots. The layer above uses the
 //! calls of `PipeTable`, whose contracts say what a seat knows after each call, as one value: its
-//! view.
+//! view. What a pipeline says of a seat it says of one record in std's words, and no crate above
+//! knows of the machine.
 //!
 //! What holds between any two steps: the words, the shards at home and the views of all seats are a
 //! sound state of the machine. So a batch is visible only once it and all before it are marked, and
@@ -14,6 +15,7 @@
 
 mod acking;
 mod holder;
+mod layout;
 mod lending;
 mod meeting;
 mod opening;

@@ -3,6 +3,7 @@ ghost use Rattle.std.specs.Prelude.{◌≡◌, ◌⊎◌, [], None, IfOk, OnErr}
 ghost use Rattle.publish_core.specs.declared.seat.Kind.TheVariants.{Note, Worker};
 ghost use Rattle.publish_core.specs.Machine.{Acts};
 
+use crate::layout::ENDS;
 use crate::pipe_table::{PipeTable, TableSeat};
 use crate::seats::{Handed, ProducerSeat, SessionSeat};
 use crate::steps::{Settle, TakeIn, Tell};
@@ -10,6 +11,7 @@ use wal_base::NoMemory;
 
 impl PipeTable {
     ghost use Rattle.commit_queue.specs.Views.{shown_view, telling_view, joined_view};
+    ghost use Rattle.commit_queue.specs.Shown.{told_view};
     ghost use Rattle.commit_queue.specs.Calls.{SettlesView, TakesIn};
     ghost use Rattle.commit_queue.specs.Tables.{IsOfTable, IsSeatOf, IsSameSeat};
     ghost use Rattle.commit_queue.specs.Seats.{session_table, session_view, HasMet, HasSeenNoLess};
@@ -60,7 +62,7 @@ impl PipeTable {
         ensures same_producer { producer_table p.new ≡ producer_table p.old }
         ensures same { session_table s.new ≡ session_table s.old }
         ensures left { producer_view p.new ≡ telling_view (producer_view p.old) }
-        ensures shown { TakesIn (session_view s.old) (shown_view Note (producer_view p.old)) (session_view s.new) }
+        ensures shown { TakesIn (session_view s.old) (told_view (producer_view p.old)) (session_view s.new) }
     {
         let note = self.tell_at(&mut p.seat);
         self.take_in_at(&mut s.seat, note);
@@ -111,6 +113,6 @@ impl PipeTable {
         ensures same { IsSameSeat seat.old seat.new }
         ensures told { (seat.new.me.1 ≡ seat.old.me.1) × SettlesView seat.old.me.0 seat.new.me.0 }
     {
-        self.table.shared.load::<Settle>(seat, 0);
+        self.table.shared.load::<Settle>(seat, ENDS);
     }
 }

@@ -7,6 +7,7 @@ ghost use Rattle.commit_queue.specs.Shards.{NumberedBelow};
 ghost use Rattle.commit_queue.specs.Views.{first_view, IsJustOpened};
 ghost use Rattle.commit_queue.specs.Views.{telling_view, shown_view, flush_view};
 
+use crate::layout::{VISIBLE, WORDS};
 use crate::pipe_table::{AtomicTable, PipeTable, Shards, TableOpening, TableSeat};
 use crate::seats::{FlushSeat, ProducerSeat, SessionSeat, SessionSeats};
 use crate::steps::{SeatFlush, SeatSession};
@@ -53,8 +54,8 @@ impl PipeTable {
         ensures table { IfOk result (λ made. IsOfTable made.0 (producer_table made.1)) }
         ensures view { IfOk result (λ made. producer_view made.1 ≡ first_view base shards) }
     {
-        let mut words = [0u64; 75];
-        words[1] = base;
+        let mut words = [0u64; WORDS];
+        words[VISIBLE] = base;
         let opening = TableOpening {
             base,
             shards: Snapshot::of(&shards),

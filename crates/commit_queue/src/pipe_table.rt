@@ -1,9 +1,7 @@
-//! The table that all seats share: 75 words that change in single steps, and a slot for each shard.
-//!
-//! Word 0 has head in its high half and tail in its low half, word 1 is the visible number and word
-//! 2 the acked number. The words 3 to 66 are the ring: 0, or twice a batch's end, and 1 more once the
-//! batch is marked. The words 67 to 74 say whether a shard is taken.
+//! The table that all seats share: words that change in single steps (`layout`), and a slot for each shard.
 ghost use Rattle.std.specs.Prelude.{◌≡◌};
+ghost use Rattle.memtable_shards.specs.declared.sharding.TheConstants.{SHARDS};
+ghost use Rattle.commit_queue.specs.declared.layout.TheConstants.{WORDS};
 
 use crate::view::View;
 use atomic_table::{Seat, Table, TableRule};
@@ -50,6 +48,6 @@ pub struct PipeTable {
     pub(crate) published: CachePadded<EventCount>,
     /// Tells one of those who wait for a shard that it was given back.
     pub(crate) returned: [CachePadded<EventCount>; SHARDS],
-    ghost words: { table.shared.table_id.words ≡ 75 },
-    ghost slots: { table.shared.table_id.slots ≡ 8 },
+    ghost words: { table.shared.table_id.words ≡ WORDS },
+    ghost slots: { table.shared.table_id.slots ≡ SHARDS },
 }

@@ -1,10 +1,12 @@
 //! The producer's calls: a batch is placed in the ring, admitted, and handed to a session.
 ghost use Rattle.std.specs.Prelude.{◌≡◌, ◌*◌, ◌<◌, [], Some, IfOk, OnErr};
 
+use crate::layout::{ENDS, HALF, RING_FROM};
 use crate::pipe_table::{PipeTable, TableSeat};
 use crate::seats::{Handed, ProducerSeat};
 use crate::steps::{Admit, HandOver, LoadSlot, Naming, StoreBatch};
 use batch_repr::Numbered;
+use publish_core::SLOTS;
 use std::marker::Brand;
 use wal_base::NoMemory;
 
@@ -21,8 +23,11 @@ impl PipeTable {
         ensures same { producer_table p.new ≡ producer_table p.old }
         ensures read { ReadsHeadSlot (producer_view p.old) result (producer_view p.new) }
     {
-        let at = (p.head % 64) as usize;
-        let word = self.table.shared.load::<LoadSlot>(&mut p.seat, at + 3);
+        let at = (p.head % SLOTS) as usize;
+        let word = self
+            .table
+            .shared
+            .load::<LoadSlot>(&mut p.seat, at + RING_FROM);
         word == 0
     }
 
@@ -45,12 +50,12 @@ impl PipeTable {
     {
         // A batch takes a number at least, which its count alone tells.
         let _some = batch.count();
-        let at = (p.head % 64) as usize;
+        let at = (p.head % SLOTS) as usize;
         let end = batch.end();
         p.end = end;
         self.table
             .shared
-            .store::<StoreBatch<M>>(&mut p.seat, at + 3, 2 * end);
+            .store::<StoreBatch<M>>(&mut p.seat, at + RING_FROM, 2 * end);
     }
 
     /// Raises head by one, and answers the index of the batch that was placed, from 0.
@@ -64,7 +69,7 @@ impl PipeTable {
         let index = p.head;
         self.table
             .shared
-            .fetch_add::<Admit>(&mut p.seat, 0, 1 << 32);
+            .fetch_add::<Admit>(&mut p.seat, ENDS, HALF);
         p.head = index + 1;
         index
     }

@@ -1,15 +1,16 @@
 -- What callers use of images, so that they need not open the definition: by cases on the place, and on whether the image has the file.
 use Rattle.std.proofs.Common.{◌≡◌, ◌⊎◌, inl, inr, ℕ, ◌≤◌, Bool, true, false, List, ◌++◌, length, take, drop, Option, Some, None, ap, sym, subst, ◌∙◌, refl, arith, append_assoc}
 use Rattle.std.proofs.lemmas.List.{take-append-drop, take-append-le, take-take}
+use Rattle.wal_base.specs.Prefixes.{IsPrefixOf}
 use Rattle.disk_face.specs.declared.Side.{Side}
 use Rattle.disk_face.specs.declared.SegName.{SegName}
 use Rattle.disk_face.specs.View.{Place, segment, table, Act, creating, writing, syncing, File, Files}
-use Rattle.disk_face.specs.Image.{IsFrontOf, IsImageOf, IsImage, IsChanceFree, IsSoundFile, IsSound, IsRested, as_read, dirs_as_read}
+use Rattle.disk_face.specs.Image.{IsImageOf, IsImage, IsChanceFree, IsSoundFile, IsSound, IsRested, as_read, dirs_as_read}
 use Rattle.disk_face.specs.Calls.{AfterDone, AfterFailed}
 use Rattle.disk_face.specs.Tables.{whole, IsBeingRemoved}
 
 -- bytes that begin with a front begin with less of it too
-pub begins_shorter : (n m : ℕ) (sent bytes : List ℕ) → n ≤ m → IsFrontOf (take m sent) bytes → IsFrontOf (take n sent) bytes
+pub begins_shorter : (n m : ℕ) (sent bytes : List ℕ) → n ≤ m → IsPrefixOf (take m sent) bytes → IsPrefixOf (take n sent) bytes
 begins_shorter n m sent bytes le b =
     let front : take n (take m sent) ≡ take n sent = grind (arith, take-take n m sent) in (
       drop n (take m sent) ++ b.0,
@@ -25,7 +26,7 @@ image_of_none p (Some content) im = absurd im
 -- each image has a created segment that stays, and it begins with its stable bytes
 pub image_of_created : (side : Side) (name : SegName) (f : File) (o : Option (List ℕ)) → IsImageOf (segment side name) (Some f) o
     → f.created ≡ true → f.leaving ≡ false
-    → (content : List ℕ) × (o ≡ Some content) × IsFrontOf (take f.stable f.sent) content
+    → (content : List ℕ) × (o ≡ Some content) × IsPrefixOf (take f.stable f.sent) content
 image_of_created side name f None im made stays = let clash : true ≡ false = sym (im made) ∙ stays in cc
 image_of_created side name f (Some content) im made stays = (content, refl, im made)
 
@@ -44,7 +45,7 @@ removed_image p f None o removed im = inl (image_of_none p o im)
 removed_image p None (Some g) o removed im = absurd removed
 removed_image p (Some f) (Some g) None removed im = inl refl
 removed_image (segment side name) (Some f) (Some g) (Some bytes) removed im = inr
-    (λ made. subst (λ (h : File). IsFrontOf (take h.stable h.sent) bytes) removed (im (ap (λ (h : File). h.created) removed ∙ made)))
+    (λ made. subst (λ (h : File). IsPrefixOf (take h.stable h.sent) bytes) removed (im (ap (λ (h : File). h.created) removed ∙ made)))
 removed_image (table upto) (Some f) (Some g) (Some bytes) removed im = inr
     (λ made. im (ap (λ (h : File). h.created) removed ∙ made) ∙ ap (λ (h : File). h.sent) removed)
 
@@ -58,7 +59,7 @@ sync_image (table n) f (Some bytes) sound im = im
 pub write_image : (side : Side) (name : SegName) (f : File) (more : List ℕ) (o : Option (List ℕ)) → IsSoundFile f
     → IsImageOf (segment side name) (Some (record f { sent = f.sent ++ more })) o → IsImageOf (segment side name) (Some f) o
 write_image side name f more None sound im = im
-write_image side name f more (Some bytes) sound im = λ made. subst (λ (l : List ℕ). IsFrontOf l bytes)
+write_image side name f more (Some bytes) sound im = λ made. subst (λ (l : List ℕ). IsPrefixOf l bytes)
     (take-append-le f.stable f.sent more (omega (arith, sound.stable, sound.done))) (im made)
 
 -- what leaves alone the bytes sent, how many are stable, and whether the file is there, adds no image

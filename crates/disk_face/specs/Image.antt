@@ -1,10 +1,7 @@
 -- What a crash may leave of the files, and when no torn chunk passes for a whole one (docs/formats/disk.md, "Images").
-use Rattle.std.specs.Prelude.{◌≡◌, ℕ, ◌≤◌, ◌%◌, ◌^◌, true, false, List, [], ◌++◌, take, drop, length, Option, Some, None, if◌then◌else◌}
+use Rattle.std.specs.Prelude.{◌≡◌, ℕ, ◌≤◌, ◌%◌, ◌^◌, true, false, List, [], take, drop, length, Option, Some, None, if◌then◌else◌}
+use Rattle.wal_base.specs.Prefixes.{IsPrefixOf}
 use Rattle.disk_face.specs.View.{Place, segment, table, File, Files, Dirs, DiskView, files}
-
--- the bytes begin with that front
-abbrev pub IsFrontOf : List ℕ → List ℕ → Type 0
-IsFrontOf front bytes = (rest : List ℕ) × (bytes ≡ front ++ rest)
 
 -- What a crash may leave of one file. It may be gone if it was not created, or is leaving.
 -- The bytes of a segment past the stable ones are free. A table is there whole.
@@ -12,7 +9,7 @@ abbrev pub IsImageOf : Place → Option File → Option (List ℕ) → Type 0
 IsImageOf p None None = Unit {0}
 IsImageOf p None (Some bytes) = ⊥
 IsImageOf p (Some f) None = (f.created ≡ true → f.leaving ≡ true)
-IsImageOf (segment s n) (Some f) (Some bytes) = (f.created ≡ true → IsFrontOf (take f.stable f.sent) bytes)
+IsImageOf (segment s n) (Some f) (Some bytes) = (f.created ≡ true → IsPrefixOf (take f.stable f.sent) bytes)
 IsImageOf (table n) (Some f) (Some bytes) = (f.created ≡ true → bytes ≡ f.sent)
 
 -- what a crash may leave of all files: no other file is there
@@ -39,7 +36,7 @@ IsChanceFree Chunk files dirs =
 pub record IsSoundFile (f : File) : Type 0 where
   pub stable : f.stable ≤ f.done
   pub done : f.done ≤ length f.sent
-  pub reads : IsFrontOf (take f.done f.sent) f.reads
+  pub reads : IsPrefixOf (take f.done f.sent) f.reads
 
 -- What is true of the file at a place: it is sound, nothing was sent to a segment that is not created, and a table that is
 -- there reads as it was sent.

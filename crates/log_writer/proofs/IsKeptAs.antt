@@ -3,10 +3,11 @@ use Rattle.crc_chunk.proofs.Laws.{chunk_moved}
 use Rattle.std.proofs.Common.{◌≡◌, ℕ, ◌-◌, ◌^◌, ◌<◌, ◌≤◌, Bool, true, false, List, length, map, take, drop, Option, Some, None, ap, sym, subst, ◌∙◌, refl, arith}
 use Rattle.std.proofs.lemmas.List.{length-take, length-drop, take-map, take-take, take-append-le, take_all}
 use native.Mathlib.Decide.{dec_le}
+use Rattle.wal_base.specs.Prefixes.{IsPrefixOf}
 use Rattle.disk_face.specs.declared.Side.{Side}
 use Rattle.disk_face.specs.declared.SegName.{SegName}
 use Rattle.disk_face.specs.View.{Place, segment, File, Files}
-use Rattle.disk_face.specs.Image.{IsFrontOf, IsImageOf, log_of}
+use Rattle.disk_face.specs.Image.{IsImageOf, log_of}
 use Rattle.crc_chunk.specs.Chunk.{chunk_len, IsChunkOf}
 use Rattle.batch_repr.specs.declared.batch.Batch.{Batch}
 use Rattle.batch_repr.specs.Written.{written}
@@ -18,7 +19,7 @@ use Rattle.log_writer.specs.Kept.{IsPrefixRead, IsKeptAs, SegmentKept, HasSynced
 use Rattle.log_writer.proofs.Parts.{marked_texts, marked_length, marked_take, marked_each, part_front, no_bytes}
 
 -- What begins with the stable bytes has them.
-front_of : (f : File) (content : List ℕ) → f.stable ≤ length f.sent → IsFrontOf (take f.stable f.sent) content → take f.stable content ≡ take f.stable f.sent
+front_of : (f : File) (content : List ℕ) → f.stable ≤ length f.sent → IsPrefixOf (take f.stable f.sent) content → take f.stable content ≡ take f.stable f.sent
 front_of f content within begins =
     let front : List ℕ = take f.stable f.sent in
     let len : f.stable ≤ length front = omega (arith, length-take f.stable f.sent, within) in
@@ -97,7 +98,7 @@ module _ (place : Place) (log from synced : ℕ) (records : List Batch) where
 
   -- What of the file makes that its segment is kept.
   kept_in : (f : File) (content : List ℕ) (created : Bool) → f.created ≡ created → HasSynced log from synced records f
-      → (f.created ≡ true → IsFrontOf (take f.stable f.sent) content)
+      → (f.created ≡ true → IsPrefixOf (take f.stable f.sent) content)
       → ChunksStandIn f.sent log content → IsKeptAs log from synced records (Some content)
   kept_in f content true is kept begins chunks = reads_first f content f.stable kept (kept.stable is)
       (front_of f content (kept.stable is) (begins is)) (kept.covered is) chunks

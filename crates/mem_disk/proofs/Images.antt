@@ -2,10 +2,11 @@
 use Rattle.std.proofs.Common.{◌≡◌, inl, inr, ℕ, Bool, true, false, List, [], ◌∷◌, ◌++◌, length, take, drop, Option, Some, None, sym, ap, subst, refl, ◌∙◌}
 use Rattle.std.specs.Prelude.{option_map, unwrap_or, if◌then◌else◌}
 use Rattle.std.proofs.lemmas.List.{drop_at}
+use Rattle.wal_base.specs.Prefixes.{IsPrefixOf}
 use Rattle.disk_face.specs.declared.Side.{Side}
 use Rattle.disk_face.specs.declared.SegName.{SegName}
 use Rattle.disk_face.specs.View.{Place, segment, table, File, Files, Dirs}
-use Rattle.disk_face.specs.Image.{IsFrontOf, IsImageOf, IsImage, IsRestedFile, IsRested, as_read, dirs_as_read}
+use Rattle.disk_face.specs.Image.{IsImageOf, IsImage, IsRestedFile, IsRested, as_read, dirs_as_read}
 use Rattle.disk_face.specs.Tables.{whole}
 use Rattle.disk_face.proofs.Laws.{same_place, image_of_none}
 use Rattle.mem_disk.specs.declared.parts.MemFile.{MemFile}
@@ -119,7 +120,7 @@ left_image side name f o stays im = go f.created refl o im
     go true is None im = let clash : true ≡ false = sym (im is) ∙ stays in cc
     go true is (Some bytes) im =
         let front : List ℕ = take f.stable f.sent in
-        let b : IsFrontOf front bytes = im is in
+        let b : IsPrefixOf front bytes = im is in
         let behind : drop (length front) bytes ≡ b.0 = ap (drop (length front)) b.1 ∙ drop_at front b.0 (length front) refl in
         rw is (ap Some (ap (λ (l : List ℕ). front ++ l) behind ∙ sym b.1))
     go false is None im = rw is refl

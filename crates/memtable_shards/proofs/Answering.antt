@@ -7,13 +7,18 @@ use Rattle.std.proofs.lemmas.List.{take-append-drop, take_all}
 use Rattle.std.proofs.lemmas.List.Elements.{Contains-append_left, Contains-append_cases}
 use Rattle.batch_repr.specs.declared.batch.Batch.{Batch}
 use Rattle.batch_repr.specs.Batches.{IsContiguous, end_after, entries_in, answer, value_left, is_about}
+use Rattle.wal_base.specs.declared.entry.Entry.{Entry}
+use Rattle.wal_base.specs.declared.entry.Entry.TheVariants.{Set, Delete, Note, RangeDelete}
+use Rattle.std.proofs.lemmas.Bool.{eq-eqb}
+use Rattle.std.proofs.lemmas.Slice.Eq.{bytes_eq-Decides}
+use Rattle.memtable_shards.specs.declared.sharding.TheConstants.{SHARDS}
+use Rattle.memtable_shards.specs.Versions.{is_in, IsIn}
 use Rattle.batch_repr.proofs.Laws.{contiguous_back, contiguous_front}
-use Rattle.arena_list.specs.Versions.{Version}
+use Rattle.memtable_shards.specs.Versions.{Version}
 use Rattle.memtable_shards.specs.Versions.{versions_of, versions_in, shard_of, HaveBelow, AreShardsOf}
 use Rattle.arena_list.specs.declared.found.Found.{Found}
 use Rattle.arena_list.specs.declared.found.Found.TheVariants.{Nothing, Gone, Value}
-use Rattle.arena_list.specs.Newest.{HasNoneBelow, IsNewestOf, version_found, FindsNewest}
-use Rattle.memtable_shards.specs.Newest.{value_found}
+use Rattle.memtable_shards.specs.Newest.{IsAbout, HasNoneBelow, Told, told, TellsNewest, FindsNewest, value_found}
 use Rattle.memtable_shards.proofs.Numbers.{number_within}
 use Rattle.memtable_shards.proofs.Reading.{answer_read, version_of, value_of}
 
@@ -49,61 +54,75 @@ from_front n batches v h = subst (λ (bs : List Batch). Contains (versions_in bs
     (Contains-append_left (versions_in (take n batches)) (versions_in (drop n batches)) v h))
 
 -- What is read below the end of the first batches is the answer after them.
-answer_front : (from n : ℕ) (batches : List Batch) (key : List ℕ) (found : Option Version) → IsContiguous from batches
-    → IsNewestOf (versions_in batches) key (end_after from (take n batches)) found → value_of found ≡ answer batches n key
+answer_front : (from n : ℕ) (batches : List Batch) (key : List ℕ) (found : Option Told) → IsContiguous from batches
+    → TellsNewest (versions_in batches) key (end_after from (take n batches)) found → value_of found ≡ answer batches n key
 unfolding answer
 answer_front from n batches key found numbered read = answer_read from (take n batches) key found (contiguous_take from n batches numbered) (go found read)
     ∙ same
   where
-    go : (found : Option Version) → IsNewestOf (versions_in batches) key (end_after from (take n batches)) found
-        → IsNewestOf (versions_in (take n batches)) key (end_after from (take n batches)) found
+    go : (found : Option Told) → TellsNewest (versions_in batches) key (end_after from (take n batches)) found
+        → TellsNewest (versions_in (take n batches)) key (end_after from (take n batches)) found
     go None without = λ v h about. without v (from_front n batches v h) about
-    go (Some v) is = (
+    go (Some it) is = (
+      is.0,
       record {
-        stands = in_front from n batches v numbered is.0.stands is.0.under;
-        under = is.0.under;
-        last = λ other h same below. is.0.last
+        stands = in_front from n batches is.0 numbered is.1.stands is.1.under;
+        about = is.1.about;
+        under = is.1.under;
+        last = λ other h same below. is.1.last
             other (from_front n batches other h) same below;
       },
-      is.1,
+      is.2,
     )
 
     same : answer (take n batches) (length (take n batches)) key ≡ answer batches n key
     same = ap (λ (bs : List Batch). option_and_then value_left (last_or None (filter (is_about key) (entries_in bs))))
         (take_all (length (take n batches)) (take n batches) (omega arith))
 
-told_value : (key : List ℕ) (found : Found) → value_found found ≡ value_of (version_found key found)
-told_value key Nothing = refl
-told_value key (Gone seq) = refl
-told_value key (Value seq bytes) = refl
+told_value : (found : Found) → value_found found ≡ value_of (told found)
+told_value Nothing = refl
+told_value (Gone seq) = refl
+told_value (Value seq bytes) = refl
+
+-- what is about a key belongs to its shard
+pub about_in : (v : Version) (key : List ℕ) → IsAbout v key → IsIn v (shard_of key)
+about_in v key about = go v.entry about
+  where
+    go : (entry : Entry) → is_about key entry ≡ true → is_in (shard_of key) entry ≡ true
+    go (Set k value) is = eq-eqb (shard_of k) (shard_of key) (ap shard_of ((bytes_eq-Decides k key).0 is))
+    go (Delete k) is = eq-eqb (shard_of k) (shard_of key) (ap shard_of ((bytes_eq-Decides k key).0 is))
+    go (Note bytes) is = absurd cc
+    go (RangeDelete start end) is = let low : shard_of key < SHARDS = omega arith in grind (arith, nat_tests, low)
 
 -- The shard of a key answers as all shards would, whatever it has from that end on.
 pub shard_answers_below : (from n : ℕ) (batches : List Batch) (shard : List Version) (key : List ℕ) (found : Found) → IsContiguous from batches
     → HaveBelow (end_after from (take n batches)) batches (shard_of key) shard
     → FindsNewest shard key (end_after from (take n batches)) found → value_found found ≡ answer batches n key
 shard_answers_below from n batches shard key found numbered have read =
-    told_value key found ∙ answer_front from n batches key (version_found key found) numbered (go (version_found key found) read)
+    told_value found ∙ answer_front from n batches key (told found) numbered (go (told found) read)
   where
     end : ℕ
     end = end_after from (take n batches)
 
-    to_shard : (v : Version) → v.number < end → Contains (versions_in batches) v → v.key ≡ key → Contains shard v
-    to_shard v below h about = (have v below).1 (h, ap shard_of about)
+    to_shard : (v : Version) → v.number < end → Contains (versions_in batches) v → IsAbout v key → Contains shard v
+    to_shard v below h about = (have v below).1 (h, about_in v key about)
 
-    none_below : HasNoneBelow shard key end → (v : Version) → Contains (versions_in batches) v → v.key ≡ key → (b : Bool) → nat_lt v.number end ≡ b
+    none_below : HasNoneBelow shard key end → (v : Version) → Contains (versions_in batches) v → IsAbout v key → (b : Bool) → nat_lt v.number end ≡ b
         → end ≤ v.number
     none_below without v h about true e = without v (to_shard v (grind (arith, nat_tests, e)) h about) about
     none_below without v h about false e = grind (arith, nat_tests, e)
 
-    go : (found : Option Version) → IsNewestOf shard key end found → IsNewestOf (versions_in batches) key end found
+    go : (found : Option Told) → TellsNewest shard key end found → TellsNewest (versions_in batches) key end found
     go None without = λ v h about. none_below without v h about (nat_lt v.number end) refl
-    go (Some v) is = (
+    go (Some it) is = (
+      is.0,
       record {
-        stands = ((have v is.0.under).0 is.0.stands).0;
-        under = is.0.under;
-        last = λ other h same below. is.0.last other (to_shard other below h (same ∙ is.1)) same below;
+        stands = ((have is.0 is.1.under).0 is.1.stands).0;
+        about = is.1.about;
+        under = is.1.under;
+        last = λ other h same below. is.1.last other (to_shard other below h same) same below;
       },
-      is.1,
+      is.2,
     )
 
 -- the same where it has just the versions of the batches

@@ -1,19 +1,19 @@
 -- The pieces of a batch go to their shards, one after another.
-use Rattle.std.proofs.Common.{◌≡◌, ◌≢◌, ◌⊎◌, inl, inr, ℕ, ◌+◌, ◌≤◌, ◌<◌, Bool, true, false, List, [], ◌∷◌, ◌++◌, length, Option, Some, refl, sym, ap, ◌∙◌, subst, arith, eqb, get_or, length-set}
+use Rattle.std.proofs.Common.{◌≡◌, ◌≢◌, ◌⊎◌, inl, inr, ℕ, ◌+◌, ◌≤◌, ◌<◌, Bool, true, false, List, [], ◌∷◌, ◌++◌, length, Option, Some, refl, sym, ap, ◌∙◌, subst, arith, length-set}
 use Rattle.std.specs.Prelude.{Contains, slice_get, ◌↔◌, nat_lt, unwrap_or}
 use Rattle.std.proofs.lemmas.Bool.Decides.{nat_tests}
 use Rattle.std.proofs.Math.ListN.{set}
-use Rattle.std.proofs.lemmas.List.{append-nil, get_or-set_same, get_or-set_other}
-use Rattle.std.proofs.lemmas.Option.{slice_get_within, get_or_from_slice_get, slice_get-get_or}
+use Rattle.std.proofs.lemmas.List.{append-nil}
 use Rattle.std.proofs.lemmas.List.Elements.{Contains-append_left, Contains-append_right, Contains-append_cases}
 use Rattle.wal_base.proofs.Laws.{none_within}
 use Rattle.batch_repr.specs.declared.batch.Batch.{Batch}
 use Rattle.batch_repr.specs.Batches.{end_of, IsContiguous, end_after}
 use Rattle.memtable_shards.specs.declared.sharding.TheConstants.{SHARDS}
-use Rattle.arena_list.specs.Versions.{Version}
-use Rattle.memtable_shards.specs.Versions.{versions_from, versions_of, versions_in, shard_of, of_shard, piece_in, Gains, HaveOtherNumbers, AreShardsOf}
+use Rattle.memtable_shards.specs.Versions.{Version}
+use Rattle.memtable_shards.specs.Versions.{versions_from, versions_of, versions_in, IsIn, of_shard, piece_in, Gains, HaveOtherNumbers, AreShardsOf}
 use Rattle.memtable_shards.specs.Pieces.{PiecesLeft, whole_pieces, versions_cut, IsNextPiece, NoPieceIsLeft, AreShardsAmid}
 use Rattle.memtable_shards.proofs.Numbers.{number_within}
+use Rattle.memtable_shards.proofs.Places.{changed}
 use Rattle.memtable_shards.proofs.Reading.{version_of}
 use Rattle.memtable_shards.proofs.Cutting.{kept, kept_from}
 use Rattle.memtable_shards.proofs.Answering.{versions_in-append}
@@ -80,40 +80,16 @@ next_is_new start shards batches batch pieces index piece shard row amid next at
         omega (arith, same, late, last.1, (version_of start batches one last.0 early).under)
     apart (inr given) = absurd (omega (arith, given.1, next.on))
 
--- what stands at a place after a change
-pub changed : (shards : List (List Version)) (index : ℕ) (old new : List Version) (place : ℕ) (shard : List Version) → slice_get shards index ≡ Some old
-    → slice_get (set shards index new) place ≡ Some shard
-    → ((place ≡ index) × (shard ≡ new)) ⊎ ((place ≢ index) × (slice_get shards place ≡ Some shard))
-changed shards index old new place shard was at = go (eqb place index) refl
-  where
-    now : get_or (set shards index new) place shard ≡ shard
-    now = get_or_from_slice_get (set shards index new) place shard shard at
-
-    within : place < length shards
-    within = omega (arith, slice_get_within (set shards index new) place shard at, length-set {A = List Version})
-
-    go : (b : Bool) → eqb place index ≡ b → ((place ≡ index) × (shard ≡ new)) ⊎ ((place ≢ index) × (slice_get shards place ≡ Some shard))
-    go true e =
-        let same : place ≡ index = grind (arith, nat_tests, e) in
-        inl (
-          same,
-          sym now ∙ subst (λ (n : ℕ). get_or (set shards index new) n shard ≡ new) (sym same)
-              (get_or-set_same shards index new shard (slice_get_within shards index old was)),
-        )
-    go false e =
-        let other : place ≢ index = λ (same : place ≡ index). grind (arith, nat_tests, e, same) in
-        inr (other, slice_get-get_or shards place shard within ∙ ap Some (sym (get_or-set_other shards index place new shard other) ∙ now))
-
 -- A shard before the next piece's, of which the batch has a version, has been given its piece.
-was_given : (place from index shard : ℕ) → (from ≤ shard → index ≤ shard) → shard ≡ place → place < index + 1 → place ≢ index → place < from
-was_given place from index shard next own within apart = go (nat_lt place from) refl
+was_given : (place from index : ℕ) → (from ≤ place → index ≤ place) → place < index + 1 → place ≢ index → place < from
+was_given place from index next within apart = go (nat_lt place from) refl
   where
     go : (b : Bool) → nat_lt place from ≡ b → place < from
     go true e = grind (arith, nat_tests, e)
     go false e =
         let on : from ≤ place = grind (arith, nat_tests, e) in
-        let late : index ≤ shard = next (omega (arith, on, own)) in
-        absurd (omega (arith, late, own, within, apart))
+        let late : index ≤ place = next on in
+        absurd (omega (arith, late, within, apart))
 
 pub next_applied : (shards : List (List Version)) (batches : List Batch) (batch : Batch) (pieces : PiecesLeft) (index : ℕ) (piece old new : List Version)
     → AreShardsAmid shards batches batch pieces → IsNextPiece pieces index piece → slice_get shards index ≡ Some old
@@ -132,14 +108,14 @@ next_applied shards batches batch pieces index piece old new amid next was gains
     cut = cut_is pieces batch amid.entries amid.first
 
     Has : ℕ → Version → Type 0
-    Has place v = (Contains (versions_in batches) v ⊎ (Contains (versions_of batch) v × (place < index + 1))) × (shard_of v.key ≡ place)
+    Has place v = (Contains (versions_in batches) v ⊎ (Contains (versions_of batch) v × (place < index + 1))) × IsIn v place
 
     to_own : (v : Version) → Contains old v ⊎ Contains piece v → Has index v
     to_own v (inr h) = let mine = kept_from index (versions_of batch) v (subst (λ (l : List Version). Contains l v) is h) in
         (inr (mine.0, omega arith), mine.1)
     to_own v (inl h) = early ((amid.own index old was v).0 h)
       where
-        early : (Contains (versions_in batches) v ⊎ (Contains (versions_of batch) v × (index < pieces.from))) × (shard_of v.key ≡ index) → Has index v
+        early : (Contains (versions_in batches) v ⊎ (Contains (versions_of batch) v × (index < pieces.from))) × IsIn v index → Has index v
         early (inl h, e) = (inl h, e)
         early (inr h, e) = (inr (h.0, omega arith), e)
 
@@ -148,15 +124,15 @@ next_applied shards batches batch pieces index piece old new amid next was gains
     from_own v (inr h, e) = inr (subst (λ (l : List Version). Contains l v) (sym is) (kept index (versions_of batch) v h.0 e))
 
     to_other : (place : ℕ) (v : Version) → place ≢ index
-        → (Contains (versions_in batches) v ⊎ (Contains (versions_of batch) v × (place < pieces.from))) × (shard_of v.key ≡ place) → Has place v
+        → (Contains (versions_in batches) v ⊎ (Contains (versions_of batch) v × (place < pieces.from))) × IsIn v place → Has place v
     to_other place v apart (inl h, e) = (inl h, e)
     to_other place v apart (inr h, e) = (inr (h.0, omega (arith, h.1, next.on)), e)
 
     from_other : (place : ℕ) (v : Version) → place ≢ index → Has place v
-        → (Contains (versions_in batches) v ⊎ (Contains (versions_of batch) v × (place < pieces.from))) × (shard_of v.key ≡ place)
+        → (Contains (versions_in batches) v ⊎ (Contains (versions_of batch) v × (place < pieces.from))) × IsIn v place
     from_other place v apart (inl h, e) = (inl h, e)
     from_other place v apart (inr h, e) = (
-      inr (h.0, was_given place pieces.from index (shard_of v.key) (next.next v (subst (λ (l : List Version). Contains l v) (sym cut) h.0)) e h.1 apart),
+      inr (h.0, was_given place pieces.from index (next.next v place (subst (λ (l : List Version). Contains l v) (sym cut) h.0) e) h.1 apart),
       e,
     )
 
@@ -190,15 +166,11 @@ pieces_end shards batches batch pieces amid none = record {
     to index v (inl h) = subst (λ (l : List Version). Contains l v) (sym whole) (Contains-append_left (versions_in batches) (versions_of batch) v h)
     to index v (inr h) = subst (λ (l : List Version). Contains l v) (sym whole) (Contains-append_right (versions_in batches) (versions_of batch) v h.0)
 
-    from : (index : ℕ) (v : Version) → Contains (versions_in (batches ++ batch ∷ [])) v → shard_of v.key ≡ index
+    from : (index : ℕ) (v : Version) → Contains (versions_in (batches ++ batch ∷ [])) v → IsIn v index
         → Contains (versions_in batches) v ⊎ (Contains (versions_of batch) v × (index < pieces.from))
     from index v h e = elim (Contains-append_cases (versions_in batches) (versions_of batch) v (subst (λ (l : List Version). Contains l v) whole h)) [
       | inl early ↦ inl early
-      | inr mine ↦ inr (
-        mine,
-        subst (λ (n : ℕ). n < pieces.from) e
-            (none v (subst (λ (l : List Version). Contains l v) (sym (cut_is pieces batch amid.entries amid.first)) mine)),
-      )
+      | inr mine ↦ inr (mine, none v index (subst (λ (l : List Version). Contains l v) (sym (cut_is pieces batch amid.entries amid.first)) mine) e)
     ]
 
 pub shards_settled : (shards : List (List Version)) (batches : List Batch) (index : ℕ) (old new : List Version) → AreShardsOf shards batches
@@ -210,9 +182,9 @@ shards_settled shards batches index old new are was same = record {
   where
     go : (place : ℕ) (shard : List Version) (v : Version)
         → ((place ≡ index) × (shard ≡ new)) ⊎ ((place ≢ index) × (slice_get shards place ≡ Some shard))
-        → Contains shard v ↔ (Contains (versions_in batches) v × (shard_of v.key ≡ place))
+        → Contains shard v ↔ (Contains (versions_in batches) v × IsIn v place)
     go place shard v (inr other) = are.own place shard other.1 v
     go place shard v (inl is) =
-        subst (λ (n : ℕ). Contains shard v ↔ (Contains (versions_in batches) v × (shard_of v.key ≡ n))) (sym is.0)
-        (subst (λ (l : List Version). Contains l v ↔ (Contains (versions_in batches) v × (shard_of v.key ≡ index))) (sym is.1)
+        subst (λ (n : ℕ). Contains shard v ↔ (Contains (versions_in batches) v × IsIn v n)) (sym is.0)
+        (subst (λ (l : List Version). Contains l v ↔ (Contains (versions_in batches) v × IsIn v index)) (sym is.1)
         (λ h. (are.own index old was v).0 ((same v).0 h), λ h. (same v).1 ((are.own index old was v).1 h)))

@@ -6,13 +6,13 @@ use Rattle.std.proofs.lemmas.List.{append-nil}
 use Rattle.std.proofs.lemmas.List.Elements.{Contains-append_right}
 use Rattle.wal_base.proofs.Laws.{within_head}
 use Rattle.batch_repr.specs.declared.limits.TheConstants.{NUMBER_MAX}
-use Rattle.arena_list.specs.Versions.{Version}
+use Rattle.memtable_shards.specs.Versions.{Version}
 use Rattle.memtable_shards.specs.Parts.{counted_from, HaveNumbers, MayWait}
 use Rattle.memtable_shards.proofs.MayWait.{few_versions}
 
 -- a version under its number
 abbrev pub moved : ℕ → Version → Version
-moved first version = record { key = version.key; number = first + version.number; value = version.value }
+moved first version = record { entry = version.entry; number = first + version.number }
 
 -- the number of the first one that is not moved yet
 pub number_fits : (first : ℕ) (numbered nodes all : List Version) (v : Version) → numbered ++ counted_from first nodes ≡ all → HaveNumbers all

@@ -1,29 +1,32 @@
 -- Versions by shard: filtered, renumbered, and sorted into lists.
-use Rattle.std.proofs.Common.{◌≡◌, ◌≢◌, ◌⊎◌, inl, inr, ℕ, zero, suc, ◌+◌, ◌<◌, Bool, true, false, cond, List, [], ◌∷◌, ◌++◌, length, take, Option, Some, None, refl, sym, ap, ◌∙◌, subst, arith, get_or, eqb, length-set, length-append}
+use Rattle.std.proofs.Common.{◌≡◌, ◌≢◌, ◌⊎◌, inl, inr, ℕ, zero, suc, ◌+◌, ◌<◌, Bool, true, false, cond, List, [], ◌∷◌, ◌++◌, length, take, Option, Some, None, refl, sym, ap, ◌∙◌, subst, arith, get_or, eqb, length-append}
 use Rattle.std.specs.Prelude.{Contains, slice_get}
 use Rattle.std.specs.List.{AllByRecursion}
 use Rattle.std.proofs.lemmas.Bool.Decides.{nat_tests}
 use Rattle.std.specs.Option.{option_to_list}
 use Rattle.batch_repr.specs.Batches.{count_of}
-use Rattle.std.proofs.lemmas.List.{append-nil, take_more, get_or-set_same, get_or-set_other}
+use Rattle.std.proofs.lemmas.List.{append-nil, take_more}
 use Rattle.std.proofs.Math.ListN.{set}
-use Rattle.std.proofs.lemmas.Option.{slice_get_within, get_or_from_slice_get, slice_get-get_or}
+use Rattle.std.proofs.lemmas.Option.{slice_get_within, slice_get-get_or}
 use Rattle.std.proofs.lemmas.List.Elements.{filter-append}
 use Rattle.wal_base.proofs.Laws.{none_within, within_head, within_tail, within_cases}
 use Rattle.wal_base.specs.declared.entry.Entry.{Entry}
-use Rattle.wal_base.specs.declared.entry.Entry.TheVariants.{Set, Delete, Note}
-use Rattle.arena_list.specs.Versions.{Version}
-use Rattle.memtable_shards.specs.Versions.{versions_from, shard_of, of_shard}
-use Rattle.memtable_shards.specs.Parts.{counted_from, HaveOwnNumbers, AreByShard}
+use Rattle.wal_base.specs.declared.entry.Entry.TheVariants.{Set, Delete, Note, RangeDelete}
+use Rattle.memtable_shards.specs.Versions.{Version}
+use Rattle.memtable_shards.specs.Versions.{versions_from, shard_of, is_in, IsIn, of_shard}
+use Rattle.memtable_shards.specs.Parts.{key_entry, counted_from, HaveOwnNumbers, AreByShard, AddsToFirst}
+use Rattle.memtable_shards.specs.declared.sharding.TheConstants.{SHARDS}
+use Rattle.std.proofs.lemmas.Bool.{cases_lt}
+use Rattle.memtable_shards.proofs.Places.{changed}
 use Rattle.memtable_shards.proofs.Numbers.{number_within, versions-append, count-append, count_is_length}
 use Rattle.memtable_shards.proofs.Counting.{moved}
 
 abbrev pub in_shard : ℕ → Version → Bool
-in_shard shard version = eqb (shard_of version.key) shard
+in_shard shard version = is_in shard version.entry
 
 -- ---- a shard's versions
 
-pub kept : (shard : ℕ) (xs : List Version) (v : Version) → Contains xs v → shard_of v.key ≡ shard → Contains (of_shard shard xs) v
+pub kept : (shard : ℕ) (xs : List Version) (v : Version) → Contains xs v → IsIn v shard → Contains (of_shard shard xs) v
 kept shard [] v h is = absurd (none_within v h)
 kept shard (x ∷ xs) v h is = go (in_shard shard x) refl (within_cases x xs v h) (λ later. kept shard xs v later is)
   where
@@ -31,25 +34,38 @@ kept shard (x ∷ xs) v h is = go (in_shard shard x) refl (within_cases x xs v h
         → Contains (cond b (x ∷ of_shard shard xs) (of_shard shard xs)) v
     go true e (inl same) rest = subst (λ (w : Version). Contains (x ∷ of_shard shard xs) w) same (within_head x (of_shard shard xs))
     go true e (inr later) rest = within_tail x (of_shard shard xs) v (rest later)
-    go false e (inl same) rest = let own : shard_of x.key ≡ shard =
-        ap (λ (w : Version). shard_of w.key) same ∙ is in absurd (grind (arith, nat_tests, e, own))
+    go false e (inl same) rest = let clash : false ≡ true = sym e ∙ ap (λ (w : Version). in_shard shard w) same ∙ is in cc
     go false e (inr later) rest = rest later
 
-pub kept_from : (shard : ℕ) (xs : List Version) (v : Version) → Contains (of_shard shard xs) v → Contains xs v × (shard_of v.key ≡ shard)
+pub kept_from : (shard : ℕ) (xs : List Version) (v : Version) → Contains (of_shard shard xs) v → Contains xs v × IsIn v shard
 kept_from shard [] v h = absurd (none_within v h)
 kept_from shard (x ∷ xs) v h = go (in_shard shard x) refl h (kept_from shard xs v)
   where
     go : (b : Bool) → in_shard shard x ≡ b → Contains (cond b (x ∷ of_shard shard xs) (of_shard shard xs)) v
-        → (Contains (of_shard shard xs) v → Contains xs v × (shard_of v.key ≡ shard)) → Contains (x ∷ xs) v × (shard_of v.key ≡ shard)
+        → (Contains (of_shard shard xs) v → Contains xs v × IsIn v shard) → Contains (x ∷ xs) v × IsIn v shard
     go true e h rest = elim (within_cases x (of_shard shard xs) v h) [
-      | inl same ↦ let own : shard_of x.key ≡ shard = grind (arith, nat_tests, e) in
-          (subst (λ (w : Version). Contains (x ∷ xs) w) same (within_head x xs), subst (λ (w : Version). shard_of w.key ≡ shard) same own)
+      | inl same ↦ (subst (λ (w : Version). Contains (x ∷ xs) w) same (within_head x xs), subst (λ (w : Version). IsIn w shard) same e)
       | inr later ↦ (within_tail x xs v (rest later).0, (rest later).1)
     ]
     go false e h rest = (within_tail x xs v (rest h).0, (rest h).1)
 
+-- there are eight shards
+pub shard_below : (shard : ℕ) (v : Version) → IsIn v shard → shard < SHARDS
+shard_below shard v here = go v.entry here
+  where
+    go : (entry : Entry) → is_in shard entry ≡ true → shard < SHARDS
+    go (Set key value) is = let own : shard_of key ≡ shard = grind (arith, nat_tests, is) in omega (arith, own)
+    go (Delete key) is = let own : shard_of key ≡ shard = grind (arith, nat_tests, is) in omega (arith, own)
+    go (Note bytes) is = absurd cc
+    go (RangeDelete start end) is = grind (arith, nat_tests, is)
+
+-- a version of a key belongs to the key's shard alone
+pub key_in : (shard : ℕ) (key : List ℕ) (value : Option (List ℕ)) → is_in shard (key_entry key value) ≡ eqb (shard_of key) shard
+key_in shard key None = refl
+key_in shard key (Some value) = refl
+
 -- none of the versions is of a shard that has none
-pub none_kept : (shard : ℕ) (xs : List Version) (v : Version) → of_shard shard xs ≡ [] → Contains xs v → shard_of v.key ≢ shard
+pub none_kept : (shard : ℕ) (xs : List Version) (v : Version) → of_shard shard xs ≡ [] → Contains xs v → IsIn v shard → ⊥
 none_kept shard xs v none h is = none_within v (subst (λ (l : List Version). Contains l v) none (kept shard xs v h is))
 
 own_kept : (shard : ℕ) (xs : List Version) → HaveOwnNumbers xs → HaveOwnNumbers (of_shard shard xs)
@@ -74,6 +90,11 @@ own_from number (Delete key ∷ entries) = (
   own_from
       (number + 1) entries,
 )
+own_from number (RangeDelete start end ∷ entries) = (
+  λ w h (e : w.number ≡ number). omega (arith, e, (number_within (number + 1) entries w h).0),
+  own_from
+      (number + 1) entries,
+)
 own_from number (Note bytes ∷ entries) = own_from number entries
 
 pub own_piece : (shard number : ℕ) (entries : List Entry) → HaveOwnNumbers (of_shard shard (versions_from number entries))
@@ -85,9 +106,11 @@ own_piece shard number entries = own_kept shard (versions_from number entries) (
 pub renumbered : (first number : ℕ) (entries : List Entry) → counted_from first (versions_from number entries) ≡ versions_from (first + number) entries
 unfolding versions_from
 renumbered first number [] = refl
-renumbered first number (Set key value ∷ entries) = ap (λ (t : List Version). record { key = key; number = first + number; value = Some value } ∷ t)
+renumbered first number (Set key value ∷ entries) = ap (λ (t : List Version). record { entry = Set key value; number = first + number } ∷ t)
     (renumbered first (number + 1) entries ∙ ap (λ (n : ℕ). versions_from n entries) (omega arith))
-renumbered first number (Delete key ∷ entries) = ap (λ (t : List Version). record { key = key; number = first + number; value = None } ∷ t)
+renumbered first number (Delete key ∷ entries) = ap (λ (t : List Version). record { entry = Delete key; number = first + number } ∷ t)
+    (renumbered first (number + 1) entries ∙ ap (λ (n : ℕ). versions_from n entries) (omega arith))
+renumbered first number (RangeDelete start end ∷ entries) = ap (λ (t : List Version). record { entry = RangeDelete start end; number = first + number } ∷ t)
     (renumbered first (number + 1) entries ∙ ap (λ (n : ℕ). versions_from n entries) (omega arith))
 renumbered first number (Note bytes ∷ entries) = renumbered first number entries
 
@@ -107,15 +130,15 @@ moved_piece shard first entries = moved_kept shard first (versions_from 0 entrie
     ∙ ap (of_shard shard) (renumbered first 0 entries ∙ ap (λ (n : ℕ). versions_from n entries) (omega arith))
 
 -- a version under another number
-unmoved : (first : ℕ) (xs : List Version) (v : Version) → Contains (counted_from first xs) v → (w : Version) × Contains xs w × (w.key ≡ v.key)
+unmoved : (first : ℕ) (xs : List Version) (v : Version) → Contains (counted_from first xs) v → (w : Version) × Contains xs w × (w.entry ≡ v.entry)
 unmoved first [] v h = absurd (none_within v h)
 unmoved first (x ∷ xs) v h = elim (within_cases (moved first x) (counted_from first xs) v h) [
-  | inl is ↦ (x, within_head x xs, ap (λ (y : Version). y.key) is)
+  | inl is ↦ (x, within_head x xs, ap (λ (y : Version). y.entry) is)
   | inr later ↦ let found = unmoved first xs v later in (found.0, within_tail x xs found.0 found.1, found.2)
 ]
 
 pub before_numbered : (first : ℕ) (entries : List Entry) (v : Version) → Contains (versions_from first entries) v
-    → (w : Version) × Contains (versions_from 0 entries) w × (w.key ≡ v.key)
+    → (w : Version) × Contains (versions_from 0 entries) w × (w.entry ≡ v.entry)
 before_numbered first entries v h =
     unmoved first (versions_from 0 entries) v (subst (λ (l : List Version). Contains l v)
     (sym (renumbered first 0 entries ∙ ap (λ (n : ℕ). versions_from n entries) (omega arith))) h)
@@ -150,52 +173,72 @@ empty_by_shard [] all shard list is = absurd cc
 empty_by_shard (l ∷ lists) all zero list is = let e : l ≡ list = cc in sym e ∙ all.0
 empty_by_shard (l ∷ lists) all (suc shard) list is = empty_by_shard lists all.1 shard list is
 
--- one version more, in its list
-pub by_shard_more : (versions : List Version) (v : Version) (lists lists' : List (List Version)) (list : List Version) → AreByShard versions lists
-    → shard_of v.key < length lists → list ≡ get_or lists (shard_of v.key) list → lists' ≡ set lists (shard_of v.key) (list ++ v ∷ [])
-    → AreByShard (versions ++ v ∷ []) lists'
-by_shard_more versions v lists lists' list by within is set_to shard found at = go (eqb (shard_of v.key) shard) refl
+-- one version more, in the list of its key's shard, to which alone it belongs
+pub by_shard_added : (versions : List Version) (v : Version) (lists : List (List Version)) (own : ℕ) (was now : List Version) → AreByShard versions lists
+    → ((k : ℕ) → in_shard k v ≡ eqb own k) → own < length lists → was ≡ get_or lists own was → now ≡ was ++ v ∷ []
+    → AreByShard (versions ++ v ∷ []) (set lists own now)
+by_shard_added versions v lists own was now by just within is more shard found at = elim (changed lists own was now shard found there at) [
+  | inl same ↦
+      same.1 ∙ more
+      ∙ ap (λ (l : List Version). l ++ v ∷ []) (by shard was (subst (λ (n : ℕ). slice_get lists n ≡ Some was) (sym same.0) there))
+      ∙ sym (whole true (just shard ∙ let e : own ≡ shard = sym same.0 in grind (arith, nat_tests, e)))
+  | inr other ↦
+      by shard found other.1 ∙ sym (append-nil (of_shard shard versions))
+      ∙ sym (whole false (just shard ∙ go (eqb own shard) refl other.0))
+]
   where
+    there : slice_get lists own ≡ Some was
+    there = slice_get-get_or lists own was within ∙ ap Some (sym is)
+
     whole : (b : Bool) → in_shard shard v ≡ b → of_shard shard (versions ++ v ∷ []) ≡ of_shard shard versions ++ cond b (v ∷ []) []
     whole b e = filter-append (in_shard shard) versions (v ∷ []) ∙ ap (λ (b : Bool). of_shard shard versions ++ cond b (v ∷ []) []) e
 
-    moved_to : slice_get (set lists (shard_of v.key) (list ++ v ∷ [])) shard ≡ Some found
-    moved_to = subst (λ (l : List (List Version)). slice_get l shard ≡ Some found) set_to at
+    go : (b : Bool) → eqb own shard ≡ b → shard ≢ own → b ≡ false
+    go false e apart = refl
+    go true e apart = absurd (apart (grind (arith, nat_tests, e)))
 
-    go : (b : Bool) → in_shard shard v ≡ b → found ≡ of_shard shard (versions ++ v ∷ [])
-    go true e =
-        let own : shard_of v.key ≡ shard = grind (arith, nat_tests, e) in
-        let old : list ≡ of_shard shard versions = by shard list
-        (subst (λ (n : ℕ). slice_get lists n ≡ Some list) own (slice_get-get_or lists (shard_of v.key) list within ∙ ap Some (sym is))) in
-        let new : get_or (set lists (shard_of v.key) (list ++ v ∷ [])) shard found ≡ found =
-        get_or_from_slice_get (set lists (shard_of v.key) (list ++ v ∷ [])) shard found found moved_to in
-        let there : get_or (set lists (shard_of v.key) (list ++ v ∷ [])) shard found ≡ list ++ v ∷ [] =
-        subst (λ (n : ℕ). get_or (set lists (shard_of v.key) (list ++ v ∷ [])) n found ≡ list ++ v ∷ []) own
-        (get_or-set_same lists (shard_of v.key) (list ++ v ∷ []) found within) in
-        sym new ∙ there ∙ ap (λ (l : List Version). l ++ v ∷ []) old ∙ sym (whole true e)
-    go false e =
-        let other : shard ≢ shard_of v.key = λ (same : shard ≡ shard_of v.key). grind (arith, nat_tests, e, same) in
-        let new : get_or (set lists (shard_of v.key) (list ++ v ∷ [])) shard found ≡ found =
-        get_or_from_slice_get (set lists (shard_of v.key) (list ++ v ∷ [])) shard found found moved_to in
-        let there : get_or (set lists (shard_of v.key) (list ++ v ∷ [])) shard found ≡ get_or lists shard found =
-        get_or-set_other lists (shard_of v.key) shard (list ++ v ∷ []) found other in
-        let inside : shard < length lists = omega (
-          arith,
-          slice_get_within
-              (set lists (shard_of v.key) (list ++ v ∷ [])) shard found moved_to,
-          length-set {A = List Version},
-        ) in
-        by shard found (slice_get-get_or lists shard found inside ∙ ap Some (sym there ∙ new)) ∙ sym (append-nil (of_shard shard versions))
-        ∙ sym (whole false e)
+-- one version more, in each list, where it belongs to each shard
+pub by_shard_all : (versions : List Version) (v : Version) (old new : List (List Version)) → AreByShard versions old → AddsToFirst v SHARDS old new
+    → length new ≡ SHARDS → ((k : ℕ) → k < SHARDS → in_shard k v ≡ true) → AreByShard (versions ++ v ∷ []) new
+by_shard_all versions v old new by adds eight each shard found at =
+    let more = adds shard found at in
+    let within : shard < SHARDS = omega (arith, slice_get_within new shard found at, eight) in
+    more.2 within ∙ ap (λ (l : List Version). l ++ v ∷ []) (by shard more.0 more.1)
+    ∙ sym (filter-append (in_shard shard) versions (v ∷ []) ∙ ap (λ (b : Bool). of_shard shard versions ++ cond b (v ∷ []) []) (each shard within))
 
--- the same where the shard is known by its number
-pub by_shard_added : (versions : List Version) (v : Version) (lists : List (List Version)) (shard : ℕ) (was now : List Version) → AreByShard versions lists
-    → shard ≡ shard_of v.key → shard < length lists → was ≡ get_or lists shard was → now ≡ was ++ v ∷ []
-    → AreByShard (versions ++ v ∷ []) (set lists shard now)
-by_shard_added versions v lists shard was now by own within is more =
-    by_shard_more versions v lists (set lists shard now) was by (omega (arith, within, own))
-    (subst (λ (n : ℕ). was ≡ get_or lists n was) own is)
-    (ap (λ (n : ℕ). set lists n now) own ∙ ap (λ (l : List Version). set lists (shard_of v.key) l) more)
+-- no list has it yet
+pub added_none : (v : Version) (lists : List (List Version)) → AddsToFirst v 0 lists lists
+added_none v lists shard list at = (list, at, (λ before. absurd (omega (arith, before))), λ on. refl)
+
+-- one list more has it
+pub added_more : (v : Version) (end : ℕ) (old lists : List (List Version)) (was now : List Version) → AddsToFirst v end old lists
+    → end < length lists → was ≡ get_or lists end was → now ≡ was ++ v ∷ [] → AddsToFirst v (end + 1) old (set lists end now)
+added_more v end old lists was now adds within is more shard list at = elim (changed lists end was now shard list there at) [
+  | inl same ↦
+      let before = adds end was there in
+      let place : shard ≡ end = same.0 in (
+        before.0,
+        subst (λ (n : ℕ). slice_get old n ≡ Some before.0) (sym place) before.1,
+        λ low. same.1 ∙ more ∙ ap (λ (l : List Version). l ++ v ∷ []) (before.3 (omega arith)),
+        λ on. absurd (omega (arith, on, place)),
+      )
+  | inr other ↦
+      let before = adds shard list other.1 in (
+        before.0,
+        before.1,
+        λ low. before.2 (below shard other.0 low),
+        λ on. before.3 (omega (arith, on)),
+      )
+]
+  where
+    there : slice_get lists end ≡ Some was
+    there = slice_get-get_or lists end was within ∙ ap Some (sym is)
+
+    below : (shard : ℕ) → shard ≢ end → shard < end + 1 → shard < end
+    below shard apart low = elim (cases_lt shard end) [
+      | inl less ↦ less
+      | inr on ↦ absurd (apart (omega (arith, on, low)))
+    ]
 
 pub one_less : {X : Type 0} (old new : List X) (x : X) → old ≡ new ++ x ∷ [] → length old ≡ length new + 1
 one_less {X = X} old new x is = omega (arith, ap (λ (l : List X). length l) is, length-append new (x ∷ []))

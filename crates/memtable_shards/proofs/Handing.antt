@@ -1,18 +1,20 @@
 -- The next piece: the first list that is not empty, as it is handed out under its numbers.
-use Rattle.std.proofs.Common.{◌≡◌, inl, inr, ℕ, ◌+◌, ◌≤◌, ◌<◌, List, [], ◌∷◌, Option, Some, refl, sym, ap, ◌∙◌, subst, arith, get_or, length, length-set}
+use Rattle.std.proofs.Common.{◌≡◌, inl, inr, ℕ, ◌+◌, ◌≤◌, List, [], ◌∷◌, Option, Some, refl, sym, ap, ◌∙◌, subst, arith, get_or, length, length-set}
 use Rattle.std.specs.Prelude.{Contains, slice_get}
 use Rattle.std.proofs.Math.ListN.{set}
 use Rattle.std.proofs.lemmas.Bool.{cases_lt}
 use Rattle.std.proofs.lemmas.Option.{slice_get-get_or}
 use Rattle.wal_base.specs.declared.entry.Entry.{Entry}
 use Rattle.memtable_shards.specs.declared.sharding.TheConstants.{SHARDS}
-use Rattle.arena_list.specs.Versions.{Version}
-use Rattle.memtable_shards.specs.Versions.{versions_from, shard_of, of_shard}
+use Rattle.memtable_shards.specs.Versions.{Version}
+use Rattle.memtable_shards.specs.Versions.{versions_from, IsIn, of_shard}
 use Rattle.memtable_shards.specs.Pieces.{IsNextPiece, NoPieceIsLeft}
 use Rattle.memtable_shards.specs.Parts.{counted_from, MayWait, AreEmptyBetween, IsFirstWithAny, AreCut}
 use Rattle.memtable_shards.proofs.Numbers.{number_within}
-use Rattle.memtable_shards.proofs.Cutting.{moved_piece, own_piece, none_kept, kept_from, before_numbered}
-use Rattle.memtable_shards.proofs.Applying.{changed}
+use Rattle.std.specs.Prelude.{IsTrue}
+use Rattle.memtable_shards.specs.Versions.{is_in}
+use Rattle.memtable_shards.proofs.Cutting.{shard_below, moved_piece, own_piece, none_kept, kept_from, before_numbered}
+use Rattle.memtable_shards.proofs.Places.{changed}
 
 -- one list more that is empty
 pub empty_more : (lists : List (List Version)) (from shard : ℕ) (list : List Version) → AreEmptyBetween lists from shard
@@ -42,15 +44,14 @@ piece_waits entries first from shard lists list other cut next is =
     own : list ≡ of_shard shard (versions_from 0 entries)
     own = cut.left shard list next.on (found_at lists from shard list other cut.eight next is)
 
--- Where lists are empty up to a shard, so are the versions' shards not before it.
+-- Where lists are empty up to a shard, a version belongs to none from there on and before it.
 none_before : (entries : List Entry) (numbered : Option ℕ) (from shard : ℕ) (lists : List (List Version)) → AreCut entries numbered from lists
-    → AreEmptyBetween lists from shard → shard ≤ SHARDS → (v : Version) → Contains (versions_from 0 entries) v → from ≤ shard_of v.key
-    → shard ≤ shard_of v.key
-none_before entries numbered from shard lists cut empty within v h on = elim (cases_lt (shard_of v.key) shard) [
+    → AreEmptyBetween lists from shard → shard ≤ SHARDS → (v : Version) (own : ℕ) → Contains (versions_from 0 entries) v → IsIn v own → from ≤ own
+    → shard ≤ own
+none_before entries numbered from shard lists cut empty within v own h here on = elim (cases_lt own shard) [
   | inl low ↦
-      let own : ℕ = shard_of v.key in
       let at : slice_get lists own ≡ Some (get_or lists own []) = slice_get-get_or lists own [] (omega (arith, low, within, cut.eight)) in
-      absurd (none_kept own (versions_from 0 entries) v (sym (cut.left own (get_or lists own []) on at) ∙ empty own (get_or lists own []) on low at) h refl)
+      absurd (none_kept own (versions_from 0 entries) v (sym (cut.left own (get_or lists own []) on at) ∙ empty own (get_or lists own []) on low at) h here)
   | inr high ↦ high
 ]
 
@@ -60,9 +61,9 @@ pub next_piece : (entries : List Entry) (first from shard : ℕ) (lists : List (
 next_piece entries first from shard lists list other nodes cut next is numbered = record {
   on = next.on;
   within = next.within;
-  next = λ v h on. let was = before_numbered first entries v h in subst (λ (key : List ℕ). shard ≤ shard_of key) was.2
-      (none_before entries (Some first) from shard lists cut next.before (omega (arith, next.within)) was.0 was.1
-      (subst (λ (key : List ℕ). from ≤ shard_of key) (sym was.2) on));
+  next = λ v other h here on. let was = before_numbered first entries v h in
+      none_before entries (Some first) from shard lists cut next.before (omega (arith, next.within)) was.0 other was.1
+      (subst (λ (e : Entry). IsTrue (is_in other e)) (sym was.2) here) on;
   own = numbered ∙ ap (counted_from first) (cut.left shard list next.on at) ∙ moved_piece shard first entries;
   some = λ (none : nodes ≡ []). next.some list at (none_moved list (sym numbered ∙ none));
 }
@@ -91,9 +92,14 @@ cut_rest entries numbered from shard lists cut next = record {
 
 pub none_left : (entries : List Entry) (first from : ℕ) (lists : List (List Version)) → AreCut entries (Some first) from lists
     → AreEmptyBetween lists from SHARDS → NoPieceIsLeft (record { entries = entries; first = Some first; from = from })
-none_left entries first from lists cut empty v h =
+none_left entries first from lists cut empty v own h here =
     let was = before_numbered first entries v h in
-    subst (λ (key : List ℕ). shard_of key < from) was.2 (elim (cases_lt (shard_of was.0.key) from) [
+    elim (cases_lt own from) [
       | inl low ↦ low
-      | inr on ↦ absurd (omega (arith, none_before entries (Some first) from SHARDS lists cut empty (omega arith) was.0 was.1 on))
-    ])
+      | inr on ↦ absurd (omega (
+        arith,
+        none_before entries (Some first) from SHARDS lists cut empty (omega arith) was.0 own was.1
+            (subst (λ (e : Entry). IsTrue (is_in own e)) (sym was.2) here) on,
+        shard_below own v here,
+      ))
+    ]

@@ -5,11 +5,13 @@ use Rattle.std.specs.Prelude.{Contains, ◌↔◌}
 use Rattle.std.proofs.lemmas.List.{append-nil}
 use Rattle.std.proofs.lemmas.List.Elements.{Contains-append_left, Contains-append_right, Contains-append_cases}
 use Rattle.wal_base.proofs.Laws.{within_head, within_tail, within_cases}
-use Rattle.arena_list.specs.Versions.{Version, AscendVersions, Adds, HoldsVersion}
+use Rattle.arena_list.specs.Versions.{KeyVersion, AscendVersions}
 use Rattle.arena_list.proofs.Laws.{never_before_itself}
-use Rattle.memtable_shards.specs.Versions.{Gains, HaveOtherNumbers, IsSettled}
-use Rattle.memtable_shards.specs.Parts.{HaveOwnNumbers, MayWait, IsShard}
+use Rattle.range_cover.specs.declared.mark.RangeMark.{RangeMark}
+use Rattle.memtable_shards.specs.Versions.{Version, Gains, HaveOtherNumbers, IsSettled, key_versions}
+use Rattle.memtable_shards.specs.Parts.{settled_in, LacksNumber, HasOneMore, HaveOwnNumbers, MayWait, IsShard}
 use Rattle.memtable_shards.proofs.MayWait.{rest_waits}
+use Rattle.memtable_shards.proofs.Settling.{keys_seen}
 
 -- what a shard is seen as
 abbrev pub seen : List Version → List Version → List Version
@@ -37,28 +39,34 @@ seen_once index waiting v = (
   λ h. Contains-append_left (index ++ waiting) waiting v h,
 )
 
--- ---- nothing waits
+-- ---- no version of a key waits
 
-seen_alone : (index : List Version) → seen index [] ≡ index
+seen_alone : (index : List KeyVersion) → index ++ [] ++ [] ≡ index
 seen_alone index = append-nil (index ++ []) ∙ append-nil index
 
-pub settled_alone : (index waiting : List Version) → waiting ≡ [] → AscendVersions index → IsSettled (seen index waiting)
-settled_alone index waiting none ascends = subst (λ (l : List Version). AscendVersions (seen index l)) (sym none)
-    (subst AscendVersions (sym (seen_alone index)) ascends)
+pub settled_alone : (index : List KeyVersion) (ranges : List RangeMark) (waiting : List Version) → waiting ≡ [] → AscendVersions index
+    → IsSettled (seen (settled_in index ranges) waiting)
+settled_alone index ranges waiting none ascends = subst AscendVersions (sym (keys_seen index ranges waiting
+    ∙ ap (λ (l : List Version). index ++ key_versions l ++ key_versions l) none ∙ seen_alone index)) ascends
 
-ascends_back : (xs ys : List Version) → AscendVersions (xs ++ ys) → AscendVersions ys
+ascends_back : (xs ys : List KeyVersion) → AscendVersions (xs ++ ys) → AscendVersions ys
 unfolding AscendVersions
 ascends_back [] ys ascends = ascends
 ascends_back (x ∷ xs) ys ascends = ascends_back xs ys ascends.1
 
 -- what stands twice does not ascend
-pub settled_whole : (index waiting : List Version) → IsSettled (seen index waiting) → index ≡ seen index waiting
+alone : (index waiting : List KeyVersion) → AscendVersions (index ++ waiting ++ waiting) → index ≡ index ++ waiting ++ waiting
 unfolding AscendVersions
-settled_whole index [] settled = sym (seen_alone index)
-settled_whole index (v ∷ waiting) settled =
+alone index [] settled = sym (seen_alone index)
+alone index (v ∷ waiting) settled =
     let twice : AscendVersions ((v ∷ waiting) ++ v ∷ waiting) =
     ascends_back index ((v ∷ waiting) ++ v ∷ waiting) (subst AscendVersions (append_assoc index (v ∷ waiting) (v ∷ waiting)) settled) in
     absurd (never_before_itself v (twice.0 v (Contains-append_right waiting (v ∷ waiting) v (within_head v waiting))))
+
+pub settled_whole : (index : List KeyVersion) (ranges : List RangeMark) (waiting : List Version) → IsSettled (seen (settled_in index ranges) waiting)
+    → index ≡ key_versions (seen (settled_in index ranges) waiting)
+settled_whole index ranges waiting settled =
+    alone index (key_versions waiting) (subst AscendVersions (keys_seen index ranges waiting) settled) ∙ sym (keys_seen index ranges waiting)
 
 -- ---- one version more, or fewer
 
@@ -95,7 +103,7 @@ linked_apart index waiting nodes all is was more one other h k =
     ]
 
 -- a version moves from those that wait to the index
-moved_in : (old new wait rest : List Version) (version : Version) → wait ≡ version ∷ rest → Adds old version new → (v : Version)
+moved_in : (old new wait rest : List Version) (version : Version) → wait ≡ version ∷ rest → HasOneMore old version new → (v : Version)
     → Contains (seen new rest) v ↔ Contains (seen old wait) v
 moved_in old new wait rest version e adds v = (to, from)
   where
@@ -140,14 +148,14 @@ none_waits (v ∷ waiting) none = let clash : false ≡ true = none (omega arith
 
 -- the first one is not in the index
 pub first_absent : (index waiting : List Version) (version : Version) → 0 < length waiting → version ≡ get_or waiting 0 version
-    → IsShard index waiting → HoldsVersion index version.key version.number → ⊥
-first_absent index waiting version some is shard holds =
-    shard.apart holds.0 version holds.1 (subst (λ (l : List Version). Contains l version) (sym (first_waits waiting version some is))
-    (within_head version (drop 1 waiting))) holds.2.1
+    → IsShard index waiting → LacksNumber index version.number
+first_absent index waiting version some is shard v h =
+    shard.apart v version h (subst (λ (l : List Version). Contains l version) (sym (first_waits waiting version some is))
+    (within_head version (drop 1 waiting)))
 
 -- the first one moves to the index
 pub one_settled : (was old new waiting rest : List Version) (version : Version) → 0 < length waiting → version ≡ get_or waiting 0 version
-    → rest ≡ drop 1 waiting → Adds old version new → IsShard old waiting → ((v : Version) → Contains (seen old waiting) v ↔ Contains was v)
+    → rest ≡ drop 1 waiting → HasOneMore old version new → IsShard old waiting → ((v : Version) → Contains (seen old waiting) v ↔ Contains was v)
     → IsShard new rest × ((v : Version) → Contains (seen new rest) v ↔ Contains was v)
 unfolding HaveOwnNumbers
 one_settled was old new waiting rest version some is off adds shard same = (

@@ -5,9 +5,11 @@ mod Newer
 mod Reading
 mod Answering
 mod Counting
+mod Places
 mod Cutting
 mod Handing
 mod MayWait
+mod Settling
 mod IsShard
 mod Applying
 mod Touching

@@ -8,7 +8,7 @@ use Rattle.std.proofs.lemmas.Map.Steps.{length-le_from_distinct_below}
 use Rattle.std.proofs.lemmas.List.Elements.{Contains-append_cases}
 use Rattle.wal_base.proofs.Laws.{none_within, within_head, within_tail}
 use Rattle.batch_repr.specs.declared.limits.TheConstants.{NUMBER_MAX}
-use Rattle.arena_list.specs.Versions.{Version}
+use Rattle.memtable_shards.specs.Versions.{Version}
 use Rattle.memtable_shards.specs.Parts.{HaveOwnNumbers, MayWait}
 
 -- ---- numbers of their own

@@ -1,13 +1,13 @@
 -- The versions of batches that are numbered one after another are those of all their entries, numbered from the first on.
-use Rattle.std.proofs.Common.{◌≡◌, ◌⊎◌, inl, inr, ℕ, ◌+◌, ◌≤◌, ◌<◌, cond, List, [], ◌∷◌, ◌++◌, length, Some, None, refl, sym, ap, ◌∙◌, arith}
+use Rattle.std.proofs.Common.{◌≡◌, ◌⊎◌, inl, inr, ℕ, ◌+◌, ◌≤◌, ◌<◌, cond, List, [], ◌∷◌, ◌++◌, length, refl, sym, ap, ◌∙◌, arith}
 use Rattle.std.specs.Prelude.{Contains}
 use Rattle.std.proofs.lemmas.List.Sums.{sum_by-append, sum_by-cons}
 use Rattle.wal_base.proofs.Laws.{none_within, within_cases}
 use Rattle.wal_base.specs.declared.entry.Entry.{Entry}
-use Rattle.wal_base.specs.declared.entry.Entry.TheVariants.{Set, Delete, Note}
+use Rattle.wal_base.specs.declared.entry.Entry.TheVariants.{Set, Delete, Note, RangeDelete}
 use Rattle.batch_repr.specs.declared.batch.Batch.{Batch}
 use Rattle.batch_repr.specs.Batches.{count_of, is_counted, end_of, IsContiguous, end_after, entries_in}
-use Rattle.arena_list.specs.Versions.{Version}
+use Rattle.memtable_shards.specs.Versions.{Version}
 use Rattle.memtable_shards.specs.Versions.{versions_from, versions_of, versions_in}
 
 -- ---- numbers
@@ -23,14 +23,19 @@ count_is_length number [] = refl
 count_is_length number (Set key value ∷ entries) = omega (arith, count_is_length (number + 1) entries, counted (Set key value) entries)
 count_is_length number (Delete key ∷ entries) = omega (arith, count_is_length (number + 1) entries, counted (Delete key) entries)
 count_is_length number (Note bytes ∷ entries) = omega (arith, count_is_length number entries, counted (Note bytes) entries)
+count_is_length number (RangeDelete start end ∷ entries) =
+    omega (arith, count_is_length (number + 1) entries, counted (RangeDelete start end) entries)
 
 pub versions-append : (number : ℕ) (xs ys : List Entry) → versions_from number (xs ++ ys) ≡ versions_from number xs ++ versions_from (number + count_of xs) ys
 unfolding versions_from
 versions-append number [] ys = ap (λ (n : ℕ). versions_from n ys) (omega arith)
-versions-append number (Set key value ∷ xs) ys = ap (λ (t : List Version). record { key = key; number = number; value = Some value } ∷ t)
+versions-append number (Set key value ∷ xs) ys = ap (λ (t : List Version). record { entry = Set key value; number = number } ∷ t)
     (versions-append (number + 1) xs ys ∙ ap (λ (n : ℕ). versions_from (number + 1) xs ++ versions_from n ys) (omega (arith, counted (Set key value) xs)))
-versions-append number (Delete key ∷ xs) ys = ap (λ (t : List Version). record { key = key; number = number; value = None } ∷ t)
+versions-append number (Delete key ∷ xs) ys = ap (λ (t : List Version). record { entry = Delete key; number = number } ∷ t)
     (versions-append (number + 1) xs ys ∙ ap (λ (n : ℕ). versions_from (number + 1) xs ++ versions_from n ys) (omega (arith, counted (Delete key) xs)))
+versions-append number (RangeDelete start end ∷ xs) ys = ap (λ (t : List Version). record { entry = RangeDelete start end; number = number } ∷ t)
+    (versions-append (number + 1) xs ys ∙ ap (λ (n : ℕ). versions_from (number + 1) xs ++ versions_from n ys)
+    (omega (arith, counted (RangeDelete start end) xs)))
 versions-append number (Note bytes ∷ xs) ys = versions-append number xs ys
     ∙ ap (λ (n : ℕ). versions_from number xs ++ versions_from n ys) (omega (arith, counted (Note bytes) xs))
 
@@ -56,14 +61,19 @@ pub number_within : (number : ℕ) (entries : List Entry) (v : Version) → Cont
 unfolding versions_from
 number_within number [] v h = absurd (none_within v h)
 number_within number (Set key value ∷ entries) v h = elim
-    (within_cases (record { key = key; number = number; value = Some value }) (versions_from (number + 1) entries) v h) [
+    (within_cases (record { entry = Set key value; number = number }) (versions_from (number + 1) entries) v h) [
       | inl e ↦ let is : number ≡ v.number = ap (λ (x : Version). x.number) e in (omega (arith, is), omega (arith, is, counted (Set key value) entries))
       | inr rest ↦ let r = number_within (number + 1) entries v rest in (omega (arith, r.0), omega (arith, r.1, counted (Set key value) entries))
     ]
-number_within number (Delete key ∷ entries) v h = elim (within_cases (record { key = key; number = number; value = None })
+number_within number (Delete key ∷ entries) v h = elim (within_cases (record { entry = Delete key; number = number })
     (versions_from (number + 1) entries) v h) [
       | inl e ↦ let is : number ≡ v.number = ap (λ (x : Version). x.number) e in (omega (arith, is), omega (arith, is, counted (Delete key) entries))
       | inr rest ↦ let r = number_within (number + 1) entries v rest in (omega (arith, r.0), omega (arith, r.1, counted (Delete key) entries))
+    ]
+number_within number (RangeDelete start end ∷ entries) v h = elim (within_cases (record { entry = RangeDelete start end; number = number })
+    (versions_from (number + 1) entries) v h) [
+      | inl e ↦ let is : number ≡ v.number = ap (λ (x : Version). x.number) e in (omega (arith, is), omega (arith, is, counted (RangeDelete start end) entries))
+      | inr rest ↦ let r = number_within (number + 1) entries v rest in (omega (arith, r.0), omega (arith, r.1, counted (RangeDelete start end) entries))
     ]
 number_within number (Note bytes ∷ entries) v h = let r =
     number_within number entries v h in (omega (arith, r.0), omega (arith, r.1, counted (Note bytes) entries))
@@ -73,7 +83,7 @@ pub one_number : (number : ℕ) (entries : List Entry) (v w : Version) → Conta
     → Contains (versions_from number entries) w → v.number ≡ w.number → v ≡ w
 unfolding versions_from
 one_number number [] v w h k e = absurd (none_within v h)
-one_number number (Set key value ∷ entries) v w h k e = first (record { key = key; number = number; value = Some value }) refl
+one_number number (Set key value ∷ entries) v w h k e = first (record { entry = Set key value; number = number }) refl
     (one_number (number + 1) entries v w) (within_cases _ (versions_from (number + 1) entries) v h) (within_cases _ (versions_from (number + 1) entries) w k)
   where
     first : (x : Version) → x.number ≡ number
@@ -83,7 +93,17 @@ one_number number (Set key value ∷ entries) v w h k e = first (record { key = 
     first x is rest (inl a) (inr b) = absurd (omega (arith, e, is, ap (λ (y : Version). y.number) a, (number_within (number + 1) entries w b).0))
     first x is rest (inr a) (inl b) = absurd (omega (arith, e, is, ap (λ (y : Version). y.number) b, (number_within (number + 1) entries v a).0))
     first x is rest (inr a) (inr b) = rest a b e
-one_number number (Delete key ∷ entries) v w h k e = first (record { key = key; number = number; value = None }) refl (one_number (number + 1) entries v w)
+one_number number (Delete key ∷ entries) v w h k e = first (record { entry = Delete key; number = number }) refl (one_number (number + 1) entries v w)
+    (within_cases _ (versions_from (number + 1) entries) v h) (within_cases _ (versions_from (number + 1) entries) w k)
+  where
+    first : (x : Version) → x.number ≡ number
+        → (Contains (versions_from (number + 1) entries) v → Contains (versions_from (number + 1) entries) w → v.number ≡ w.number → v ≡ w)
+        → (x ≡ v) ⊎ Contains (versions_from (number + 1) entries) v → (x ≡ w) ⊎ Contains (versions_from (number + 1) entries) w → v ≡ w
+    first x is rest (inl a) (inl b) = sym a ∙ b
+    first x is rest (inl a) (inr b) = absurd (omega (arith, e, is, ap (λ (y : Version). y.number) a, (number_within (number + 1) entries w b).0))
+    first x is rest (inr a) (inl b) = absurd (omega (arith, e, is, ap (λ (y : Version). y.number) b, (number_within (number + 1) entries v a).0))
+    first x is rest (inr a) (inr b) = rest a b e
+one_number number (RangeDelete start end ∷ entries) v w h k e = first (record { entry = RangeDelete start end; number = number }) refl (one_number (number + 1) entries v w)
     (within_cases _ (versions_from (number + 1) entries) v h) (within_cases _ (versions_from (number + 1) entries) w k)
   where
     first : (x : Version) → x.number ≡ number

@@ -9,11 +9,11 @@ use Rattle.wal_base.proofs.Laws.{none_within, within_head}
 use Rattle.batch_repr.specs.declared.batch.Batch.{Batch}
 use Rattle.batch_repr.specs.Batches.{count_of}
 use Rattle.memtable_shards.specs.declared.sharding.TheConstants.{SHARDS}
-use Rattle.arena_list.specs.Versions.{Version}
-use Rattle.memtable_shards.specs.Versions.{versions_of, versions_in, shard_of, of_shard, piece_in, touches, HaveBelow}
+use Rattle.memtable_shards.specs.Versions.{Version}
+use Rattle.memtable_shards.specs.Versions.{versions_of, versions_in, IsIn, of_shard, piece_in, touches, HaveBelow}
 use Rattle.memtable_shards.specs.Pieces.{PiecesLeft, versions_cut, IsNextPiece, NoPieceIsLeft}
 use Rattle.memtable_shards.proofs.Numbers.{number_within}
-use Rattle.memtable_shards.proofs.Cutting.{kept, kept_from}
+use Rattle.memtable_shards.proofs.Cutting.{shard_below, kept, kept_from}
 use Rattle.memtable_shards.proofs.Answering.{versions_in-append}
 use Rattle.memtable_shards.proofs.Applying.{cut_is, piece_of}
 
@@ -25,7 +25,7 @@ pub version_within : (batch : Batch) (version : Version) → Contains (versions_
 version_within batch version h = number_within batch.first batch.entries version h
 
 pub in_piece : (shard : ℕ) (batch : Batch) (version : Version)
-    → Contains (piece_in shard batch) version ↔ (Contains (versions_of batch) version × (shard_of version.key ≡ shard))
+    → Contains (piece_in shard batch) version ↔ (Contains (versions_of batch) version × IsIn version shard)
 in_piece shard batch version = (kept_from shard (versions_of batch) version, λ h. kept shard (versions_of batch) version h.0 h.1)
 
 pub touched_some : (batch : Batch) (shard : ℕ) → piece_in shard batch ≢ [] → IsTrue (touches batch shard)
@@ -46,16 +46,16 @@ touching batch shard touch = go (piece_in shard batch) touch
     go [] touch = absurd cc
     go (version ∷ versions) touch = (version, within_head version versions)
 
--- a version of the batch whose key is of that shard
+-- a version of the batch that belongs to that shard
 touching_key : (batch : Batch) (shard : ℕ) → IsTrue (touches batch shard)
-    → (version : Version) × Contains (versions_of batch) version × (shard_of version.key ≡ shard)
+    → (version : Version) × Contains (versions_of batch) version × IsIn version shard
 touching_key batch shard touch =
     let one = touching batch shard touch in
     let its = (in_piece shard batch one.0).0 one.1 in
     (one.0, its.0, its.1)
 
 pub touches_below : (batch : Batch) (shard : ℕ) → IsTrue (touches batch shard) → shard < SHARDS
-touches_below batch shard touch = let one = touching_key batch shard touch in omega (arith, one.2)
+touches_below batch shard touch = let one = touching_key batch shard touch in shard_below shard one.0 one.2
 
 -- ---- many batches
 
@@ -101,7 +101,7 @@ in_versions_take n batches version h =
 
 -- A shard that had the versions of some batches has, below a limit, those of further ones too.
 pub below_append : (limit : ℕ) (base batches : List Batch) (shard : ℕ) (versions first : List Version)
-    → ((v : Version) → Contains first v ↔ (Contains (versions_in base) v × (shard_of v.key ≡ shard)))
+    → ((v : Version) → Contains first v ↔ (Contains (versions_in base) v × IsIn v shard))
     → ((v : Version) → v.number < limit → Contains versions v ↔ (Contains first v ⊎ Contains (of_shard shard (versions_in batches)) v))
     → HaveBelow limit (base ++ batches) shard versions
 below_append limit base batches shard versions first was has v below = (λ h. to ((has v below).0 h), λ h. (has v below).1 (from h))
@@ -109,13 +109,13 @@ below_append limit base batches shard versions first was has v below = (λ h. to
     whole : versions_in (base ++ batches) ≡ versions_in base ++ versions_in batches
     whole = versions_in-append base batches
 
-    to : Contains first v ⊎ Contains (of_shard shard (versions_in batches)) v → Contains (versions_in (base ++ batches)) v × (shard_of v.key ≡ shard)
+    to : Contains first v ⊎ Contains (of_shard shard (versions_in batches)) v → Contains (versions_in (base ++ batches)) v × IsIn v shard
     to (inl h) = let old = (was v).0 h in
         (subst (λ (l : List Version). Contains l v) (sym whole) (Contains-append_left (versions_in base) (versions_in batches) v old.0), old.1)
     to (inr h) = let more = kept_from shard (versions_in batches) v h in
         (subst (λ (l : List Version). Contains l v) (sym whole) (Contains-append_right (versions_in base) (versions_in batches) v more.0), more.1)
 
-    from : Contains (versions_in (base ++ batches)) v × (shard_of v.key ≡ shard) → Contains first v ⊎ Contains (of_shard shard (versions_in batches)) v
+    from : Contains (versions_in (base ++ batches)) v × IsIn v shard → Contains first v ⊎ Contains (of_shard shard (versions_in batches)) v
     from (h, own) = elim (Contains-append_cases (versions_in base) (versions_in batches) v (subst (λ (l : List Version). Contains l v) whole h)) [
       | inl old ↦ inl ((was v).1 (old, own))
       | inr more ↦ inr (kept shard (versions_in batches) v more own)
@@ -132,7 +132,7 @@ next_is_piece pieces batch shard versions entries first next = (is, touched_some
 
 -- a version of a shard that the batch touches, among those that are cut
 cut_key : (pieces : PiecesLeft) (batch : Batch) (shard : ℕ) → pieces.entries ≡ batch.entries → pieces.first ≡ Some batch.first
-    → IsTrue (touches batch shard) → (version : Version) × Contains (versions_cut pieces) version × (shard_of version.key ≡ shard)
+    → IsTrue (touches batch shard) → (version : Version) × Contains (versions_cut pieces) version × IsIn version shard
 cut_key pieces batch shard entries first touch =
     let one = touching_key batch shard touch in
     (one.0, subst (λ (l : List Version). Contains l one.0) (sym (cut_is pieces batch entries first)) one.1, one.2)
@@ -141,10 +141,10 @@ pub none_between : (pieces : PiecesLeft) (batch : Batch) (shard : ℕ) (versions
     → pieces.first ≡ Some batch.first → IsNextPiece pieces shard versions → (k : ℕ) → IsTrue (touches batch k) → pieces.from ≤ k → shard ≤ k
 none_between pieces batch shard versions entries first next k touch on =
     let one = cut_key pieces batch k entries first touch in
-    subst (λ (n : ℕ). shard ≤ n) one.2 (next.next one.0 one.1 (subst (λ (n : ℕ). pieces.from ≤ n) (sym one.2) on))
+    next.next one.0 k one.1 one.2 on
 
 pub none_left : (pieces : PiecesLeft) (batch : Batch) → pieces.entries ≡ batch.entries → pieces.first ≡ Some batch.first → NoPieceIsLeft pieces
     → (k : ℕ) → IsTrue (touches batch k) → k < pieces.from
 none_left pieces batch entries first none k touch =
     let one = cut_key pieces batch k entries first touch in
-    subst (λ (n : ℕ). n < pieces.from) one.2 (none one.0 one.1)
+    none one.0 k one.1 one.2

@@ -1,15 +1,50 @@
 -- Versions that are linked, and not in the index yet. Nothing of it is seen from outside.
-use Rattle.std.specs.Prelude.{◌≡◌, ◌≢◌, ℕ, ◌+◌, ◌<◌, ◌≤◌, List, [], ◌∷◌, ◌++◌, length, Option, Some, Contains, map, slice_get, MatchOption, ⊤}
+use Rattle.std.specs.Prelude.{◌≡◌, ◌≢◌, ℕ, ◌+◌, ◌<◌, ◌≤◌, ◌↔◌, ◌⊎◌, None, List, [], ◌∷◌, ◌++◌, length, Option, Some, Contains, map, slice_get, MatchOption, ⊤}
 use Rattle.wal_base.specs.declared.entry.Entry.{Entry}
+use Rattle.wal_base.specs.declared.entry.Entry.TheVariants.{Set, Delete, RangeDelete}
 use Rattle.batch_repr.specs.declared.limits.TheConstants.{NUMBER_MAX}
 use Rattle.batch_repr.specs.Batches.{count_of}
 use Rattle.memtable_shards.specs.declared.sharding.TheConstants.{SHARDS}
-use Rattle.arena_list.specs.Versions.{Version}
+use Rattle.arena_list.specs.Versions.{KeyVersion}
+use Rattle.memtable_shards.specs.Versions.{Version}
+use Rattle.range_cover.specs.declared.mark.RangeMark.{RangeMark}
+use Rattle.memtable_shards.specs.declared.waiting.Target.{Target}
+use Rattle.memtable_shards.specs.declared.waiting.Target.TheVariants.{Key, Range}
 use Rattle.memtable_shards.specs.Versions.{versions_from, of_shard, HaveOtherNumbers}
+
+-- the entry that left a key with a value, or with none
+abbrev pub key_entry : List ℕ → Option (List ℕ) → Entry
+key_entry key None = Delete key
+key_entry key (Some value) = Set key value
+
+-- the entry of a version that waits
+abbrev pub entry_with : Target → Option (List ℕ) → Entry
+entry_with (Key key) value = key_entry key value
+entry_with (Range start end) value = RangeDelete start end
+
+-- a version of a key, as the index holds it
+abbrev pub of_key : KeyVersion → Version
+of_key version = record { entry = key_entry version.key version.value; number = version.number }
+
+-- a version of a range
+abbrev pub of_range : RangeMark → Version
+of_range mark = record { entry = RangeDelete mark.start mark.end; number = mark.number }
+
+-- what stands in the index and beside it
+abbrev pub settled_in : List KeyVersion → List RangeMark → List Version
+settled_in index ranges = map of_key index ++ map of_range ranges
+
+-- No version has this number.
+abbrev pub LacksNumber : List Version → ℕ → Type 0
+LacksNumber versions number = (version : Version) → Contains versions version → version.number ≢ number
+
+-- There is one version more.
+abbrev pub HasOneMore : List Version → Version → List Version → Type 0
+HasOneMore old version new = (other : Version) → Contains new other ↔ (Contains old other ⊎ (other ≡ version))
 
 -- versions whose numbers were counted from this one on
 abbrev pub counted_from : ℕ → List Version → List Version
-counted_from first versions = map (λ (version : Version). record { key = version.key; number = first + version.number; value = version.value }) versions
+counted_from first versions = map (λ (version : Version). record { entry = version.entry; number = first + version.number }) versions
 
 -- Each number is one that a batch may have.
 abbrev pub HaveNumbers : List Version → Type 0
@@ -34,9 +69,14 @@ pub record IsShard (settled waiting : List Version) : Type 0 where
 abbrev pub AreByShard : List Version → List (List Version) → Type 0
 AreByShard versions lists = (shard : ℕ) (list : List Version) → slice_get lists shard ≡ Some list → list ≡ of_shard shard versions
 
--- One version more stands at the end of its shard's list.
+-- One version more stands at the end of the list of each shard that it belongs to.
 abbrev pub AddsByShard : Version → List (List Version) → List (List Version) → Type 0
 AddsByShard version old new = (versions : List Version) → AreByShard versions old → AreByShard (versions ++ version ∷ []) new
+
+-- One version more stands at the end of each of the first lists, up to a place.
+abbrev pub AddsToFirst : Version → ℕ → List (List Version) → List (List Version) → Type 0
+AddsToFirst version end old new = (shard : ℕ) (list : List Version) → slice_get new shard ≡ Some list
+    → (was : List Version) × (slice_get old shard ≡ Some was) × (shard < end → list ≡ was ++ version ∷ []) × (end ≤ shard → list ≡ was)
 
 -- The lists between two places are empty.
 abbrev pub AreEmptyBetween : List (List Version) → ℕ → ℕ → Type 0

@@ -3,11 +3,10 @@ use Rattle.std.specs.Prelude.{◌≡◌, ℕ, ◌+◌, List, [], ◌∷◌, ◌+
 use Rattle.batch_repr.specs.declared.batch.Batch.{Batch}
 use Rattle.batch_repr.specs.Batches.{IsContiguous, end_after, answer}
 use Rattle.memtable_shards.specs.declared.sharding.TheConstants.{SHARDS}
-use Rattle.arena_list.specs.Versions.{Version}
+use Rattle.memtable_shards.specs.Versions.{Version}
 use Rattle.arena_list.specs.declared.found.Found.{Found}
 use Rattle.memtable_shards.specs.Versions.{shard_of, HaveBelow, Gains, HasSameVersions, HaveOtherNumbers, AreShardsOf}
-use Rattle.arena_list.specs.Newest.{FindsNewest}
-use Rattle.memtable_shards.specs.Newest.{value_found}
+use Rattle.memtable_shards.specs.Newest.{FindsNewest, value_found}
 use Rattle.memtable_shards.specs.Pieces.{PiecesLeft, whole_pieces, IsNextPiece, NoPieceIsLeft, AreShardsAmid}
 
 -- The shard of a key answers below the end of the first n batches what the store answers after them.

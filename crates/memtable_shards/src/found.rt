@@ -1,13 +1,12 @@
 //! The newer one of two versions that are found.
 
-ghost use Rattle.std.specs.Prelude.{◌≡◌, List, ℕ};
-ghost use Rattle.arena_list.specs.Newest.{version_found};
-ghost use Rattle.memtable_shards.specs.Newest.{number_told, FindsNewerOf};
+ghost use Rattle.std.specs.Prelude.{◌≡◌};
+ghost use Rattle.memtable_shards.specs.Newest.{told, number_told, FindsNewerOf};
 
 use arena_list::Found;
 
 fn number_of(found: Found<'_>) -> Option<u64>
-    ensures { (key : List ℕ) → result ≡ number_told (version_found key found.entry) }
+    ensures { result ≡ number_told (told found.entry) }
 {
     match found {
         Found::Nothing => None,

@@ -1,7 +1,7 @@
 //! What is found of a key in versions that are linked.
 
 ghost use Rattle.std.specs.Prelude.{◌∷◌, []};
-ghost use Rattle.arena_list.specs.Newest.{FindsNewest};
+ghost use Rattle.memtable_shards.specs.Newest.{FindsNewest};
 
 use crate::found::newer_of;
 use crate::waiting::WaitingVersion;
@@ -12,7 +12,7 @@ use std::collections::LinkedList;
 fn find_in_one<'a>(version: &'a WaitingVersion, key: &[u8], below: u64) -> Found<'a>
     ensures { FindsNewest (version.now ∷ []) key.now below result }
 {
-    if version.number < below && version.key.as_slice() == key {
+    if version.number < below && version.is_about(key) {
         return version.found();
     }
     Found::Nothing

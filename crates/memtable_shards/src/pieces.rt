@@ -1,18 +1,18 @@
 //! A batch's versions, cut by shard before the batch has its numbers.
 
-ghost use Rattle.std.specs.Prelude.{◌≡◌, ◌+◌, ◌≤◌, [], ◌∷◌, None, Some, length};
+ghost use Rattle.std.specs.Prelude.{◌≡◌, ◌+◌, ◌<◌, ◌≤◌, [], ◌∷◌, None, Some, length};
 ghost use Rattle.std.specs.Prelude.{IsSome, IfOk, OnOk, IfSome, IfNone};
 ghost use Rattle.std.specs.Option.{option_to_list};
 ghost use Rattle.batch_repr.specs.declared.limits.TheConstants.{NUMBER_MAX};
 ghost use Rattle.batch_repr.specs.Batches.{count_of};
 ghost use Rattle.memtable_shards.specs.Versions.{versions_from};
 ghost use Rattle.memtable_shards.specs.Parts.{counted_from, MayWait};
-ghost use Rattle.memtable_shards.specs.Parts.{AreByShard, AddsByShard};
+ghost use Rattle.memtable_shards.specs.Parts.{AreByShard, AddsByShard, AddsToFirst};
 ghost use Rattle.memtable_shards.specs.Parts.{AreEmptyBetween, IsFirstWithAny};
 ghost use Rattle.memtable_shards.specs.Pieces.{whole_pieces, IsNextPiece, NoPieceIsLeft};
 
 use crate::sharding::{SHARDS, shard_index};
-use crate::waiting::WaitingVersion;
+use crate::waiting::{Target, WaitingVersion};
 use batch_repr::Unnumbered;
 use std::alloc::Global;
 use std::collections::LinkedList;
@@ -33,7 +33,7 @@ pub struct PieceNode {
 
 impl Model for PieceNode {
     ghost use Rattle.std.specs.Prelude.{List};
-    ghost use Rattle.arena_list.specs.Versions.{Version};
+    ghost use Rattle.memtable_shards.specs.Versions.{Version};
     ghost use Rattle.memtable_shards.specs.Parts.{MayWait};
 
     ghost Value = { List Version };
@@ -169,27 +169,51 @@ fn version_of(entry: &Entry, number: u64) -> Result<Option<WaitingVersion>, NoMe
 {
     match entry {
         Entry::Set { key, value } => Ok(Some(WaitingVersion {
-            key: key.share()?,
+            target: Target::Key { key: key.share()? },
             number,
             value: Some(value.share()?),
         })),
         Entry::Delete { key } => Ok(Some(WaitingVersion {
-            key: key.share()?,
+            target: Target::Key { key: key.share()? },
             number,
             value: None,
         })),
         Entry::Note { .. } => Ok(None),
+        Entry::RangeDelete { start, end } => Ok(Some(WaitingVersion {
+            target: Target::Range {
+                start: start.share()?,
+                end: end.share()?,
+            },
+            number,
+            value: None,
+        })),
     }
 }
 
-/// Adds a version at the end of its shard's list.
+/// Adds a version at the end of the list of each shard that it belongs to: that of its key, or each.
 fn add_version(lists: &mut Lists, version: WaitingVersion) -> Result<(), NoMemory>
     requires eight { length lists.old ≡ SHARDS }
     ensures eight { length lists.new ≡ SHARDS }
     ensures added { OnOk result (AddsByShard version lists.old lists.new) }
 {
-    let shard = shard_index(version.key.as_slice());
+    let Target::Key { key } = &version.target else {
+        return add_to_all(lists, &version);
+    };
+    let shard = shard_index(key.as_slice());
     lists[shard].push_back(version)?;
+    Ok(())
+}
+
+/// Adds a version at the end of each list. Its bytes are shared, and not copied.
+fn add_to_all(lists: &mut Lists, version: &WaitingVersion) -> Result<(), NoMemory>
+    requires eight { length lists.old ≡ SHARDS }
+    ensures eight { length lists.new ≡ SHARDS }
+    ensures added { OnOk result (AddsToFirst version.now SHARDS lists.old lists.new) }
+{
+    for shard in 0..SHARDS {
+        let same = version.share()?;
+        lists[shard].push_back(same)?;
+    }
     Ok(())
 }
 

@@ -90,6 +90,7 @@ enum Change<'a> {
     Set(&'a [u8], &'a [u8]),
     Delete(&'a [u8]),
     Note(&'a [u8]),
+    RangeDelete(&'a [u8], &'a [u8]),
 }
 
 /// Adds a change at the end.
@@ -98,6 +99,7 @@ fn add_change(builder: &mut BatchBuilder, change: Change<'_>) -> Result<(), Buil
         Change::Set(key, value) => builder.set(key, value),
         Change::Delete(key) => builder.delete(key),
         Change::Note(bytes) => builder.note(bytes),
+        Change::RangeDelete(start, end) => builder.delete_range(start, end),
     }
 }
 
@@ -209,6 +211,81 @@ fn settles(rt: &impl Abort, rig: &mut Rig) {
     panic!(rt; "settled");
 }
 
+/// What is found where this value was set under this number.
+fn value<'a>(seq: u64, bytes: &'a [u8]) -> Found<'a> {
+    Found::Value { seq, bytes }
+}
+
+/// What is read of four keys, once a range was deleted and one key within it set again.
+fn reads_a_range(rt: &impl Abort, rig: &Rig) {
+    assert_eq!(rt; rig.read(b"a", 13), value(10, b"1"));
+    assert_eq!(rt; rig.read(b"a", 14), Found::Gone { seq: 13 });
+    assert_eq!(rt; rig.read(b"a", 15), value(14, b"9"));
+    assert_eq!(rt; rig.read(b"b", 13), value(11, b"2"));
+    assert_eq!(rt; rig.read(b"b", 15), Found::Gone { seq: 13 });
+    assert_eq!(rt; rig.read(b"c", 15), value(12, b"3"));
+    // A key that was never set is within the range too, whatever its shard.
+    assert_eq!(rt; rig.read(b"bb", 13), Found::Nothing);
+    assert_eq!(rt; rig.read(b"bb", u64::MAX), Found::Gone { seq: 13 });
+    assert_eq!(rt; rig.read(b"", u64::MAX), Found::Nothing);
+}
+
+const THREE: [Change<'static>; 3] = [
+    Change::Set(b"a", b"1"),
+    Change::Set(b"b", b"2"),
+    Change::Set(b"c", b"3"),
+];
+
+const RANGE: [Change<'static>; 2] = [Change::RangeDelete(b"a", b"c"), Change::Set(b"a", b"9")];
+
+#[test]
+fn a_range_is_deleted_in_each_shard(rt: HostRuntime) {
+    let alloc = rt.alloc();
+    let mut rig = Rig::new(&rt, alloc);
+    give(&rt, &mut rig, &THREE);
+    give(&rt, &mut rig, &RANGE);
+    reads_a_range(&rt, &rig);
+    rig.settle().expect(&rt, "memory");
+    reads_a_range(&rt, &rig);
+}
+
+#[test]
+fn a_range_that_waits_hides_what_is_settled(rt: HostRuntime) {
+    let alloc = rt.alloc();
+    let mut rig = Rig::new(&rt, alloc);
+    give(&rt, &mut rig, &THREE);
+    rig.settle().expect(&rt, "memory");
+    give(&rt, &mut rig, &RANGE);
+    reads_a_range(&rt, &rig);
+    rig.settle().expect(&rt, "memory");
+    reads_a_range(&rt, &rig);
+}
+
+#[test]
+fn a_range_that_runs_backwards_deletes_nothing(rt: HostRuntime) {
+    let alloc = rt.alloc();
+    let mut rig = Rig::new(&rt, alloc);
+    give(&rt, &mut rig, &THREE);
+    give(&rt, &mut rig, &[Change::RangeDelete(b"c", b"a")]);
+    give(&rt, &mut rig, &[Change::RangeDelete(b"b", b"b")]);
+    assert_eq!(&rt; rig.read(b"b", u64::MAX), value(11, b"2"));
+    rig.settle().expect(&rt, "memory");
+    assert_eq!(&rt; rig.read(b"b", u64::MAX), value(11, b"2"));
+}
+
+#[test]
+fn a_range_has_a_piece_for_each_shard(rt: HostRuntime) {
+    let alloc = rt.alloc();
+    let batch = batch_of(&rt, alloc, &RANGE);
+    let mut pieces = split(alloc, &batch).expect(&rt, "memory");
+    pieces.number(13);
+    for shard in 0..SHARDS {
+        let (at, _) = pieces.take().expect(&rt, "a piece");
+        assert_eq!(&rt; at, shard);
+    }
+    assert!(&rt; pieces.take().is_none());
+}
+
 /// The index of the shard of `a` has its versions, the newest first.
 fn lends_in_order(rt: &impl Abort, index: &ArenaList) {
     let mut walk = index.walk();
@@ -257,10 +334,11 @@ impl Dice {
     }
 
     fn key(&mut self) -> &'static [u8] {
-        const KEYS: [&[u8]; 8] = [b"", b"a", b"i", b"q", b"h", b"ab", b"ba", b"b"];
         KEYS[self.roll(8) as usize]
     }
 }
+
+const KEYS: [&[u8]; 8] = [b"", b"a", b"i", b"q", b"h", b"ab", b"ba", b"b"];
 
 /// What shards are to answer, as a plain program keeps it: for each key its values, by number.
 type Plain = BTreeMap<&'static [u8], BTreeMap<u64, Option<&'static [u8]>>>;
@@ -282,11 +360,28 @@ fn plain_put(
     seq: u64,
     change: Change<'static>,
 ) -> Result<(), NoMemory> {
-    let (key, value) = match change {
-        Change::Set(key, value) => (key, Some(value)),
-        Change::Delete(key) => (key, None),
-        Change::Note(_) => return Ok(()),
-    };
+    match change {
+        Change::Set(key, value) => plain_add(alloc, plain, seq, key, Some(value)),
+        Change::Delete(key) => plain_add(alloc, plain, seq, key, None),
+        Change::Note(_) => Ok(()),
+        Change::RangeDelete(start, end) => {
+            for key in KEYS {
+                if start.cmp(&key).is_le() && key.cmp(&end).is_lt() {
+                    plain_add(alloc, plain, seq, key, None)?;
+                }
+            }
+            Ok(())
+        }
+    }
+}
+
+fn plain_add(
+    alloc: Global,
+    plain: &mut Plain,
+    seq: u64,
+    key: &'static [u8],
+    value: Option<&'static [u8]>,
+) -> Result<(), NoMemory> {
     if let Some(values) = plain.get_mut(&key) {
         values.insert(seq, value)?;
         return Ok(());
@@ -299,10 +394,10 @@ fn plain_put(
 
 /// Gives both a batch of two entries, which may be about one key.
 fn give_both(rt: &impl Abort, rig: &mut Rig, plain: &mut Plain, dice: &mut Dice) {
-    let first = if dice.roll(3) == 0 {
-        Change::Delete(dice.key())
-    } else {
-        Change::Set(dice.key(), dice.key())
+    let first = match dice.roll(6) {
+        0 => Change::RangeDelete(dice.key(), dice.key()),
+        1 | 2 => Change::Delete(dice.key()),
+        _ => Change::Set(dice.key(), dice.key()),
     };
     let second = Change::Set(dice.key(), dice.key());
     let (alloc, seq) = (rig.alloc, rig.next);

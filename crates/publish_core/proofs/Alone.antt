@@ -7,6 +7,7 @@ use Rattle.publish_core.specs.declared.seat.Claim.TheVariants.{Taken, Emptied}
 use Rattle.publish_core.specs.declared.seat.Stage.{Stage}
 use Rattle.publish_core.specs.declared.seat.Stage.TheVariants.{Held, Marked, Claimed, Cleared, Out}
 use Rattle.publish_core.specs.declared.seat.SeatState.{SeatState}
+use Rattle.publish_core.specs.declared.state.TheConstants.{SLOTS}
 use Rattle.publish_core.specs.Machine.{updated, Among, CoreState, end_of, nobody, Acts, one_more, after_load_slot, after_load_ends, after_load_visible, after_load_acked, after_claim_lost, lost}
 use Rattle.publish_core.specs.Sound.{Full, bit, InStage, SeatOk, Sound}
 use Rattle.publish_core.proofs.Put.{put_else, at_put}
@@ -100,17 +101,17 @@ module _ {B : Type 0} (count : B → ℕ) (touches : B → ℕ → Bool) where
   odd_not_even n h = omega arith
 
   -- an odd word in the slot of a batch that stands at the front or behind it
-  pub front_of : (s : CoreState B) → Sound count touches s → (t : ℕ) → t < s.head → s.ring (t % 64) % 2 ≡ 1 → s.tail ≤ t → (s.stage t ≡ Marked) × (s.ring (t % 64) ≡ 2 * end_of count s t + 1)
+  pub front_of : (s : CoreState B) → Sound count touches s → (t : ℕ) → t < s.head → s.ring (t % SLOTS) % 2 ≡ 1 → s.tail ≤ t → (s.stage t ≡ Marked) × (s.ring (t % SLOTS) ≡ 2 * end_of count s t + 1)
   front_of s sound t lt odd le = let hl = sound.head_length in let b = sound.each_batch t (let g : t < length s.batches = omega arith in g) in go (s.stage t) refl b.stands b.word
     where
-      go : (st : Stage) → s.stage t ≡ st → InStage count touches s t st → (Full (s.stage t) → (s.ring (t % 64) ≡ 2 * end_of count s t + bit (s.stage t)) × (length s.batches ≤ t + 64)) → (s.stage t ≡ Marked) × (s.ring (t % 64) ≡ 2 * end_of count s t + 1)
+      go : (st : Stage) → s.stage t ≡ st → InStage count touches s t st → (Full (s.stage t) → (s.ring (t % SLOTS) ≡ 2 * end_of count s t + bit (s.stage t)) × (length s.batches ≤ t + SLOTS)) → (s.stage t ≡ Marked) × (s.ring (t % SLOTS) ≡ 2 * end_of count s t + 1)
       go (Held j) is h w = let e = (w (subst Full (sym is) tt)).0 in absurd (odd_not_even (end_of count s t) (ap (λ (n : ℕ). n % 2) (sym (e ∙ ap (λ (x : Stage). 2 * end_of count s t + bit x) is)) ∙ odd))
       go Marked is h w = (is, (w (subst Full (sym is) tt)).0 ∙ ap (λ (x : Stage). 2 * end_of count s t + bit x) is)
       go (Claimed j) is h w = let a = h.0 in absurd (omega arith)
       go (Cleared j) is h w = let a = h.0 in absurd (omega arith)
       go Out is h w = let a = h.0 in absurd (omega arith)
 
-  pub kept_load_slot : (s : CoreState B) → Sound count touches s → (me at : ℕ) → Acts (s.seats me) → at < 64 → Sound count touches (after_load_slot count touches s me at)
+  pub kept_load_slot : (s : CoreState B) → Sound count touches s → (me at : ℕ) → Acts (s.seats me) → at < SLOTS → Sound count touches (after_load_slot count touches s me at)
   kept_load_slot s sound me at acts small = let d = s.seats me in let ok = sound.each_seat me in let e : SeatState = record d { reading = Some record { at = at; word = s.ring at }; counts = record d.counts { slots = one_more d.counts.slots } } in
       looked s sound me e (acts_made s sound me acts) record { kind = refl; held = refl; claim = refl; turn = refl; own = refl } record {
         held = ok.held;
@@ -120,8 +121,8 @@ module _ {B : Type 0} (count : B → ℕ) (touches : B → ℕ → Bool) where
         published = ok.published;
         acked = ok.acked;
         loaded = ok.loaded;
-        front = λ x w a b lt is odd. let l = ok.loaded x a in let wat : at ≡ w.at = cc in let wd : s.ring at ≡ w.word = cc in let spot : at ≡ x.tail % 64 = wat ∙ is in
-            let word : s.ring (x.tail % 64) ≡ w.word = ap s.ring (sym spot) ∙ wd in
+        front = λ x w a b lt is odd. let l = ok.loaded x a in let wat : at ≡ w.at = cc in let wd : s.ring at ≡ w.word = cc in let spot : at ≡ x.tail % SLOTS = wat ∙ is in
+            let word : s.ring (x.tail % SLOTS) ≡ w.word = ap s.ring (sym spot) ∙ wd in
             dite (dec_le s.tail x.tail) (λ le. let f = front_of s sound x.tail (let hh : x.head ≤ s.head = l.0 in let g : x.tail < s.head = omega arith in g) (ap (λ (n : ℕ). n % 2) word ∙ odd) le in inr (f.0, sym word ∙ f.1)) (λ n. inl (lt_of_not-le n));
         vacant = λ w z b zero'. let wat : at ≡ w.at = cc in let wd : s.ring at ≡ w.word = cc in ap s.ring (sym wat) ∙ wd ∙ zero';
         admitted = ok.admitted;

@@ -8,6 +8,7 @@ use Rattle.publish_core.specs.declared.seat.Claim.TheVariants.{Free, Taken, Empt
 use Rattle.publish_core.specs.declared.seat.Stage.{Stage}
 use Rattle.publish_core.specs.declared.seat.Stage.TheVariants.{Held, Marked, Claimed, Cleared, Out}
 use Rattle.publish_core.specs.declared.seat.SeatState.{SeatState}
+use Rattle.publish_core.specs.declared.state.TheConstants.{SLOTS}
 use Rattle.publish_core.specs.Machine.{updated, Among, CoreState, end_of, nobody, Acts, both_held, joined, renamed, after_join}
 use Rattle.publish_core.specs.Sound.{Full, Past, bit, InStage, Owned, SeatOk, Sound}
 use Rattle.publish_core.proofs.Put.{among_append, among_right, among_split, distinct_append, at_put}
@@ -172,7 +173,7 @@ module _ {B : Type 0} (count : B → ℕ) (touches : B → ℕ → Bool) where
           word = λ f. let w = b.word (renamed_full you me (s.stage i) f) in (w.0 ∙ ap (λ (x : ℕ). 2 * end_of count s i + x) (sym (renamed_bit you me (s.stage i))), w.1);
           owned = owned i l (s.stage i) refl b.owned;
         };
-        each_slot = λ k small. ⊎_elim (λ z. inl z) (λ (y : (i : ℕ) × (i < length s.batches) × (i % 64 ≡ k) × Full (s.stage i)). inr (y.0, y.1, y.2, full_renamed you me (s.stage y.0) y.3)) (sound.each_slot k small);
+        each_slot = λ k small. ⊎_elim (λ z. inl z) (λ (y : (i : ℕ) × (i < length s.batches) × (i % SLOTS ≡ k) × Full (s.stage i)). inr (y.0, y.1, y.2, full_renamed you me (s.stage y.0) y.3)) (sound.each_slot k small);
         each_turn = λ k j q. let t = sound.each_turn k j q in (t.0, all (λ z y. y.turn ≡ Some k) (λ z y. y.turn ≡ Some k) (λ w. w) (λ w. let c : None ≡ Some k = sym can.quiet.0 ∙ w in cc) (λ _ _ _ w. w) j t.1);
         each_seat = λ j. all (λ k y. Unit {0}) (λ k y. SeatOk count touches s' k y) (λ _. mine) (λ _. nobody_ok count touches s' you) (λ k a b _. seat_stays count touches s s' me you ev sound k (s.seats k) a b (sound.each_seat k)) j tt;
         producer = all (λ k y. (k ≡ 0) × (y.kind ≡ Producer)) (λ k y. y.kind ≡ Producer) (λ q. q.1) (λ q. absurd (can.away q.0)) (λ _ _ _ q. q.1) 0 (refl, sound.producer);

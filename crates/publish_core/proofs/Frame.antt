@@ -7,6 +7,7 @@ use Rattle.publish_core.specs.declared.seat.Stage.TheVariants.{Held, Marked, Cla
 use Rattle.publish_core.specs.declared.seat.Ends.{Ends}
 use Rattle.publish_core.specs.declared.seat.Reading.{Reading}
 use Rattle.publish_core.specs.declared.seat.SeatState.{SeatState}
+use Rattle.publish_core.specs.declared.state.TheConstants.{SLOTS}
 use Rattle.publish_core.specs.Machine.{Among, CoreState, end_of}
 use Rattle.publish_core.specs.Sound.{Full, Past, bit, AllDone, InStage, Owned, BatchOk, Front, SeatOk, Sound}
 
@@ -79,7 +80,7 @@ module _ {B : Type 0} (count : B → ℕ) (touches : B → ℕ → Bool) (s s' :
     owned_stays i same own Out o = subst (λ (k : ℕ). Among i (s'.seats k).own) (sym same) (own o)
 
     -- a batch whose stage and word stay
-    pub batch_stays : Keeps → (i : ℕ) → i < length s.batches → (s.tail ≤ i → s'.tail ≤ i) → s'.stage i ≡ s.stage i → (Full (s.stage i) → s'.ring (i % 64) ≡ s.ring (i % 64)) → (Full (s.stage i) → length s'.batches ≤ i + 64)
+    pub batch_stays : Keeps → (i : ℕ) → i < length s.batches → (s.tail ≤ i → s'.tail ≤ i) → s'.stage i ≡ s.stage i → (Full (s.stage i) → s'.ring (i % SLOTS) ≡ s.ring (i % SLOTS)) → (Full (s.stage i) → length s'.batches ≤ i + SLOTS)
         → Owned count touches s' i (s.stage i) → BatchOk count touches s i → BatchOk count touches s' i
     batch_stays keeps i l tl same ring wide own ok = record {
       stands = subst (InStage count touches s' i) (sym same) (stands_stays keeps i l tl (s.stage i) refl same ok.stands);

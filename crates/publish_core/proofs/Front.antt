@@ -6,6 +6,7 @@ use Rattle.publish_core.specs.declared.seat.Claim.TheVariants.{Free, Taken, Empt
 use Rattle.publish_core.specs.declared.seat.Stage.{Stage}
 use Rattle.publish_core.specs.declared.seat.Stage.TheVariants.{Held, Marked, Claimed, Cleared, Out}
 use Rattle.publish_core.specs.declared.seat.SeatState.{SeatState}
+use Rattle.publish_core.specs.declared.state.TheConstants.{SLOTS}
 use Rattle.publish_core.specs.Machine.{updated, Among, CoreState, end_of, Acts, taken_or, won, after_claim_won, after_empty, after_raise}
 use Rattle.publish_core.specs.Sound.{Full, Past, bit, InStage, Owned, BatchOk, SeatOk, Sound}
 use Rattle.publish_core.proofs.Put.{put_here, put_else, at_put}
@@ -80,7 +81,7 @@ module _ {B : Type 0} (count : B → ℕ) (touches : B → ℕ → Bool) where
               owned = subst (Owned count touches s' x) (sym here) (owned x (s.owner x) (subst (Owned count touches s x) is (sound.each_batch x l).owned));
             })
             (λ ne. batch_stays count touches s s' me me ev sound keeps i l' (λ t. omega arith) (stage_old i ne) (λ f. refl) (λ f. (b.word f).1) (owned_stays count touches s s' me me ev sound i refl (owned i (s.owner i)) (s.stage i) b.owned) b);
-        each_slot = λ k small. ⊎_elim (λ z. inl z) (λ (y : (i : ℕ) × (i < length s.batches) × (i % 64 ≡ k) × Full (s.stage i)). inr (y.0, y.1, y.2, at_put (λ (q : ℕ) (st : Stage). Full (s.stage q) → Full st) s.stage x (Claimed me) y.0 (λ _. tt) (λ _ f. f) y.3)) (sound.each_slot k small);
+        each_slot = λ k small. ⊎_elim (λ z. inl z) (λ (y : (i : ℕ) × (i < length s.batches) × (i % SLOTS ≡ k) × Full (s.stage i)). inr (y.0, y.1, y.2, at_put (λ (q : ℕ) (st : Stage). Full (s.stage q) → Full st) s.stage x (Claimed me) y.0 (λ _. tt) (λ _ f. f) y.3)) (sound.each_slot k small);
         each_turn = λ k j e. let t = sound.each_turn k j e in (t.0, turn_all count touches s s' me d ev sound refl refl k j t.1);
         each_seat = seats_all count touches s s' me d ev sound refl mine;
         producer = kind_all count touches s s' me d ev sound refl refl;
@@ -88,7 +89,7 @@ module _ {B : Type 0} (count : B → ℕ) (touches : B → ℕ → Bool) where
       }
 
   abbrev pub emptied_state : CoreState B → ℕ → ℕ → CoreState B
-  emptied_state s me x = record s { stage = updated s.stage x (Cleared me); ring = updated s.ring (x % 64) 0; seats = updated s.seats me (record (s.seats me) { claim = Emptied x }) }
+  emptied_state s me x = record s { stage = updated s.stage x (Cleared me); ring = updated s.ring (x % SLOTS) 0; seats = updated s.seats me (record (s.seats me) { claim = Emptied x }) }
 
   pub emptying : (s : CoreState B) → Sound count touches s → (me x : ℕ) → Acts (s.seats me) → (s.seats me).claim ≡ Taken x → Sound count touches (emptied_state s me x)
   emptying s sound me x acts claims =
@@ -99,7 +100,7 @@ module _ {B : Type 0} (count : B → ℕ) (touches : B → ℕ → Bool) where
       let stage_old : (i : ℕ) → i ≢ x → s'.stage i ≡ s.stage i = λ i ne. put_else s.stage x (Cleared me) i ne in
       let here : s'.stage x ≡ Cleared me = put_here s.stage x (Cleared me) in
       let not_x : (i : ℕ) (st : Stage) → s.stage i ≡ st → st ≢ Claimed me → i ≢ x = λ i st e ne q. ne (sym e ∙ ap s.stage q ∙ is) in
-      let zero : (k : ℕ) → s.ring k ≡ 0 → s'.ring k ≡ 0 = λ k z. at_put (λ (q : ℕ) (y : ℕ). s.ring q ≡ 0 → y ≡ 0) s.ring (x % 64) 0 k (λ _. refl) (λ _ q. q) z in
+      let zero : (k : ℕ) → s.ring k ≡ 0 → s'.ring k ≡ 0 = λ k z. at_put (λ (q : ℕ) (y : ℕ). s.ring q ≡ 0 → y ≡ 0) s.ring (x % SLOTS) 0 k (λ _. refl) (λ _ q. q) z in
       let ev : Evolves count touches s s' me me = record {
         longer = le_refl (length s.batches);
         same_batch = λ i l. refl;
@@ -156,9 +157,9 @@ module _ {B : Type 0} (count : B → ℕ) (touches : B → ℕ → Bool) where
               word = λ f. absurd (subst Full here f);
               owned = subst (Owned count touches s' x) (sym here) (owned x (s.owner x) (subst (Owned count touches s x) is (sound.each_batch x l).owned));
             })
-            (λ ne. batch_stays count touches s s' me me ev sound keeps i l' (λ t. t) (stage_old i ne) (λ f. put_else s.ring (x % 64) 0 (i % 64) (λ q. ne (apart count touches s sound i x l' l f full q))) (λ f. (b.word f).1) (owned_stays count touches s s' me me ev sound i refl (owned i (s.owner i)) (s.stage i) b.owned) b);
-        each_slot = λ k small. dite (ℕ_discrete k (x % 64)) (λ q. inl (subst (λ (z : ℕ). s'.ring z ≡ 0) (sym q) (put_here s.ring (x % 64) 0)))
-            (λ ne. ⊎_elim (λ z. inl (zero k z)) (λ (y : (i : ℕ) × (i < length s.batches) × (i % 64 ≡ k) × Full (s.stage i)). inr (y.0, y.1, y.2, subst Full (sym (stage_old y.0 (λ q. ne (sym y.2 ∙ ap (λ (z : ℕ). z % 64) q)))) y.3)) (sound.each_slot k small));
+            (λ ne. batch_stays count touches s s' me me ev sound keeps i l' (λ t. t) (stage_old i ne) (λ f. put_else s.ring (x % SLOTS) 0 (i % SLOTS) (λ q. ne (apart count touches s sound i x l' l f full q))) (λ f. (b.word f).1) (owned_stays count touches s s' me me ev sound i refl (owned i (s.owner i)) (s.stage i) b.owned) b);
+        each_slot = λ k small. dite (ℕ_discrete k (x % SLOTS)) (λ q. inl (subst (λ (z : ℕ). s'.ring z ≡ 0) (sym q) (put_here s.ring (x % SLOTS) 0)))
+            (λ ne. ⊎_elim (λ z. inl (zero k z)) (λ (y : (i : ℕ) × (i < length s.batches) × (i % SLOTS ≡ k) × Full (s.stage i)). inr (y.0, y.1, y.2, subst Full (sym (stage_old y.0 (λ q. ne (sym y.2 ∙ ap (λ (z : ℕ). z % SLOTS) q)))) y.3)) (sound.each_slot k small));
         each_turn = λ k j e. let t = sound.each_turn k j e in (t.0, turn_all count touches s s' me d ev sound refl refl k j t.1);
         each_seat = seats_all count touches s s' me d ev sound refl mine;
         producer = kind_all count touches s s' me d ev sound refl refl;
@@ -236,7 +237,7 @@ module _ {B : Type 0} (count : B → ℕ) (touches : B → ℕ → Bool) where
               owned = subst (Owned count touches s' x) (sym here) (owned x (s.owner x) (subst (Owned count touches s x) is (sound.each_batch x l).owned));
             })
             (λ ne. batch_stays count touches s s' me me ev sound keeps i l' (λ t. t) (stage_old i ne) (λ f. refl) (λ f. (b.word f).1) (owned_stays count touches s s' me me ev sound i refl (owned i (s.owner i)) (s.stage i) b.owned) b);
-        each_slot = λ k small. ⊎_elim (λ z. inl z) (λ (y : (i : ℕ) × (i < length s.batches) × (i % 64 ≡ k) × Full (s.stage i)). inr (y.0, y.1, y.2, subst Full (sym (stage_old y.0 (λ q. let c = subst Full (ap s.stage q ∙ is) y.3 in c))) y.3)) (sound.each_slot k small);
+        each_slot = λ k small. ⊎_elim (λ z. inl z) (λ (y : (i : ℕ) × (i < length s.batches) × (i % SLOTS ≡ k) × Full (s.stage i)). inr (y.0, y.1, y.2, subst Full (sym (stage_old y.0 (λ q. let c = subst Full (ap s.stage q ∙ is) y.3 in c))) y.3)) (sound.each_slot k small);
         each_turn = λ k j e. let t = sound.each_turn k j e in (t.0, turn_all count touches s s' me d ev sound refl refl k j t.1);
         each_seat = seats_all count touches s s' me d ev sound refl mine;
         producer = kind_all count touches s s' me d ev sound refl refl;

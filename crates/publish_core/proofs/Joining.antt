@@ -8,6 +8,7 @@ use Rattle.publish_core.specs.declared.seat.Claim.TheVariants.{Free, Taken, Empt
 use Rattle.publish_core.specs.declared.seat.Stage.{Stage}
 use Rattle.publish_core.specs.declared.seat.Stage.TheVariants.{Held, Marked, Claimed, Cleared}
 use Rattle.publish_core.specs.declared.seat.SeatState.{SeatState}
+use Rattle.publish_core.specs.declared.state.TheConstants.{SLOTS}
 use Rattle.publish_core.specs.Machine.{updated, Among, CoreState, end_of, nobody, shown_seat, after_tell, after_hand}
 use Rattle.publish_core.specs.Sound.{Full, Past, bit, InStage, Owned, BatchOk, SeatOk, Sound}
 use Rattle.publish_core.proofs.Put.{put_here, put_else, at_put}
@@ -157,7 +158,7 @@ module _ {B : Type 0} (count : B → ℕ) (touches : B → ℕ → Bool) where
               owned = subst (Owned count touches s' x) (sym here) (put_here s.owner x you);
             })
             (λ ne. batch_stays count touches s s' 0 you ev sound keeps i l' (λ t. t) (stage_old i ne) (λ _. refl) (λ f. (b.word f).1) (owned_stays count touches s s' 0 you ev sound i (owner_old i ne) (owned i (s.owner i)) (s.stage i) b.owned) b);
-        each_slot = λ k small. ⊎_elim (λ z. inl z) (λ (y : (i : ℕ) × (i < length s.batches) × (i % 64 ≡ k) × Full (s.stage i)). inr (y.0, y.1, y.2, at_put (λ (q : ℕ) (st : Stage). Full (s.stage q) → Full st) s.stage x (Held you) y.0 (λ _. tt) (λ _ f. f) y.3)) (sound.each_slot k small);
+        each_slot = λ k small. ⊎_elim (λ z. inl z) (λ (y : (i : ℕ) × (i < length s.batches) × (i % SLOTS ≡ k) × Full (s.stage i)). inr (y.0, y.1, y.2, at_put (λ (q : ℕ) (st : Stage). Full (s.stage q) → Full st) s.stage x (Held you) y.0 (λ _. tt) (λ _ f. f) y.3)) (sound.each_slot k small);
         each_turn = λ k j e. let t = sound.each_turn k j e in (t.0, all (λ q y. y.turn ≡ Some k) (λ q y. y.turn ≡ Some k) (λ q. q) (λ q. let c : None ≡ Some k = q in cc) (λ _ _ _ q. q) j t.1);
         each_seat = λ j. all (λ k y. Unit {0}) (λ k y. SeatOk count touches s' k y)
             (λ _. record {

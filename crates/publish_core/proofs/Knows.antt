@@ -7,6 +7,7 @@ use mathlib.Core.Option.{some, some-ne-none, some-injective}
 use lib.ListN.{get_elem?}
 use Rattle.publish_core.specs.declared.seat.BatchShape.{BatchShape}
 use Rattle.publish_core.specs.declared.seat.Pair.{Pair}
+use Rattle.publish_core.specs.declared.state.TheConstants.{SHARDS}
 use Rattle.publish_core.specs.Machine.{Among}
 use Rattle.publish_core.specs.Parts.{has_part}
 use Rattle.publish_core.proofs.Put.{among_append, among_right}
@@ -65,8 +66,8 @@ pub knows_stands : (batch shard : ℕ) (xs : List Pair) → Among (pair batch sh
 knows_stands batch shard xs h = stands batch shard xs (among_forward (pair batch shard) xs h)
 
 -- a batch has no entries past the eighth shard
-pub no_part : (b : BatchShape) (k : ℕ) → b.shards < 256 → 8 ≤ k → IsTrue (has_part b k) → ⊥
-no_part b k small far t = let p : 2 ^ 8 ≤ 2 ^ k = pow-le-pow_right {n = 2} (omega arith) {i = 8} {j = k} far in let z : b.shards / 2 ^ k ≡ 0 = div-eq_of_lt (let q : b.shards < 2 ^ k = omega arith in q) in
+pub no_part : (b : BatchShape) (k : ℕ) → b.shards < 256 → SHARDS ≤ k → IsTrue (has_part b k) → ⊥
+no_part b k small far t = let p : 2 ^ SHARDS ≤ 2 ^ k = pow-le-pow_right {n = 2} (omega arith) {i = SHARDS} {j = k} far in let z : b.shards / 2 ^ k ≡ 0 = div-eq_of_lt (let q : b.shards < 2 ^ k = omega arith in q) in
     let c : (0 % 2 == 1) ≡ true = ap (λ (n : ℕ). n % 2 == 1) (sym z) ∙ t in cc
 
 -- an element that stands at i is what is read at i

@@ -9,6 +9,7 @@ use Rattle.publish_core.specs.declared.seat.BatchShape.{BatchShape}
 use Rattle.publish_core.specs.declared.seat.Pair.{Pair}
 use Rattle.publish_core.specs.declared.seat.SeatState.{SeatState}
 use Rattle.publish_core.specs.declared.state.KeptSeat.{KeptSeat}
+use Rattle.publish_core.specs.declared.state.TheConstants.{SHARDS}
 use Rattle.publish_core.specs.Machine.{Among, CoreState, updated, turn_or, held_or, take_shard, give_shard, after, after_take, after_busy, after_give, after_apply}
 use Rattle.publish_core.specs.Kept.{seat_of}
 use Rattle.publish_core.specs.Parts.{shape_count, has_part, IsSoundCore}
@@ -123,5 +124,5 @@ applied s s2 s3 s4 j i k turn held e2 e3 e4 =
     })
 
 -- a turn is on one of the shards
-pub turn_small : (s : CoreState BatchShape) → IsSoundCore s → (j k : ℕ) → (s.seats j).turn ≡ Some k → k < 8
+pub turn_small : (s : CoreState BatchShape) → IsSoundCore s → (j k : ℕ) → (s.seats j).turn ≡ Some k → k < SHARDS
 turn_small s sound j k e = ∥∥₁_elim sound le_prop (λ (h : Sound shape_count has_part s). ((h.each_seat j).turn k e).0)

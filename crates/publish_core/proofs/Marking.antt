@@ -6,6 +6,7 @@ use Rattle.publish_core.specs.declared.seat.Claim.TheVariants.{Taken, Emptied}
 use Rattle.publish_core.specs.declared.seat.Stage.{Stage}
 use Rattle.publish_core.specs.declared.seat.Stage.TheVariants.{Held, Marked, Claimed, Cleared}
 use Rattle.publish_core.specs.declared.seat.SeatState.{SeatState}
+use Rattle.publish_core.specs.declared.state.TheConstants.{SLOTS}
 use Rattle.publish_core.specs.Machine.{updated, Among, CoreState, end_of, Acts, KnowsAll, held_or, after_admit, after_mark}
 use Rattle.publish_core.specs.Sound.{Full, Past, bit, InStage, Owned, BatchOk, SeatOk, Sound}
 use Rattle.publish_core.proofs.Put.{put_here, put_else, at_put}
@@ -101,17 +102,17 @@ module _ {B : Type 0} (count : B → ℕ) (touches : B → ℕ → Bool) where
       }
 
   abbrev pub marked_state : CoreState B → ℕ → ℕ → CoreState B
-  marked_state s me x = record s { stage = updated s.stage x Marked; ring = updated s.ring (x % 64) (s.ring (x % 64) + 1); seats = updated s.seats me (record (s.seats me) { held = None; own = x ∷ (s.seats me).own }) }
+  marked_state s me x = record s { stage = updated s.stage x Marked; ring = updated s.ring (x % SLOTS) (s.ring (x % SLOTS) + 1); seats = updated s.seats me (record (s.seats me) { held = None; own = x ∷ (s.seats me).own }) }
 
   pub marking : (s : CoreState B) → Sound count touches s → (me i : ℕ) → Acts (s.seats me) → (s.seats me).held ≡ Some i → i < s.head → KnowsAll count touches s (s.seats me) i → Sound count touches (marked_state s me i)
   marking s sound me x acts holds admitted knows = let d : SeatState = record (s.seats me) { held = None; own = x ∷ (s.seats me).own } in let s' : CoreState B = marked_state s me x in
       let ok = sound.each_seat me in let h = ok.held x holds in let l : x < length s.batches = h.0 in let is : s.stage x ≡ Held me = h.1 in let full : Full (s.stage x) = subst Full (sym is) tt in
-      let w = word_at count touches s sound x (Held me) l is tt in let r : ℕ = s.ring (x % 64) in let wd : r ≡ 2 * end_of count s x + 0 = w.0 in let pos = end_pos count touches s sound x l in
+      let w = word_at count touches s sound x (Held me) l is tt in let r : ℕ = s.ring (x % SLOTS) in let wd : r ≡ 2 * end_of count s x + 0 = w.0 in let pos = end_pos count touches s sound x l in
       let new : ℕ = r + 1 in let th = sound.tail_head in let hl = sound.head_length in
       let stage_old : (i : ℕ) → i ≢ x → s'.stage i ≡ s.stage i = λ i ne. put_else s.stage x Marked i ne in
       let here : s'.stage x ≡ Marked = put_here s.stage x Marked in
       let not_x : (i : ℕ) (st : Stage) → s.stage i ≡ st → st ≢ Held me → i ≢ x = λ i st e ne q. ne (sym e ∙ ap s.stage q ∙ is) in
-      let zero : (k : ℕ) → s.ring k ≡ 0 → s'.ring k ≡ 0 = λ k z. put_else s.ring (x % 64) new k (λ q. let z' : r ≡ 0 = ap s.ring (sym q) ∙ z in omega arith) ∙ z in
+      let zero : (k : ℕ) → s.ring k ≡ 0 → s'.ring k ≡ 0 = λ k z. put_else s.ring (x % SLOTS) new k (λ q. let z' : r ≡ 0 = ap s.ring (sym q) ∙ z in omega arith) ∙ z in
       let ev : Evolves count touches s s' me me = record {
         longer = le_refl (length s.batches);
         same_batch = λ i l. refl;
@@ -165,12 +166,12 @@ module _ {B : Type 0} (count : B → ℕ) (touches : B → ℕ → Bool) where
         each_batch = λ i l'. let b = sound.each_batch i l' in dite (ℕ_discrete i x)
             (λ q. subst (BatchOk count touches s') (sym q) record {
               stands = subst (InStage count touches s' x) (sym here) ((at_stage count touches s sound x (Held me) l is).0, admitted, λ y k at has. ok.knows record { batch = x; shard = k } (knows y k at has));
-              word = λ _. (put_here s.ring (x % 64) new ∙ (let g : r + 1 ≡ 2 * end_of count s x + 1 = omega arith in g) ∙ ap (λ (st : Stage). 2 * end_of count s x + bit st) (sym here), w.1);
+              word = λ _. (put_here s.ring (x % SLOTS) new ∙ (let g : r + 1 ≡ 2 * end_of count s x + 1 = omega arith in g) ∙ ap (λ (st : Stage). 2 * end_of count s x + bit st) (sym here), w.1);
               owned = subst (Owned count touches s' x) (sym here) (subst (λ (y : ℕ). Among x (s'.seats y).own) (sym h.3) (subst (λ (y : SeatState). Among x y.own) (sym (put_here s.seats me d)) (inl refl)));
             })
-            (λ ne. batch_stays count touches s s' me me ev sound keeps i l' (λ t. t) (stage_old i ne) (λ f. put_else s.ring (x % 64) new (i % 64) (λ q. ne (apart count touches s sound i x l' l f full q))) (λ f. (b.word f).1) (owned_stays count touches s s' me me ev sound i refl (owned i (s.owner i)) (s.stage i) b.owned) b);
-        each_slot = λ k small. dite (ℕ_discrete k (x % 64)) (λ q. inr (x, l, sym q, subst Full (sym here) tt))
-            (λ ne. ⊎_elim (λ z. inl (zero k z)) (λ (y : (i : ℕ) × (i < length s.batches) × (i % 64 ≡ k) × Full (s.stage i)). inr (y.0, y.1, y.2, subst Full (sym (stage_old y.0 (λ q. ne (sym y.2 ∙ ap (λ (z : ℕ). z % 64) q)))) y.3)) (sound.each_slot k small));
+            (λ ne. batch_stays count touches s s' me me ev sound keeps i l' (λ t. t) (stage_old i ne) (λ f. put_else s.ring (x % SLOTS) new (i % SLOTS) (λ q. ne (apart count touches s sound i x l' l f full q))) (λ f. (b.word f).1) (owned_stays count touches s s' me me ev sound i refl (owned i (s.owner i)) (s.stage i) b.owned) b);
+        each_slot = λ k small. dite (ℕ_discrete k (x % SLOTS)) (λ q. inr (x, l, sym q, subst Full (sym here) tt))
+            (λ ne. ⊎_elim (λ z. inl (zero k z)) (λ (y : (i : ℕ) × (i < length s.batches) × (i % SLOTS ≡ k) × Full (s.stage i)). inr (y.0, y.1, y.2, subst Full (sym (stage_old y.0 (λ q. ne (sym y.2 ∙ ap (λ (z : ℕ). z % SLOTS) q)))) y.3)) (sound.each_slot k small));
         each_turn = λ k j e. let t = sound.each_turn k j e in (t.0, turn_all count touches s s' me d ev sound refl refl k j t.1);
         each_seat = seats_all count touches s s' me d ev sound refl mine;
         producer = kind_all count touches s s' me d ev sound refl refl;

@@ -7,6 +7,7 @@ use Rattle.publish_core.specs.declared.seat.BatchShape.{BatchShape}
 use Rattle.publish_core.specs.declared.seat.Kind.{Kind}
 use Rattle.publish_core.specs.declared.seat.Kind.TheVariants.{Producer, Note, Worker, Spent}
 use Rattle.publish_core.specs.declared.seat.Claim.TheVariants.{Taken, Emptied}
+use Rattle.publish_core.specs.declared.state.TheConstants.{SLOTS}
 use Rattle.publish_core.specs.Machine.{CoreState, ends, end_of}
 use Rattle.publish_core.specs.Parts.{shape_count, has_part, IsSoundCore}
 use Rattle.publish_core.specs.Sound.{Sound, Full, bit}
@@ -46,9 +47,9 @@ module _ (s : CoreState BatchShape) (sound : IsSoundCore s) where
   emptied_within j i e = below i (length s.batches) (λ h. ((h.each_seat j).emptied i e).0)
 
   -- the ring word of a batch that is held is twice an end
-  pub word_within : (j i : ℕ) → (s.seats j).held ≡ Some i → s.ring (i % 64) ≤ 2 * ends shape_count s.base s.batches (length s.batches)
+  pub word_within : (j i : ℕ) → (s.seats j).held ≡ Some i → s.ring (i % SLOTS) ≤ 2 * ends shape_count s.base s.batches (length s.batches)
   word_within j i e = ∥∥₁_elim sound le_prop (λ (h : Sound shape_count has_part s).
       let x = (h.each_seat j).held i e in let l : i < length s.batches = x.0 in
-      let w : s.ring (i % 64) ≡ 2 * end_of shape_count s i + bit (s.stage i) = ((h.each_batch i l).word (subst Full (sym x.1) tt)).0 in
+      let w : s.ring (i % SLOTS) ≡ 2 * end_of shape_count s i + bit (s.stage i) = ((h.each_batch i l).word (subst Full (sym x.1) tt)).0 in
       let z : bit (s.stage i) ≡ 0 = ap bit x.1 in
       let m : end_of shape_count s i ≤ ends shape_count s.base s.batches (length s.batches) = ends_mono shape_count s.base s.batches (suc i) (length s.batches) (omega arith) in omega arith)

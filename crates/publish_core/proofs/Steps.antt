@@ -10,6 +10,7 @@ use Rattle.publish_core.specs.declared.seat.Claim.TheVariants.{Taken, Emptied}
 use Rattle.publish_core.specs.declared.seat.Stage.{Stage}
 use Rattle.publish_core.specs.declared.seat.Stage.TheVariants.{Held, Marked, Claimed, Cleared, Out}
 use Rattle.publish_core.specs.declared.seat.SeatState.{SeatState}
+use Rattle.publish_core.specs.declared.state.TheConstants.{SLOTS}
 use Rattle.publish_core.specs.Machine.{updated, CoreState, ends, end_of, placed_seat, after_place}
 use Rattle.publish_core.specs.Sound.{Full, Past, bit, InStage, Owned, BatchOk, SeatOk, Sound}
 use Rattle.publish_core.proofs.Put.{put_here, put_else, at_put, put_cases, at_below, append_at, at_end, ends_append, ends_snoc, ends_less}
@@ -21,20 +22,20 @@ module _ {B : Type 0} (count : B → ℕ) (touches : B → ℕ → Bool) where
   pub at_stage : (s : CoreState B) → Sound count touches s → (i : ℕ) (st : Stage) → i < length s.batches → s.stage i ≡ st → InStage count touches s i st
   at_stage s sound i st l is = subst (InStage count touches s i) is (sound.each_batch i l).stands
 
-  pub word_at : (s : CoreState B) → Sound count touches s → (i : ℕ) (st : Stage) → i < length s.batches → s.stage i ≡ st → Full st → (s.ring (i % 64) ≡ 2 * end_of count s i + bit st) × (length s.batches ≤ i + 64)
+  pub word_at : (s : CoreState B) → Sound count touches s → (i : ℕ) (st : Stage) → i < length s.batches → s.stage i ≡ st → Full st → (s.ring (i % SLOTS) ≡ 2 * end_of count s i + bit st) × (length s.batches ≤ i + SLOTS)
   word_at s sound i st l is full = let w = (sound.each_batch i l).word (subst Full (sym is) full) in (w.0 ∙ ap (λ (x : Stage). 2 * end_of count s i + bit x) is, w.1)
 
   pub end_pos : (s : CoreState B) → Sound count touches s → (i : ℕ) → i < length s.batches → 0 < end_of count s i
   end_pos s sound i l = let h = ends_less count s.base s.batches sound.counted 0 (suc i) (omega arith) l in omega arith
 
   -- a word that stands is not 0
-  pub stands_some : (s : CoreState B) → Sound count touches s → (i : ℕ) → i < length s.batches → Full (s.stage i) → s.ring (i % 64) ≡ 0 → ⊥
+  pub stands_some : (s : CoreState B) → Sound count touches s → (i : ℕ) → i < length s.batches → Full (s.stage i) → s.ring (i % SLOTS) ≡ 0 → ⊥
   stands_some s sound i l full z = let w = ((sound.each_batch i l).word full).0 in let p = end_pos s sound i l in omega arith
 
   -- two words that stand lie in different slots
-  pub apart : (s : CoreState B) → Sound count touches s → (i j : ℕ) → i < length s.batches → j < length s.batches → Full (s.stage i) → Full (s.stage j) → i % 64 ≡ j % 64 → i ≡ j
+  pub apart : (s : CoreState B) → Sound count touches s → (i j : ℕ) → i < length s.batches → j < length s.batches → Full (s.stage i) → Full (s.stage j) → i % SLOTS ≡ j % SLOTS → i ≡ j
   apart s sound i j a b f g e = let wi = ((sound.each_batch i a).word f).1 in let wj = ((sound.each_batch j b).word g).1 in
-      dite (dec_le i j) (λ le. one_turn i j 64 le (omega arith) e) (λ n. let le = lt_of_not-le n in sym (one_turn j i 64 (omega arith) (omega arith) (sym e)))
+      dite (dec_le i j) (λ le. one_turn i j SLOTS le (omega arith) e) (λ n. let le = lt_of_not-le n in sym (one_turn j i SLOTS (omega arith) (omega arith) (sym e)))
 
   -- the front, where it stands
   pub front_full : (s : CoreState B) → Sound count touches s → s.tail < length s.batches → Full (s.stage s.tail)
@@ -60,19 +61,19 @@ module _ {B : Type 0} (count : B → ℕ) (touches : B → ℕ → Bool) where
       go (Cleared j) is l h = let a : s.head < s.tail = h.0 in let b = sound.tail_head in absurd (omega arith)
       go Out is l h = let a : s.head < s.tail = h.0 in let b = sound.tail_head in absurd (omega arith)
 
-  pub kept_place : (s : CoreState B) → Sound count touches s → (b : B) → length s.batches ≡ s.head → (s.seats 0).held ≡ None → (s.seats 0).reading ≡ Some record { at = s.head % 64; word = 0 } → 0 < count b
+  pub kept_place : (s : CoreState B) → Sound count touches s → (b : B) → length s.batches ≡ s.head → (s.seats 0).held ≡ None → (s.seats 0).reading ≡ Some record { at = s.head % SLOTS; word = 0 } → 0 < count b
       → Sound count touches (after_place count touches s b)
   kept_place s sound b all idle read pos =
       let s' : CoreState B = after_place count touches s b in let n : ℕ = length s.batches in let d = s.seats 0 in let ok = sound.each_seat 0 in let d' : SeatState = placed_seat count touches d n in
       let n' : length (s.batches ++ b ∷ []) ≡ n + 1 = length-append s.batches (b ∷ []) in
-      let zero_at : s.ring (s.head % 64) ≡ 0 = ok.vacant _ refl read refl in
-      let fits : (i : ℕ) → i < n → Full (s.stage i) → n + 1 ≤ i + 64 = λ i l f. let w : n ≤ i + 64 = ((sound.each_batch i l).word f).1 in
-      dite (ℕ_discrete n (i + 64)) (λ e. let h : s.head % 64 ≡ i % 64 = ap (λ (x : ℕ). x % 64) (sym all ∙ e) ∙ add-mod_right i 64 in absurd (stands_some s sound i l f (ap s.ring (sym h) ∙ zero_at))) (λ ne. omega arith) in
-      let off : (i : ℕ) → i < n → Full (s.stage i) → i % 64 ≢ s.head % 64 = λ i l f e. stands_some s sound i l f (ap s.ring e ∙ zero_at) in
+      let zero_at : s.ring (s.head % SLOTS) ≡ 0 = ok.vacant _ refl read refl in
+      let fits : (i : ℕ) → i < n → Full (s.stage i) → n + 1 ≤ i + SLOTS = λ i l f. let w : n ≤ i + SLOTS = ((sound.each_batch i l).word f).1 in
+      dite (ℕ_discrete n (i + SLOTS)) (λ e. let h : s.head % SLOTS ≡ i % SLOTS = ap (λ (x : ℕ). x % SLOTS) (sym all ∙ e) ∙ add-mod_right i SLOTS in absurd (stands_some s sound i l f (ap s.ring (sym h) ∙ zero_at))) (λ ne. omega arith) in
+      let off : (i : ℕ) → i < n → Full (s.stage i) → i % SLOTS ≢ s.head % SLOTS = λ i l f e. stands_some s sound i l f (ap s.ring e ∙ zero_at) in
       let old : (i : ℕ) → i < n → i ≢ n = λ i l e. omega arith in
       let stage_old : (i : ℕ) → i < n → s'.stage i ≡ s.stage i = λ i l. put_else s.stage n (Held 0) i (old i l) in
       let owner_old : (i : ℕ) → i < n → s'.owner i ≡ s.owner i = λ i l. put_else s.owner n 0 i (old i l) in
-      let th = sound.tail_head in let hl = sound.head_length in let room : n ≤ s.tail + 64 = sound.room in
+      let th = sound.tail_head in let hl = sound.head_length in let room : n ≤ s.tail + SLOTS = sound.room in
       let ev : Evolves count touches s s' 0 0 = record {
         longer = omega arith;
         same_batch = λ i l. append_at s.batches (b ∷ []) i l;
@@ -118,7 +119,7 @@ module _ {B : Type 0} (count : B → ℕ) (touches : B → ℕ → Bool) where
       let new : BatchOk count touches s' n = record {
         stands = subst (InStage count touches s' n) (sym (put_here s.stage n (Held 0))) (let g : s.tail ≤ n = omega arith in g, ap (λ (x : SeatState). x.held) here);
         word = λ _. (
-          ap (updated s.ring (s.head % 64) (2 * (ends count s.base s.batches n + count b))) (ap (λ (x : ℕ). x % 64) all) ∙ put_here s.ring (s.head % 64) (2 * (ends count s.base s.batches n + count b))
+          ap (updated s.ring (s.head % SLOTS) (2 * (ends count s.base s.batches n + count b))) (ap (λ (x : ℕ). x % SLOTS) all) ∙ put_here s.ring (s.head % SLOTS) (2 * (ends count s.base s.batches n + count b))
               ∙ sym (add-zero (2 * (ends count s.base s.batches n + count b))) ∙ ap₂ (λ (x : ℕ) (st : Stage). 2 * x + bit st) (sym (ends_snoc count s.base s.batches b)) (sym (put_here s.stage n (Held 0))),
           omega arith,
         );
@@ -136,12 +137,12 @@ module _ {B : Type 0} (count : B → ℕ) (touches : B → ℕ → Bool) where
             (λ ne. let l = at_below (s.batches ++ b ∷ []) i x e in let l' : i < n = omega arith in sound.counted i x (sym (append_at s.batches (b ∷ []) i l') ∙ e));
         known = λ i k a. let l = sound.known i k a in omega arith;
         each_batch = λ i l. dite (ℕ_discrete i n) (λ is. subst (BatchOk count touches s') (sym is) new) (λ ne. let l' : i < n = omega arith in let bo = sound.each_batch i l' in
-            batch_stays count touches s s' 0 0 ev sound keeps i l' (λ t. t) (stage_old i l') (λ f. put_else s.ring (s.head % 64) _ (i % 64) (off i l' f)) (λ f. let g = fits i l' f in omega arith)
+            batch_stays count touches s s' 0 0 ev sound keeps i l' (λ t. t) (stage_old i l') (λ f. put_else s.ring (s.head % SLOTS) _ (i % SLOTS) (off i l' f)) (λ f. let g = fits i l' f in omega arith)
             (owned_stays count touches s s' 0 0 ev sound i (owner_old i l') (own_all count touches s s' 0 d' ev sound refl (λ q a. a) i (s.owner i)) (s.stage i) bo.owned) bo);
         each_slot = λ k small. ⊎_elim
-            (λ (c : (k ≡ s.head % 64) × (s'.ring k ≡ 2 * (ends count s.base s.batches n + count b))). inr (n, let g : n < length (s.batches ++ b ∷ []) = omega arith in g, ap (λ (x : ℕ). x % 64) all ∙ sym c.0, subst Full (sym (put_here s.stage n (Held 0))) tt))
-            (λ (c : (k ≢ s.head % 64) × (s'.ring k ≡ s.ring k)). ⊎_elim (λ z. inl (c.1 ∙ z)) (λ (x : (i : ℕ) × (i < n) × (i % 64 ≡ k) × Full (s.stage i)). inr (x.0, let g : x.0 < n = x.1 in let g' : x.0 < length (s.batches ++ b ∷ []) = omega arith in g', x.2, subst Full (sym (stage_old x.0 x.1)) x.3)) (sound.each_slot k small))
-            (put_cases s.ring (s.head % 64) (2 * (ends count s.base s.batches n + count b)) k);
+            (λ (c : (k ≡ s.head % SLOTS) × (s'.ring k ≡ 2 * (ends count s.base s.batches n + count b))). inr (n, let g : n < length (s.batches ++ b ∷ []) = omega arith in g, ap (λ (x : ℕ). x % SLOTS) all ∙ sym c.0, subst Full (sym (put_here s.stage n (Held 0))) tt))
+            (λ (c : (k ≢ s.head % SLOTS) × (s'.ring k ≡ s.ring k)). ⊎_elim (λ z. inl (c.1 ∙ z)) (λ (x : (i : ℕ) × (i < n) × (i % SLOTS ≡ k) × Full (s.stage i)). inr (x.0, let g : x.0 < n = x.1 in let g' : x.0 < length (s.batches ++ b ∷ []) = omega arith in g', x.2, subst Full (sym (stage_old x.0 x.1)) x.3)) (sound.each_slot k small))
+            (put_cases s.ring (s.head % SLOTS) (2 * (ends count s.base s.batches n + count b)) k);
         each_turn = λ k j e. let t = sound.each_turn k j e in (t.0, turn_all count touches s s' 0 d' ev sound refl refl k j t.1);
         each_seat = seats_all count touches s s' 0 d' ev sound refl mine;
         producer = kind_all count touches s s' 0 d' ev sound refl refl;

@@ -2,6 +2,7 @@
 use Rattle.std.proofs.Common.{◌≡◌, ◌≢◌, ℕ, suc, ◌<◌, ◌≤◌, Bool, List, ◌∷◌, length, Some, None, sym, refl, ap, ◌∙◌, subst, inl, inr, ⊎_elim, le_refl, arith}
 use Rattle.publish_core.specs.declared.seat.Pair.{Pair}
 use Rattle.publish_core.specs.declared.seat.SeatState.{SeatState}
+use Rattle.publish_core.specs.declared.state.TheConstants.{SHARDS}
 use Rattle.publish_core.specs.Machine.{updated, Among, Distinct, CoreState, Acts, one_more, held_or, turn_or, after_take, after_busy, after_give, after_apply}
 use Rattle.publish_core.specs.Sound.{SeatOk, Sound}
 use Rattle.publish_core.proofs.Put.{put_here, put_else, at_put, put_cases}
@@ -49,8 +50,8 @@ module _ {B : Type 0} (count : B → ℕ) (touches : B → ℕ → Bool) where
       pub inside : (i q : ℕ) → Among i (done q) → i < length s.batches
       -- no other seat has the turn before, nor after
       pub before : (j : ℕ) → j ≢ me → s.turn k ≢ suc j
-      pub after : (j : ℕ) → t ≡ suc j → (j ≡ me) × (k < 8) × (d.turn ≡ Some k)
-      pub mine : (q : ℕ) → d.turn ≡ Some q → (q ≡ k) × (q < 8) × (t ≡ suc me)
+      pub after : (j : ℕ) → t ≡ suc j → (j ≡ me) × (k < SHARDS) × (d.turn ≡ Some k)
+      pub mine : (q : ℕ) → d.turn ≡ Some q → (q ≡ k) × (q < SHARDS) × (t ≡ suc me)
       pub only : (q : ℕ) → (s.seats me).turn ≡ Some q → q ≡ k
 
     kept_turn : Turn → Sound count touches turned
@@ -104,7 +105,7 @@ module _ {B : Type 0} (count : B → ℕ) (touches : B → ℕ → Bool) where
           each_batch = λ i l. let b = sound.each_batch i l in batch_stays count touches s s' me me ev sound keeps i l (λ x. x) refl (λ _. refl) (λ f. (b.word f).1) (owned_stays count touches s s' me me ev sound i refl (owned i (s.owner i)) (s.stage i) b.owned) b;
           each_slot = sound.each_slot;
           each_turn = λ q j e. ⊎_elim
-              (λ (z : (q ≡ k) × (updated s.turn k t q ≡ t)). let a = c.after j (sym z.1 ∙ e) in (subst (λ (y : ℕ). y < 8) (sym z.0) a.1, subst (λ (y : ℕ × ℕ). (updated s.seats me d y.0).turn ≡ Some y.1) (λ w. (sym a.0 w, sym z.0 w)) (ap (λ (y : SeatState). y.turn) (put_here s.seats me d) ∙ a.2)))
+              (λ (z : (q ≡ k) × (updated s.turn k t q ≡ t)). let a = c.after j (sym z.1 ∙ e) in (subst (λ (y : ℕ). y < SHARDS) (sym z.0) a.1, subst (λ (y : ℕ × ℕ). (updated s.seats me d y.0).turn ≡ Some y.1) (λ w. (sym a.0 w, sym z.0 w)) (ap (λ (y : SeatState). y.turn) (put_here s.seats me d) ∙ a.2)))
               (λ (z : (q ≢ k) × (updated s.turn k t q ≡ s.turn q)). let o = sound.each_turn q j (sym z.1 ∙ e) in (o.0, at_put (λ (x : ℕ) (y : SeatState). (s.seats x).turn ≡ Some q → y.turn ≡ Some q) s.seats me d j (λ w. absurd (z.0 (c.only q w))) (λ _ w. w) o.1))
               (put_cases s.turn k t q);
           each_seat = seats_all count touches s s' me d ev sound refl mine;
@@ -115,7 +116,7 @@ module _ {B : Type 0} (count : B → ℕ) (touches : B → ℕ → Bool) where
   suc_inj : (a b : ℕ) → suc a ≡ suc b → a ≡ b
   suc_inj a b e = omega arith
 
-  pub kept_take : (s : CoreState B) → Sound count touches s → (me k : ℕ) → Acts (s.seats me) → k < 8 → (s.seats me).turn ≡ None → s.turn k ≡ 0 → Sound count touches (after_take count touches s me k)
+  pub kept_take : (s : CoreState B) → Sound count touches s → (me k : ℕ) → Acts (s.seats me) → k < SHARDS → (s.seats me).turn ≡ None → s.turn k ≡ 0 → Sound count touches (after_take count touches s me k)
   kept_take s sound me k acts small none free = kept_turn s sound me k (suc me) s.done (record (s.seats me) { turn = Some k }) (λ i q a. a) record {
     acts = acts;
     kind = refl;
@@ -131,7 +132,7 @@ module _ {B : Type 0} (count : B → ℕ) (touches : B → ℕ → Bool) where
     inside = sound.known;
     before = λ j _ e. let z : 0 ≡ suc j = sym free ∙ e in omega arith;
     after = λ j e. (sym (suc_inj me j e), small, refl);
-    mine = λ q e. let z : k ≡ q = cc in (sym z, subst (λ (y : ℕ). y < 8) z small, refl);
+    mine = λ q e. let z : k ≡ q = cc in (sym z, subst (λ (y : ℕ). y < SHARDS) z small, refl);
     only = λ q e. let c : None ≡ Some q = sym none ∙ e in cc;
   }
 

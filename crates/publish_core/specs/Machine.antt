@@ -2,6 +2,7 @@
 use Rattle.std.specs.Prelude.{◌≡◌, ◌≢◌, ◌⊎◌, ℕ, zero, suc, ◌+◌, ◌*◌, ◌%◌, ◌<◌, ◌≤◌, min, max, Bool, true, false, cond, ◌==◌, nat_lt, IsTrue, IsFalse, List, [], ◌∷◌, ◌++◌, length, Option, Some, None}
 use mathlib.Core.Option.{some}
 use lib.ListN.{get_elem?}
+use Rattle.batch_repr.specs.declared.limits.TheConstants.{BATCHES_MAX}
 use Rattle.publish_core.specs.declared.seat.Kind.{Kind}
 use Rattle.publish_core.specs.declared.seat.Kind.TheVariants.{Producer, Note, Worker, Spent}
 use Rattle.publish_core.specs.declared.seat.Claim.{Claim}
@@ -12,7 +13,7 @@ use Rattle.publish_core.specs.declared.seat.Ends.{Ends}
 use Rattle.publish_core.specs.declared.seat.Reading.{Reading}
 use Rattle.publish_core.specs.declared.seat.Counts.{Counts}
 use Rattle.publish_core.specs.declared.seat.SeatState.{SeatState}
-use Rattle.publish_core.specs.declared.state.TheConstants.{SLOTS, SHARDS, MOST_BATCHES, END_LIMIT}
+use Rattle.publish_core.specs.declared.state.TheConstants.{SLOTS, SHARDS, END_LIMIT}
 
 -- f, and x at i
 abbrev pub updated : {A : Type 0} → (ℕ → A) → ℕ → A → ℕ → A
@@ -212,7 +213,7 @@ module _ {B : Type 0} (count : B → ℕ) (touches : B → ℕ → Bool) where
       × ((s.seats 0).held ≡ None)
       × ((s.seats 0).reading ≡ Some record { at = s.head % SLOTS; word = 0 })
       × (0 < count b)
-      × (length s.batches < MOST_BATCHES)
+      × (length s.batches < BATCHES_MAX)
       × (ends count s.base s.batches (length s.batches) + count b < END_LIMIT)
   Possible s admit = (length s.batches ≡ s.head + 1) × ((s.seats 0).kind ≡ Producer)
   Possible s (load_ends j) = Acts (s.seats j)

@@ -16,7 +16,7 @@ pub enum CoreEvent {
     /// The seat reads the ring word of the slot `at`, which is below `SLOTS`.
     LoadSlot { seat: u64, at: u32 },
     /// The producer places a batch of `count` numbers, one at least, with entries in the shards whose
-    /// bits are set, in the slot of head, which it has just read as 0. Fewer than `MOST_BATCHES` batches
+    /// bits are set, in the slot of head, which it has just read as 0. Fewer than `BATCHES_MAX` batches
     /// were placed before, and its end is below `END_LIMIT`.
     Place { count: u32, shards: u8 },
     /// The producer lets the others come to the batch that it placed.

@@ -1,5 +1,5 @@
 //! The turns on the shards: a seat takes one, and gives it back with or without its batch applied there.
-ghost use Rattle.std.specs.Prelude.{◌≡◌, ◌%◌, ◌/◌, ◌^◌, ◌==◌, ◌↔◌, ◌<◌, ◌∷◌, IsTrue, Some, None, IfOk, OnOk, OnErr, length, slice_index_or, vec_len, vec_capacity};
+ghost use Rattle.std.specs.Prelude.{◌≡◌, ◌/◌, ◌==◌, ◌↔◌, ◌<◌, ◌∷◌, IsTrue, Some, None, IfOk, OnOk, OnErr, length, slice_index_or, vec_len, vec_capacity};
 ghost use Rattle.publish_core.specs.declared.state.KeptSeat.{KeptSeat};
 ghost use Rattle.publish_core.specs.Machine.{take_shard, give_shard, after, updated, after_give, after_apply};
 ghost use Rattle.publish_core.specs.Parts.{shape_count, has_part};

@@ -1,5 +1,5 @@
 //! The machine as a value.
-ghost use Rattle.std.specs.Prelude.{◌≡◌, ◌<◌, ◌^◌, IfOk};
+ghost use Rattle.std.specs.Prelude.{◌≡◌, ◌<◌, IfOk};
 ghost use Rattle.publish_core.specs.Kept.{kept_state};
 ghost use Rattle.publish_core.specs.Parts.{IsSoundCore};
 

@@ -1,7 +1,6 @@
 //! The mark: a seat tells that its batch is applied, and holds it no more.
 ghost use Rattle.std.specs.Prelude.{◌≡◌, ◌==◌, ◌&&◌, ◌<◌, ◌+◌, ◌≤◌, ◌%◌, ◌^◌, ◌↔◌, ℕ, IsTrue, Some, IfSome, IfNone, IfOk, OnOk, OnErr, length};
 ghost use Rattle.std.specs.List.{list_any};
-ghost use Rattle.publish_core.specs.declared.seat.Pair.{Pair};
 ghost use Rattle.publish_core.specs.Machine.{mark, Among};
 ghost use Rattle.publish_core.specs.Parts.{has_part, IsPossible, next_state};
 

@@ -1,12 +1,13 @@
 //! The producer's two steps: it places a batch, and then admits it.
-ghost use Rattle.std.specs.Prelude.{◌≡◌, ◌<◌, ◌+◌, ◌≤◌, ◌↔◌, IsTrue, IfOk, OnOk, OnErr, length, vec_len, vec_capacity};
+ghost use Rattle.std.specs.Prelude.{◌≡◌, ◌<◌, ◌+◌, ◌↔◌, IsTrue, IfOk, OnOk, OnErr, length, vec_len, vec_capacity};
 ghost use Rattle.publish_core.specs.declared.seat.Kind.TheVariants.{Producer};
 ghost use Rattle.publish_core.specs.Machine.{admit, place};
 ghost use Rattle.publish_core.specs.Parts.{IsPossible, next_state};
 
 use crate::machine::Core;
 use crate::seat::{BatchShape, Stage};
-use crate::state::{END_LIMIT, KeptSeat, KeptState, MOST_BATCHES, SLOTS, push_spare};
+use crate::state::{END_LIMIT, KeptSeat, KeptState, SLOTS, push_spare};
+use batch_repr::BATCHES_MAX;
 use wal_base::NoMemory;
 
 impl KeptSeat {
@@ -37,7 +38,7 @@ impl KeptState {
             && producer.held.is_none()
             && producer.found_empty(self.head % SLOTS)
             && batch.count > 0
-            && placed < MOST_BATCHES
+            && placed < BATCHES_MAX
             && self.end + (batch.count as u64) < END_LIMIT
     }
 

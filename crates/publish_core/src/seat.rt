@@ -1,5 +1,5 @@
 //! What one seat holds and knows, and how far a batch has come. Batches are numbered from 0 as they are placed, below
-//! `MOST_BATCHES`, and seats from 0 as they are made.
+//! `BATCHES_MAX`, and seats from 0 as they are made.
 ghost use Rattle.publish_core.specs.declared.state.TheConstants.{SHARDS};
 
 /// What a seat may do.
@@ -41,7 +41,7 @@ pub enum Stage {
     Out,
 }
 
-/// Head and tail, as they were loaded together: counts of batches, at most `MOST_BATCHES`.
+/// Head and tail, as they were loaded together: counts of batches, at most `BATCHES_MAX`.
 #[derive(Clone, Copy, Drop)]
 pub struct Ends {
     /// So many batches are admitted.

@@ -1,5 +1,5 @@
 //! Seats are made, and taken in by others.
-ghost use Rattle.std.specs.Prelude.{◌≡◌, ◌≢◌, ◌==◌, ◌↔◌, ◌<◌, ◌⊎◌, ◌++◌, ℕ, cond, IsTrue, Some, None, IfOk, OnOk, OnErr, length, reverse};
+ghost use Rattle.std.specs.Prelude.{◌≡◌, ◌≢◌, ◌==◌, ◌↔◌, ◌<◌, ◌++◌, ℕ, cond, IsTrue, Some, None, IfOk, OnOk, OnErr, length};
 ghost use Rattle.publish_core.specs.declared.seat.Kind.TheVariants.{Note, Worker};
 ghost use Rattle.publish_core.specs.declared.seat.Claim.TheVariants.{Free};
 ghost use Rattle.publish_core.specs.declared.seat.Stage.TheVariants.{Held};

@@ -1,21 +1,20 @@
 //! The state as it is kept: numbers and lists.
-ghost use Rattle.std.specs.Prelude.{◌≡◌, ℕ, ◌<◌, ◌≤◌, ◌^◌, ◌↔◌, [], IsTrue, IfOk, length, map, slice_index_or, vec_items, vec_len, vec_capacity, ◌++◌, ◌∷◌};
-ghost use Rattle.publish_core.specs.declared.state.TheConstants.{SLOTS, SHARDS, MOST_BATCHES, END_LIMIT};
+ghost use Rattle.std.specs.Prelude.{◌≡◌, ℕ, ◌<◌, ◌≤◌, ◌↔◌, [], IsTrue, IfOk, length, map, slice_index_or, vec_items, vec_len, vec_capacity, ◌++◌, ◌∷◌};
+ghost use Rattle.batch_repr.specs.declared.limits.TheConstants.{BATCHES_MAX};
+ghost use Rattle.publish_core.specs.declared.state.TheConstants.{SLOTS, SHARDS, END_LIMIT};
 ghost use Rattle.publish_core.specs.Machine.{Acts, ends};
 ghost use Rattle.publish_core.specs.Parts.{shape_count};
 
 use crate::seat::{BatchShape, Claim, Counts, Ends, Kind, Pair, Reading, Stage};
+use batch_repr::NUMBER_MAX;
 use std::alloc::Global;
 use wal_base::NoMemory;
 
 /// How many slots the ring has. The batch `i` stands in the slot `i % SLOTS`.
 pub const SLOTS: u64 = 64;
 
-/// The most batches that are placed in one machine, over all its time.
-pub const MOST_BATCHES: u64 = 1_048_576;
-
 /// Every batch's end is below it, and so is every visible number.
-pub const END_LIMIT: u64 = 1 << 56;
+pub const END_LIMIT: u64 = NUMBER_MAX + 1;
 
 /// How many shards there are.
 pub const SHARDS: u8 = 8;
@@ -59,7 +58,7 @@ pub(crate) struct KeptState {
     ghost done_wide: { length done.items ≡ SHARDS },
     ghost stage_each: { length stages.items ≡ length batches.items },
     ghost owner_each: { length owners.items ≡ length batches.items },
-    ghost few: { length batches.items ≤ MOST_BATCHES },
+    ghost few: { length batches.items ≤ BATCHES_MAX },
     ghost end_is: { end ≡ ends shape_count base batches.items (length batches.items) },
     ghost end_small: { end < END_LIMIT },
 }

@@ -2,11 +2,12 @@
 use Rattle.std.proofs.Common.{◌≡◌, ℕ, List, [], ◌∷◌, ◌++◌, map, Option, Some, None, MatchOption, IfNone, sym, refl, ap, ◌∙◌, subst}
 use Rattle.std.proofs.lemmas.List.{append-nil}
 use Rattle.crossbeam_queue.specs.Fifo.{Learns}
+use Rattle.wal_base.specs.Prefixes.{IsPrefixOf}
 use Rattle.batch_repr.specs.Batches.{IsContiguous}
 use Rattle.record_queue.specs.declared.node.Filled.{Filled}
 use Rattle.record_flow.specs.declared.rule.FlowView.{FlowView}
 use Rattle.record_flow.specs.Views.{first_numbers, records_of}
-use Rattle.record_flow.specs.Flows.{Flows, HasEnded, IsPrefixOf, OnTheWay}
+use Rattle.record_flow.specs.Flows.{Flows, HasEnded, OnTheWay}
 use Rattle.record_flow.specs.Theorems.{TakenIsPrefixOfSent}
 
 pub learns : (port : ℕ) (v : FlowView) → Learns Flows port v (OnTheWay v)

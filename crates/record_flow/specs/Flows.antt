@@ -9,10 +9,6 @@ use Rattle.record_queue.specs.declared.node.Filled.{Filled}
 use Rattle.record_flow.specs.declared.rule.FlowView.{FlowView}
 use Rattle.record_flow.specs.Views.{records_of, sent_on, taken_on}
 
--- The list begins with these.
-abbrev pub IsPrefixOf : {A : Type 0} → List A → List A → Type 0
-IsPrefixOf {A} part whole = (rest : List A) × (whole ≡ part ++ rest)
-
 -- What a pass knows of all that was sent and taken: only the sender's pass pushes, and only the taker's pops.
 pub record PassFits (sender taker first : ℕ) (sent taken : List Filled) (port : ℕ) (v : FlowView) : Type 0 where
   pub pushes : v.pushes ≡ true → (port ≡ sender) × (v.sent ≡ sent) × (v.first ≡ first)

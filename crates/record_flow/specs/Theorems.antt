@@ -2,11 +2,12 @@
 use Rattle.std.specs.Prelude.{◌≡◌, ℕ, true, List, Option}
 use mathlib.Core.Option.{some}
 use lib.ListN.{get_elem?}
+use Rattle.wal_base.specs.Prefixes.{IsPrefixOf}
 use Rattle.batch_repr.specs.Batches.{IsContiguous}
 use Rattle.record_queue.specs.declared.node.Filled.{Filled}
 use Rattle.record_flow.specs.declared.rule.FlowView.{FlowView}
 use Rattle.record_flow.specs.Views.{records_of, first_numbers}
-use Rattle.record_flow.specs.Flows.{Flows, IsPrefixOf}
+use Rattle.record_flow.specs.Flows.{Flows}
 
 -- what the sender and the taker know at one moment: what was taken is a prefix of what was sent, from one first number on
 pub record TakesPrefix (s p : FlowView) : Type 0 where

@@ -1,8 +1,9 @@
 //! How records go into the queue, come out of it, and end.
 ghost use Rattle.std.specs.Prelude.{◌≡◌, IfErr, IfNone, IfSome, OnErr, OnOk};
+ghost use Rattle.wal_base.specs.Prefixes.{IsPrefixOf};
 ghost use Rattle.record_queue.specs.Nodes.{IsFilledNode};
 ghost use Rattle.record_flow.specs.Views.{ended_view};
-ghost use Rattle.record_flow.specs.Flows.{CanSend, HasEnded, IsNextTaken, IsPrefixOf, SendsRecord, TakesRecord, TookAll, WasEmpty};
+ghost use Rattle.record_flow.specs.Flows.{CanSend, HasEnded, IsNextTaken, SendsRecord, TakesRecord, TookAll, WasEmpty};
 ghost use Rattle.record_flow.specs.Passes.{flow_id, flush_queue, take_view, send_queue, send_view};
 
 use crate::flow::RecordFlow;

@@ -4,10 +4,10 @@ use Rattle.std.specs.Prelude.{is_some, count_by}
 use Rattle.std.proofs.lemmas.List.{take_all}
 use Rattle.std.proofs.lemmas.List.FromFn.{length-map-range_with_len, get_or-map-range_with_len}
 use Rattle.std.proofs.lemmas.List.Sums.{count_by_more_no, count_by_more_yes}
+use Rattle.wal_base.specs.Prefixes.{IsPrefixOf}
+use Rattle.wal_base.proofs.Laws.{prefix_same, prefix_then, longer_prefix, prefix_whole}
 use Rattle.batch_repr.specs.declared.batch.Batch.{Batch}
 use Rattle.batch_repr.specs.Batches.{answer}
-use Rattle.commit_queue.specs.Rule.{IsPrefix}
-use Rattle.commit_queue.proofs.Laws.{longer_prefix}
 use Rattle.session_script.specs.declared.load.TheConstants.{LOAD_KEYS}
 use Rattle.session_script.specs.Load.{load_key, load_keys, live_keys}
 use Rattle.commit_pipeline.specs.declared.fault.Reply.{Reply}
@@ -15,7 +15,6 @@ use Rattle.commit_pipeline.specs.Openings.{Opening}
 use Rattle.commit_pipeline.specs.declared.standing.Standing.{Standing}
 use Rattle.commit_pipeline.specs.Standings.{Idles}
 use Rattle.commit_pipeline.specs.Commits.{TellsRead}
-use Rattle.session_rounds.proofs.Laws.{prefix_whole}
 use Rattle.session_rounds.specs.declared.answers.Answer.{Answer}
 use Rattle.session_rounds.specs.Players.{ReadersView, FirstReads}
 use Rattle.script_runner.specs.declared.performing.Told.{Told}
@@ -39,7 +38,7 @@ pub record KeysSoFar (opening : Opening) (old now : ReadersView) (index live : �
 -- a session that does nothing
 idle_still : (s : Standing) → Idles s s
 idle_still s = record {
-  goes_on = record { seen = λ k b at. at; acked = le_refl s.acked; told = le_refl s.told };
+  goes_on = record { seen = prefix_same s.seen; acked = le_refl s.acked; told = le_refl s.told };
   own = refl;
   told = refl;
 }
@@ -47,7 +46,7 @@ idle_still s = record {
 idle_then : (s mid new : Standing) → Idles s mid → Idles mid new → Idles s new
 idle_then s mid new one two = record {
   goes_on = record {
-    seen = λ k b at. two.goes_on.seen k b (one.goes_on.seen k b at);
+    seen = prefix_then s.seen mid.seen new.seen one.goes_on.seen two.goes_on.seen;
     acked = omega (arith, one.goes_on.acked, two.goes_on.acked);
     told = omega (arith, one.goes_on.told, two.goes_on.told);
   };
@@ -58,7 +57,7 @@ idle_then s mid new one two = record {
 -- where it sees no more in the end, it saw no more between
 between : (s mid new : Standing) → Idles s mid → Idles mid new → new.seen ≡ s.seen → mid.seen ≡ s.seen
 between s mid new one two same =
-    let back : IsPrefix mid.seen s.seen = subst (IsPrefix mid.seen) same two.goes_on.seen in
+    let back : IsPrefixOf mid.seen s.seen = subst (IsPrefixOf mid.seen) same two.goes_on.seen in
     prefix_whole mid.seen s.seen back (longer_prefix s.seen mid.seen one.goes_on.seen)
 
 pub no_key_yet : (opening : Opening) (readers : ReadersView) → 1 ≤ length readers.now → KeysSoFar opening readers readers 0 0
@@ -161,9 +160,9 @@ pub keeps_count : (opening : Opening) (told : Told) (own : List (List Answer)) (
 keeps_count opening told own old new same counts batches seen within =
     let all : counts.first.seen ≡ batches =
     seen counts.first (subst (λ (l : List Standing). Contains l counts.first) (sym (counts.met ∙ same ∙ counts.was)) (0, omega arith, refl)) in
-    let there : IsPrefix counts.first'.seen batches =
+    let there : IsPrefixOf counts.first'.seen batches =
     within counts.first' (subst (λ (l : List Standing). Contains l counts.first') (sym counts.is) (0, omega arith, refl)) in
-    let back : IsPrefix counts.first'.seen counts.first.seen = subst (IsPrefix counts.first'.seen) (sym all) there in
+    let back : IsPrefixOf counts.first'.seen counts.first.seen = subst (IsPrefixOf counts.first'.seen) (sym all) there in
     let no_more : counts.first'.seen ≡ counts.first.seen =
     prefix_whole counts.first'.seen counts.first.seen back (longer_prefix counts.first.seen counts.first'.seen counts.idles.goes_on.seen) in
     counts.counts no_more ∙ ap (λ (seen : List Batch). live_keys (opening.base ++ seen)) all

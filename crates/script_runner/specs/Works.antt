@@ -1,7 +1,7 @@
 -- What is run, and what comes of it over a pipeline (docs/formats/program.md, "The run of a script" and "The generated load").
 use Rattle.std.specs.Prelude.{◌≡◌, ◌++◌, ℕ, Bool, false, List, ◌∷◌, Contains}
+use Rattle.wal_base.specs.Prefixes.{IsPrefixOf}
 use Rattle.batch_repr.specs.declared.batch.Batch.{Batch}
-use Rattle.commit_queue.specs.Rule.{IsPrefix}
 use Rattle.session_script.specs.Script.{NameSessions, NamesItsSessions}
 use Rattle.session_script.specs.declared.load.TheConstants.{LOAD_SESSIONS}
 use Rattle.session_script.specs.declared.script.Round.{Round}
@@ -64,7 +64,7 @@ KeepsReplies told own readers = told.text ≡ rounds_text own
 -- see no others.
 abbrev pub KeepsCount : Opening → Told → List (List Answer) → ReadersView → Type 0
 KeepsCount opening told own readers = (batches : List Batch) → ((s : Standing) → Contains readers.met s → s.seen ≡ batches)
-    → ((s : Standing) → Contains readers.now s → IsPrefix s.seen batches) → told.live ≡ live_keys (opening.base ++ batches)
+    → ((s : Standing) → Contains readers.now s → IsPrefixOf s.seen batches) → told.live ≡ live_keys (opening.base ++ batches)
 
 -- The rounds were played, the sessions only read since, and what is told of them is kept so.
 pub record Performs (opening : Opening) (rounds : List Round) (keeps : Told → List (List Answer) → ReadersView → Type 0) (ss : List Standing)

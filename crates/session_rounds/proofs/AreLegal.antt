@@ -4,6 +4,7 @@ use Rattle.std.specs.List.{AllByRecursion}
 use Rattle.std.proofs.lemmas.List.{length-append, append-nil, take_all}
 use Rattle.std.proofs.lemmas.List.Elements.{recursion_from_All}
 use Rattle.std.proofs.lemmas.Option.{slice_get_within, get_or_from_slice_get}
+use Rattle.wal_base.proofs.Laws.{none_within}
 use Rattle.batch_repr.specs.declared.batch.Batch.{Batch}
 use Rattle.batch_repr.specs.Batches.{IsContiguous, end_after}
 use Rattle.batch_repr.proofs.Laws.{contiguous_append, end_append}
@@ -20,7 +21,7 @@ use Rattle.commit_pipeline.specs.Parts.{AreNew}
 use Rattle.commit_pipeline.specs.Ending.{owned, EachOnce, Finishes}
 use Rattle.session_rounds.specs.Playing.{PlaysRounds}
 use Rattle.session_rounds.specs.Legality.{SyncedAreAmong}
-use Rattle.session_rounds.proofs.IsPrefix.{row_end}
+use Rattle.session_rounds.proofs.Places.{row_end}
 use Rattle.session_rounds.proofs.Follows.{End, AllWithin, before_meeting, before_rounds}
 use Rattle.session_rounds.proofs.InTurn.{store, in_store}
 use Rattle.session_rounds.proofs.AreOwned.{AreOwned, greatest, rounds_course, seen_by_each}
@@ -87,7 +88,7 @@ module _ (e : End) where
       record {
         own = subst (AreOwned e 0) (sym none) (record {
           once = record { as_many = refl; each = λ i below. absurd (omega (arith, below)) };
-          below = λ i h. absurd h;
+          below = λ i h. absurd (none_within i h);
         });
         seen = λ i s here. omega arith;
       }

@@ -1,9 +1,8 @@
 -- How many batches the sessions have made before and after a round: after it, each place that one has seen is one's own.
 use Rattle.std.proofs.Common.{◌≡◌, inl, inr, ℕ, zero, suc, ◌-◌, ◌≤◌, ◌<◌, max, List, [], ◌∷◌, ◌++◌, length, Some, IsPermutation, refl, sym, ap, subst, ap₂, arith}
-use Rattle.std.specs.Prelude.{slice_get}
+use Rattle.std.specs.Prelude.{slice_get, Contains}
 use Rattle.std.proofs.lemmas.Option.{slice_get_within}
-use Rattle.publish_core.specs.Machine.{Among}
-use Rattle.commit_queue.proofs.Laws.{longer_prefix}
+use Rattle.wal_base.proofs.Laws.{longer_prefix}
 use Rattle.session_script.specs.declared.script.Line.{Line}
 use Rattle.session_script.specs.declared.script.Round.{Round}
 use Rattle.session_script.specs.Legal.{Replied, replies_of_session}
@@ -120,17 +119,17 @@ module _ (e : End) where
   -- The places of the first batches, so many, are the sessions' own, each once.
   pub record AreOwned (count : ℕ) (own : List ℕ) : Type 0 where
     pub once : EachOnce count own
-    pub below : (i : ℕ) → Among i own → i < count
+    pub below : (i : ℕ) → Contains own i → i < count
 
   -- Those that are added up to a number are those below it, where later ones are not, and in the end each is there once.
   module _ (low high count : ℕ) (old new last : List ℕ) (replies later : List Replied) (were : AreOwned low old) (course : Course e low high old new replies)
       (rest : Course e high count new last later) (own : EachOnce count last) (on : low ≤ high) (within : high ≤ count) where
     -- all are below the higher number
-    below : (i : ℕ) → Among i new → i < high
+    below : (i : ℕ) → Contains new i → i < high
     below i h = elim (course.each i h) [ inl added ↦ course.below i added | inr before ↦ omega (arith, were.below i before, on) ]
 
     -- each number below it is among them
-    each : (i : ℕ) → i < high → Among i new
+    each : (i : ℕ) → i < high → Contains new i
     each i under = elim (rest.each i (own.each i (omega (arith, under, within)))) [
       | inl after ↦ absurd (omega (arith, under, rest.later i after))
       | inr now ↦ now

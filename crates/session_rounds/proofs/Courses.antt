@@ -3,12 +3,11 @@ use Rattle.std.proofs.Common.{◌≡◌, ◌⊎◌, inl, inr, ℕ, suc, ◌+◌,
 use Rattle.std.specs.Prelude.{slice_get}
 use Rattle.std.specs.List.{cons_option}
 use Rattle.std.proofs.lemmas.List.{length-append, map-append}
-use Rattle.std.proofs.lemmas.List.Elements.{filter_map-append, Contains-append_cases, Contains-push_cases}
+use Rattle.std.proofs.lemmas.List.Elements.{filter_map-append, Contains-append_cases, Contains-push_cases, Contains-append_left, Contains-append_right}
 use Rattle.std.proofs.lemmas.Option.{get_or_from_slice_get}
-use Rattle.wal_base.proofs.Laws.{none_within}
+use Rattle.wal_base.proofs.Laws.{none_within, longer_prefix, at_prefix, within_cases, within_head}
 use Rattle.batch_repr.specs.declared.batch.Batch.{Batch}
-use Rattle.publish_core.specs.Machine.{Among}
-use Rattle.publish_core.proofs.Laws.{at_below}
+use Rattle.commit_queue.proofs.Laws.{at_below}
 use Rattle.session_script.specs.declared.script.Act.{Act}
 use Rattle.session_script.specs.declared.script.Act.TheVariants.{Commit, Get}
 use Rattle.session_script.specs.declared.replies.Said.{Said}
@@ -20,9 +19,7 @@ use Rattle.commit_pipeline.specs.Standings.{GainsOwn}
 use Rattle.commit_pipeline.specs.Ending.{owned}
 use Rattle.session_rounds.specs.Acts.{Does, DoesLines}
 use Rattle.session_rounds.specs.Legality.{SyncedAreAmong}
-use Rattle.session_rounds.proofs.Covers.{among_left, among_right, among_cases}
-use Rattle.session_rounds.proofs.IsPrefix.{as_got}
-use Rattle.commit_queue.proofs.Laws.{longer_prefix}
+use Rattle.session_rounds.proofs.Places.{as_got}
 use Rattle.session_rounds.proofs.Follows.{End, IsWithin, within_before, does_follow, lines_follow}
 use Rattle.session_rounds.proofs.BySessions.{all_of}
 
@@ -40,9 +37,9 @@ module _ (e : End) where
   pub record Course (low high : ℕ) (old new : List ℕ) (replies : List Replied) : Type 0 where
     pub added : List ℕ
     pub as_many : length new ≡ length added + length old
-    pub each : (i : ℕ) → Among i new → Among i added ⊎ Among i old
-    pub later : (i : ℕ) → Among i added → low ≤ i
-    pub below : (i : ℕ) → Among i added → i < high
+    pub each : (i : ℕ) → Contains new i → Contains added i ⊎ Contains old i
+    pub later : (i : ℕ) → Contains added i → low ≤ i
+    pub below : (i : ℕ) → Contains added i → i < high
     pub made : filter_map batch_of replies ≡ map batch_at added
     pub synced : SyncedAreAmong e.batches e.most replies
 
@@ -56,8 +53,8 @@ module _ (e : End) where
     added = [];
     as_many = omega arith;
     each = λ i h. inr h;
-    later = λ i h. absurd h;
-    below = λ i h. absurd h;
+    later = λ i h. absurd (none_within i h);
+    below = λ i h. absurd (none_within i h);
     made = refl;
     synced = λ r first count h told. absurd (none_within r h);
   }
@@ -86,11 +83,11 @@ module _ (e : End) where
     added = one.added ++ two.added;
     as_many = omega (arith, one.as_many, two.as_many, length-append one.added two.added);
     each = λ i h. elim (two.each i h) [
-      | inl new ↦ inl (among_right i one.added two.added new)
-      | inr before ↦ elim (one.each i before) [ inl new ↦ inl (among_left i one.added two.added new) | inr old ↦ inr old ]
+      | inl new ↦ inl (Contains-append_right one.added two.added i new)
+      | inr before ↦ elim (one.each i before) [ inl new ↦ inl (Contains-append_left one.added two.added i new) | inr old ↦ inr old ]
     ];
-    later = λ i h. elim (among_cases i one.added two.added h) [ inl p ↦ one.later i p | inr p ↦ two.later i p ];
-    below = λ i h. elim (among_cases i one.added two.added h) [ inl p ↦ one.below i p | inr p ↦ two.below i p ];
+    later = λ i h. elim (Contains-append_cases one.added two.added i h) [ inl p ↦ one.later i p | inr p ↦ two.later i p ];
+    below = λ i h. elim (Contains-append_cases one.added two.added i h) [ inl p ↦ one.below i p | inr p ↦ two.below i p ];
     made = made_both xs ys one.added two.added one.made two.made;
     synced = synced_both xs ys one.synced two.synced;
   }
@@ -101,12 +98,12 @@ module _ (e : End) where
   course_beside low high a b c d xs ys one two = record {
     added = one.added ++ two.added;
     as_many = omega (arith, one.as_many, two.as_many, length-append one.added two.added, length-append c a, length-append d b);
-    each = λ i h. elim (among_cases i d b h) [
-      | inl there ↦ elim (two.each i there) [ inl new ↦ inl (among_right i one.added two.added new) | inr old ↦ inr (among_left i c a old) ]
-      | inr here ↦ elim (one.each i here) [ inl new ↦ inl (among_left i one.added two.added new) | inr old ↦ inr (among_right i c a old) ]
+    each = λ i h. elim (Contains-append_cases d b i h) [
+      | inl there ↦ elim (two.each i there) [ inl new ↦ inl (Contains-append_right one.added two.added i new) | inr old ↦ inr (Contains-append_left c a i old) ]
+      | inr here ↦ elim (one.each i here) [ inl new ↦ inl (Contains-append_left one.added two.added i new) | inr old ↦ inr (Contains-append_right c a i old) ]
     ];
-    later = λ i h. elim (among_cases i one.added two.added h) [ inl p ↦ one.later i p | inr p ↦ two.later i p ];
-    below = λ i h. elim (among_cases i one.added two.added h) [ inl p ↦ one.below i p | inr p ↦ two.below i p ];
+    later = λ i h. elim (Contains-append_cases one.added two.added i h) [ inl p ↦ one.later i p | inr p ↦ two.later i p ];
+    below = λ i h. elim (Contains-append_cases one.added two.added i h) [ inl p ↦ one.below i p | inr p ↦ two.below i p ];
     made = made_both xs ys one.added two.added one.made two.made;
     synced = synced_both xs ys one.synced two.synced;
   }
@@ -119,13 +116,19 @@ module _ (e : End) where
         → ((first count : ℕ) → reply.said ≡ Committed first count true → (batch.first ≡ first) × (place < s'.acked))
         → Course low high s.own s'.own (reply ∷ [])
     gaining reply batch place gains has asked =
-        let here : slice_get e.batches place ≡ Some batch = as_got e.batches place batch (w.seen place batch gains.at) in
+        let here : slice_get e.batches place ≡ Some batch = as_got e.batches place batch (at_prefix s'.seen e.batches w.seen place batch gains.at) in
         record {
           added = place ∷ [];
           as_many = omega (arith, ap (λ (own : List ℕ). length own) gains.own);
-          each = λ i h. elim (among_cases i (place ∷ []) s.own (subst (Among i) gains.own h)) [ inl new ↦ inl new | inr old ↦ inr old ];
-          later = λ i h. elim h [ inl is ↦ omega (arith, is, from, gains.behind) | inr none ↦ absurd none ];
-          below = λ i h. elim h [ inl is ↦ omega (arith, is, to, at_below s'.seen place batch gains.at) | inr none ↦ absurd none ];
+          each = λ i h. elim (within_cases place s.own i (subst (λ (l : List ℕ). Contains l i) gains.own h)) [
+            | inl new ↦ inl (subst (λ (q : ℕ). Contains (place ∷ []) q) new (within_head place []))
+            | inr old ↦ inr old
+          ];
+          later = λ i h. elim (within_cases place [] i h) [ inl is ↦ omega (arith, is, from, gains.behind) | inr none ↦ absurd (none_within i none) ];
+          below = λ i h. elim (within_cases place [] i h) [
+            | inl is ↦ omega (arith, is, to, at_below s'.seen place batch gains.at)
+            | inr none ↦ absurd (none_within i none)
+          ];
           made = ap (λ (o : Option Batch). cons_option o []) has
               ∙ ap (λ (b : Batch). b ∷ []) (sym (get_or_from_slice_get e.batches place batch no_batch here));
           synced = λ r first count h told.
@@ -139,9 +142,9 @@ module _ (e : End) where
     idling reply own none other = record {
       added = [];
       as_many = omega (arith, ap (λ (o : List ℕ). length o) own);
-      each = λ i h. inr (subst (Among i) own h);
-      later = λ i h. absurd h;
-      below = λ i h. absurd h;
+      each = λ i h. inr (subst (λ (l : List ℕ). Contains l i) own h);
+      later = λ i h. absurd (none_within i h);
+      below = λ i h. absurd (none_within i h);
       made = ap (λ (o : Option Batch). cons_option o []) none;
       synced = λ r first count h told. absurd (other first count (ap (λ (x : Replied). x.said) (only reply r h) ∙ told));
     }

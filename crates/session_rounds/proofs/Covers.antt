@@ -1,40 +1,25 @@
 -- A list with each number of a range, and no more numbers than there are, is the range in another order.
-use Rattle.std.proofs.Common.{◌≡◌, ◌⊎◌, inl, inr, ℕ, zero, suc, ◌+◌, ◌<◌, ◌≤◌, List, [], ◌∷◌, ◌++◌, length, map, get_or, take, drop, IsPermutation, refl, sym, ap, ◌∙◌, subst, drop-cons, arith}
+use Rattle.std.specs.Prelude.{Contains}
+use Rattle.std.proofs.Common.{◌≡◌, ◌⊎◌, inl, inr, ℕ, zero, suc, ◌+◌, ◌<◌, ◌≤◌, List, [], ◌∷◌, length, map, get_or, take, drop, IsPermutation, refl, sym, ap, ◌∙◌, subst, drop-cons, arith}
 use Rattle.std.proofs.lemmas.List.Sorted.{IsPermutation-refl, IsPermutation-trans, IsPermutation-cons, IsPermutation-middle, length_permutation}
-use Rattle.publish_core.specs.Machine.{Among}
+use Rattle.wal_base.proofs.Laws.{none_within, within_cases, within_head, within_tail}
 
--- ---- what stands in a list
-
--- in the first of two lists, or in the second
-pub among_left : {A : Type 0} (x : A) (xs ys : List A) → Among x xs → Among x (xs ++ ys)
-among_left x [] ys h = absurd h
-among_left x (y ∷ xs) ys h = elim h [ inl e ↦ inl e | inr m ↦ inr (among_left x xs ys m) ]
-
-pub among_right : {A : Type 0} (x : A) (xs ys : List A) → Among x ys → Among x (xs ++ ys)
-among_right x [] ys h = h
-among_right x (y ∷ xs) ys h = inr (among_right x xs ys h)
-
-pub among_cases : {A : Type 0} (x : A) (xs ys : List A) → Among x (xs ++ ys) → Among x xs ⊎ Among x ys
-among_cases x [] ys h = inr h
-among_cases x (y ∷ xs) ys h = elim h [
-  | inl e ↦ inl (inl e)
-  | inr m ↦ elim (among_cases x xs ys m) [ inl a ↦ inl (inr a) | inr b ↦ inr b ]
-]
+-- ---- what is taken out of a list
 
 -- a list but for one element of it
 record TakesOut {A : Type 0} (x : A) (xs : List A) : Type 0 where
   pub rest : List A
   pub permuted : IsPermutation xs (x ∷ rest)
-  pub others : (y : A) → Among y xs → (y ≡ x) ⊎ Among y rest
+  pub others : (y : A) → Contains xs y → (y ≡ x) ⊎ Contains rest y
 
 -- each element can be taken out
-taken_out : {A : Type 0} (x : A) (xs : List A) → Among x xs → TakesOut x xs
-taken_out x [] h = absurd h
-taken_out {A = A} x (y ∷ ys) h = elim h [
+taken_out : {A : Type 0} (x : A) (xs : List A) → Contains xs x → TakesOut x xs
+taken_out x [] h = absurd (none_within x h)
+taken_out {A = A} x (y ∷ ys) h = elim (within_cases y ys x h) [
   | inl e ↦ record {
     rest = ys;
-    permuted = subst (λ (z : A). IsPermutation (y ∷ ys) (z ∷ ys)) (sym e) (IsPermutation-refl (y ∷ ys));
-    others = λ z m. elim m [ inl f ↦ inl (f ∙ sym e) | inr k ↦ inr k ];
+    permuted = subst (λ (z : A). IsPermutation (y ∷ ys) (z ∷ ys)) e (IsPermutation-refl (y ∷ ys));
+    others = λ z m. elim (within_cases y ys z m) [ inl f ↦ inl (sym f ∙ e) | inr k ↦ inr k ];
   }
   | inr m ↦
       let t : TakesOut x ys = taken_out x ys m in
@@ -43,9 +28,9 @@ taken_out {A = A} x (y ∷ ys) h = elim h [
         permuted =
             IsPermutation-trans (y ∷ ys) (y ∷ x ∷ t.rest) (x ∷ y ∷ t.rest) (IsPermutation-cons y ys (x ∷ t.rest) t.permuted)
             (IsPermutation-middle (y ∷ []) x t.rest);
-        others = λ z k. elim k [
-          | inl f ↦ inr (inl f)
-          | inr l ↦ elim (t.others z l) [ inl f ↦ inl f | inr r ↦ inr (inr r) ]
+        others = λ z k. elim (within_cases y ys z k) [
+          | inl f ↦ inr (subst (λ (w : A). Contains (y ∷ t.rest) w) f (within_head y t.rest))
+          | inr l ↦ elim (t.others z l) [ inl f ↦ inl f | inr r ↦ inr (within_tail y t.rest z r) ]
         ];
       }
 ]
@@ -59,7 +44,7 @@ range low (suc n) = low ∷ range (suc low) n
 
 -- Each of them stands in the list.
 abbrev pub Covers : ℕ → ℕ → List ℕ → Type 0
-Covers low n places = (i : ℕ) → low ≤ i → i < low + n → Among i places
+Covers low n places = (i : ℕ) → low ≤ i → i < low + n → Contains places i
 
 -- without the first one, the list has the others
 rest_covers : (n low : ℕ) (places : List ℕ) (t : TakesOut low places) → Covers low (suc n) places → Covers (suc low) n t.rest
@@ -68,7 +53,7 @@ rest_covers n low places t covers i from below = elim (t.others i (covers i (ome
   | inr h ↦ h
 ]
 
-first_covered : (n low : ℕ) (places : List ℕ) → Covers low (suc n) places → Among low places
+first_covered : (n low : ℕ) (places : List ℕ) → Covers low (suc n) places → Contains places low
 first_covered n low places covers = covers low (omega arith) (omega arith)
 
 -- It has no fewer elements than the range.

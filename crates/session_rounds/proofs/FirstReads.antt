@@ -7,6 +7,7 @@ use Rattle.commit_pipeline.specs.Openings.{Opening}
 use Rattle.commit_pipeline.specs.declared.standing.Standing.{Standing}
 use Rattle.commit_pipeline.specs.Standings.{Idles}
 use Rattle.wal_base.specs.declared.error.NoMemory.{NoMemory}
+use Rattle.wal_base.proofs.Laws.{prefix_same, prefix_then}
 use Rattle.commit_pipeline.specs.Commits.{TellsRead, MissesRead}
 use Rattle.commit_pipeline.specs.Meeting.{StaysOn, StayOn}
 use Rattle.session_rounds.specs.Players.{FirstReads}
@@ -15,7 +16,7 @@ use Rattle.session_rounds.specs.Players.{FirstReads}
 
 stays_still : (s : Standing) → StaysOn s s
 stays_still s = record {
-  goes_on = record { seen = λ k b at. at; acked = le_refl s.acked; told = le_refl s.told };
+  goes_on = record { seen = prefix_same s.seen; acked = le_refl s.acked; told = le_refl s.told };
   own = refl;
   dead = refl;
 }
@@ -23,7 +24,7 @@ stays_still s = record {
 stays_then : (s mid new : Standing) → StaysOn s mid → StaysOn mid new → StaysOn s new
 stays_then s mid new one two = record {
   goes_on = record {
-    seen = λ k b at. two.goes_on.seen k b (one.goes_on.seen k b at);
+    seen = prefix_then s.seen mid.seen new.seen one.goes_on.seen two.goes_on.seen;
     acked = omega (arith, one.goes_on.acked, two.goes_on.acked);
     told = omega (arith, one.goes_on.told, two.goes_on.told);
   };

@@ -2,9 +2,10 @@
 use Rattle.std.proofs.Common.{◌≡◌, ℕ, zero, suc, ◌≤◌, ◌<◌, Bool, List, [], ◌∷◌, length, Some, IsTrue, refl, sym, subst, le_refl, arith}
 use Rattle.std.specs.Prelude.{slice_get}
 use Rattle.std.proofs.lemmas.Option.{slice_get_within}
+use Rattle.wal_base.specs.Prefixes.{IsPrefixOf}
+use Rattle.wal_base.proofs.Laws.{prefix_same, prefix_then}
 use Rattle.batch_repr.specs.declared.batch.Batch.{Batch}
 use Rattle.batch_repr.specs.Batches.{IsContiguous}
-use Rattle.commit_queue.specs.Rule.{IsPrefix}
 use Rattle.session_script.specs.declared.script.Act.{Act}
 use Rattle.session_script.specs.declared.script.Act.TheVariants.{Commit, Get}
 use Rattle.session_script.specs.declared.script.Round.{Round}
@@ -17,13 +18,12 @@ use Rattle.commit_pipeline.specs.Standings.{SeesOn}
 use Rattle.commit_pipeline.specs.Meeting.{StaysOn, HaveMet}
 use Rattle.session_rounds.specs.Acts.{Does, DoesLines}
 use Rattle.session_rounds.specs.Playing.{PlaysRound, PlaysRounds}
-use Rattle.session_rounds.proofs.IsPrefix.{prefix_same, prefix_then}
 
 -- ---- one session
 
 -- It has seen no less, and was told of no fewer deaths.
 pub record Follows (s s' : Standing) : Type 0 where
-  pub seen : IsPrefix s.seen s'.seen
+  pub seen : IsPrefixOf s.seen s'.seen
   pub acked : s.acked ≤ s'.acked
   pub dead : s.dead ≤ s'.dead
   pub told : s.told ≤ s'.told
@@ -85,7 +85,7 @@ pub record End : Type 0 where
 
 -- What a session was told and has seen is of that end.
 pub record IsWithin (e : End) (s : Standing) : Type 0 where
-  pub seen : IsPrefix s.seen e.batches
+  pub seen : IsPrefixOf s.seen e.batches
   pub acked : s.acked ≤ e.most
   pub dead : 0 < s.dead → IsTrue e.died
 

@@ -2,12 +2,12 @@
 use Rattle.std.proofs.Common.{◌≡◌, inl, inr, ℕ, ◌+◌, ◌≤◌, Bool, List, [], ◌∷◌, ◌++◌, length, take, Option, Some, sym, ap, ◌∙◌, subst, arith}
 use Rattle.std.specs.Prelude.{slice_get}
 use Rattle.wal_base.specs.declared.entry.Entry.{Entry}
+use Rattle.wal_base.specs.Prefixes.{IsPrefixOf}
+use Rattle.wal_base.proofs.Laws.{at_prefix, longer_prefix}
 use Rattle.batch_repr.specs.declared.batch.Batch.{Batch}
 use Rattle.batch_repr.specs.Batches.{count_of, end_after, answer}
 use Rattle.batch_repr.proofs.Laws.{end_append}
-use Rattle.publish_core.proofs.Laws.{at_below}
-use Rattle.commit_queue.specs.Rule.{IsPrefix}
-use Rattle.commit_queue.proofs.Laws.{at_end_of, longer_prefix}
+use Rattle.commit_queue.proofs.Laws.{at_end_of, at_below}
 use Rattle.session_script.specs.declared.script.Act.{Act}
 use Rattle.session_script.specs.declared.script.Act.TheVariants.{Commit, Get}
 use Rattle.session_script.specs.declared.replies.Said.{Said}
@@ -19,7 +19,7 @@ use Rattle.commit_pipeline.specs.Numbering.{numbered}
 use Rattle.commit_pipeline.specs.Standings.{GainsOwn}
 use Rattle.commit_pipeline.specs.Commits.{end_at, Commits, SeesExhausted}
 use Rattle.session_rounds.specs.Acts.{Does, DoesLines}
-use Rattle.session_rounds.proofs.IsPrefix.{get_after, take_after, as_got, row_end, answer_seen}
+use Rattle.session_rounds.proofs.Places.{get_after, take_after, as_got, row_end, answer_seen}
 use Rattle.session_rounds.proofs.Follows.{End, IsWithin, within_before, lines_follow}
 
 module _ (e : End) where
@@ -39,7 +39,7 @@ module _ (e : End) where
   AnswersFrom n replies end = AnswersInTurn (first_of e.opening) store (length e.opening.base) e.died n replies end
 
   -- what was visible after so many of the batches that are seen
-  visible_after_place : (seen : List Batch) (p : ℕ) → IsPrefix seen e.batches → p ≤ length seen
+  visible_after_place : (seen : List Batch) (p : ℕ) → IsPrefixOf seen e.batches → p ≤ length seen
       → end_after (first_of e.opening) (take (in_store p) store) ≡ end_at e.opening seen p
   visible_after_place seen p pre within =
       ap (end_after (first_of e.opening)) (take_after e.opening.base e.batches p)
@@ -61,7 +61,7 @@ module _ (e : End) where
   module _ (s s' : Standing) (w : IsWithin e s') where
     -- a batch that it has gained stands in the store
     stands : (batch : Batch) (place : ℕ) → GainsOwn batch place s s' → slice_get store (in_store place) ≡ Some batch
-    stands batch place gains = get_after e.opening.base e.batches place ∙ as_got e.batches place batch (w.seen place batch gains.at)
+    stands batch place gains = get_after e.opening.base e.batches place ∙ as_got e.batches place batch (at_prefix s'.seen e.batches w.seen place batch gains.at)
 
     gained : (act : Act) (said : Said) (entries : List Entry) (first count : ℕ) (c : Commits entries first count s s')
         → AnswersAt (in_store c.place) act (in_store c.place + 1) said → AnsweredWithin s s' act said

@@ -14,7 +14,7 @@ use Rattle.commit_pipeline.specs.Ending.{owned, EachOnce}
 use Rattle.session_rounds.specs.Playing.{PlaysRound}
 use Rattle.session_rounds.specs.Legality.{SyncedAreAmong}
 use Rattle.session_rounds.proofs.Covers.{range, at_range}
-use Rattle.session_rounds.proofs.IsPrefix.{drop_after}
+use Rattle.session_rounds.proofs.Places.{drop_after}
 use Rattle.session_rounds.proofs.Follows.{End, AllWithin, has_some}
 use Rattle.session_rounds.proofs.InTurn.{store, in_store, AnswersFrom, in_turn}
 use Rattle.session_rounds.proofs.BySessions.{by_sessions, no_reply, dealt, deals}

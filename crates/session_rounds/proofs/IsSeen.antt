@@ -2,10 +2,10 @@
 use Rattle.std.proofs.Common.{◌≡◌, inl, inr, ℕ, zero, suc, ◌≤◌, ◌<◌, Bool, true, List, [], ◌∷◌, length, Contains, refl, sym, subst, arith}
 use Rattle.std.proofs.lemmas.List.Elements.{recursion_from_All}
 use Rattle.std.proofs.lemmas.Option.{slice_get_within, slice_get_read, get_or_from_slice_get}
+use Rattle.wal_base.proofs.Laws.{prefix_then, prefix_whole, none_within}
 use Rattle.batch_repr.specs.declared.batch.Batch.{Batch}
 use Rattle.disk_face.specs.View.{DiskView}
 use Rattle.failover_writer.specs.State.{State}
-use Rattle.publish_core.specs.Machine.{Among}
 use Rattle.session_script.specs.declared.script.Line.{Line}
 use Rattle.session_script.specs.declared.script.Round.{Round}
 use Rattle.session_script.specs.Legal.{Replied}
@@ -17,7 +17,6 @@ use Rattle.commit_pipeline.specs.Meeting.{StayOn, HaveMet}
 use Rattle.commit_pipeline.specs.Ending.{owned, EachOnce, Finishes}
 use Rattle.session_rounds.specs.Playing.{PlaysRound, PlaysRounds}
 use Rattle.session_script.specs.Script.{NameSessions}
-use Rattle.session_rounds.proofs.IsPrefix.{prefix_then, prefix_whole}
 use Rattle.session_rounds.proofs.Follows.{Follows, End, AllWithin, has_some, stays_follows, before_meeting, before_rounds, all_before}
 use Rattle.session_rounds.proofs.AreOwned.{SeenFrom, greatest, greatest_least, greatest_all, seen_by_each, round_course, same_owned}
 use Rattle.session_rounds.proofs.AreLegal.{none_owned, the_end, all_within}
@@ -27,14 +26,15 @@ use Rattle.session_rounds.proofs.AreLegal.{none_owned, the_end, all_within}
 -- Each session has seen so many batches at least, and of these are all that the sessions have made.
 record MadeAreSeen (low : ℕ) (ss : List Standing) : Type 0 where
   seen : SeenFrom low ss
-  below : (i : ℕ) → Among i (owned ss) → i < low
+  below : (i : ℕ) → Contains (owned ss) i → i < low
 
 module _ (e : End) where
   -- new sessions have made none
   none_made : (ss : List Standing) → AreNew (length ss) ss → MadeAreSeen 0 ss
   none_made ss new = record {
     seen = λ i s here. omega arith;
-    below = λ i h. absurd (subst (Among i) (none_owned e ss (recursion_from_All (λ (s : Standing). s ≡ new_standing) ss new.each)) h);
+    below = λ i h. absurd (none_within i (subst (λ (l : List ℕ). Contains l i)
+        (none_owned e ss (recursion_from_All (λ (s : Standing). s ≡ new_standing) ss new.each)) h));
   }
 
   -- What is made in a round is seen by all once they have met,
@@ -44,7 +44,7 @@ module _ (e : End) where
       let course = round_course e low (greatest low mid) lines replies ss mid plays within were.seen (greatest_all low mid) in
       record {
         seen = seen_by_each e low lines replies ss mid met plays meets were.seen;
-        below = λ i h. elim (course.each i (subst (Among i) (same_owned e mid met meets.stay) h)) [
+        below = λ i h. elim (course.each i (subst (λ (l : List ℕ). Contains l i) (same_owned e mid met meets.stay) h)) [
           | inl added ↦ course.below i added
           | inr before ↦ omega (arith, were.below i before, greatest_least low mid)
         ];

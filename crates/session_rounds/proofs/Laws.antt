@@ -1,3 +1,2 @@
 -- What the crates above cite of these proofs, and all that they may.
 pub use Rattle.session_rounds.proofs.HavePlayed.{none_played, none_more, more_then}
-pub use Rattle.session_rounds.proofs.IsPrefix.{prefix_whole}

@@ -1,7 +1,7 @@
 -- What the crates above cite of these proofs, and all that they may.
 pub mod Laws
 mod Covers
-mod IsPrefix
+mod Places
 mod Follows
 mod InTurn
 mod BySessions

@@ -1,6 +1,7 @@
 -- What the players of rounds have done, and what their end tells (docs/formats/program.md, "The run of a script").
 use Rattle.std.specs.Prelude.{◌≡◌, ◌≢◌, ◌⊎◌, ◌++◌, ℕ, Bool, List, [], ◌∷◌, length, map, None, Contains, IsTrue}
 use Rattle.std.specs.List.{AllByRecursion}
+use Rattle.wal_base.specs.Prefixes.{IsPrefixOf}
 use Rattle.batch_repr.specs.declared.batch.Batch.{Batch}
 use Rattle.batch_repr.specs.Batches.{end_after}
 use Rattle.disk_face.specs.View.{DiskView}
@@ -11,7 +12,6 @@ use Rattle.session_script.specs.declared.script.Round.{Round}
 use Rattle.session_script.specs.declared.script.StallLine.{StallLine}
 use Rattle.session_script.specs.Legal.{Replied, AreLegal}
 use Rattle.session_script.specs.Lasting.{DeathLasts}
-use Rattle.commit_queue.specs.Rule.{IsPrefix}
 use Rattle.commit_pipeline.specs.Openings.{Opening, first_of}
 use Rattle.commit_pipeline.specs.declared.standing.Standing.{Standing}
 use Rattle.commit_pipeline.specs.declared.fault.Reply.{Reply}
@@ -76,7 +76,7 @@ pub record EndsPlay (tells : Bool) (opening : Opening) (readers : ReadersView) (
   pub keeps : JournalOutcome tells opening.start batches state v
   pub legally : (rounds : List Round) (answers : List (List Answer)) → HavePlayed opening rounds answers readers.met
       → ArePlayedLegally opening rounds answers readers.met batches state
-  pub within : (s : Standing) → Contains readers.now s → IsPrefix s.seen batches
+  pub within : (s : Standing) → Contains readers.now s → IsPrefixOf s.seen batches
   pub visible_is : visible ≡ end_after (first_of opening) (opening.base ++ batches)
   pub count_is : count ≡ length batches
 

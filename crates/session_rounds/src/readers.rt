@@ -38,6 +38,7 @@ impl<'a, D: Disk, G: Gate, N: PipeName, M: Ledger> Model for Readers<'a, D, G, N
 
 impl<'a, D: Disk, G: Gate, N: PipeName, M: Ledger> Readers<'a, D, G, N, M> {
     /// All sessions of a pipeline, which have just met.
+    #[tactic(auto, using(crate::proofs::FirstReads::met_still))]
     pub fn new(pipe: Pipeline<'a, D, G, N, M>, sessions: Sessions<N, M>) -> Readers<'a, D, G, N, M>
         requires all { (length sessions.items ≡ N.parts) × (length sessions.items + length sessions.items ≡ M.parts) }
         ensures { (result.met ≡ sessions.items) × (result.now ≡ sessions.items) }

@@ -8,7 +8,7 @@ use Rattle.std.proofs.lemmas.Fmt.{decimal_injective}
 use Rattle.std.proofs.lemmas.List.Splits.{slice_split-cons_no}
 use Rattle.batch_repr.specs.declared.limits.TheConstants.{SESSIONS_MAX}
 use Rattle.wal_base.specs.declared.entry.Entry.{Entry}
-use Rattle.wal_base.specs.declared.entry.Entry.TheVariants.{Set, Delete, Note}
+use Rattle.wal_base.specs.declared.entry.Entry.TheVariants.{Set, Delete, Note, RangeDelete}
 use Rattle.disk_face.specs.declared.Side.{Side}
 use Rattle.disk_face.specs.declared.Side.TheVariants.{Primary, Secondary}
 use Rattle.session_script.specs.declared.script.Act.{Act}
@@ -32,6 +32,14 @@ spells_one part (Delete k) (Note t) a b = let e = sym a.0 ∙ b.0 in absurd cc
 spells_one part (Note s) (Set l w) a b = let e = sym a.0 ∙ b.0 in absurd cc
 spells_one part (Note s) (Delete l) a b = let e = sym a.0 ∙ b.0 in absurd cc
 spells_one part (Note s) (Note t) a b = let e = sym a.0 ∙ b.0 in let texts : s ≡ t = cc in ap Note texts
+spells_one part (Set k v) (RangeDelete l w) a b = let e = sym a.0 ∙ b.0 in absurd cc
+spells_one part (Delete k) (RangeDelete l w) a b = let e = sym a.0 ∙ b.0 in absurd cc
+spells_one part (Note s) (RangeDelete l w) a b = let e = sym a.0 ∙ b.0 in absurd cc
+spells_one part (RangeDelete k v) (Set l w) a b = let e = sym a.0 ∙ b.0 in absurd cc
+spells_one part (RangeDelete k v) (Delete l) a b = let e = sym a.0 ∙ b.0 in absurd cc
+spells_one part (RangeDelete k v) (Note t) a b = let e = sym a.0 ∙ b.0 in absurd cc
+spells_one part (RangeDelete k v) (RangeDelete l w) a b = let e = sym a.0 ∙ b.0 in
+    let starts : k ≡ l = cc in let ends : v ≡ w = cc in λ i. RangeDelete (starts i) (ends i)
 
 pub spell_one : (parts : List (List (List ℕ))) (a b : List Entry) → SpellEntries a parts → SpellEntries b parts → a ≡ b
 unfolding SpellEntries

@@ -8,7 +8,7 @@ use Rattle.std.proofs.lemmas.List.Elements.{All-nil, All-cons}
 use Rattle.std.proofs.lemmas.List.Splits.{slice_split_at, slice_split_none, slice_split-cons_yes, slice_split-cons_no}
 use Rattle.std.proofs.lemmas.Slice.Eq.{bytes_eq-Decides}
 use Rattle.wal_base.specs.declared.entry.Entry.{Entry}
-use Rattle.wal_base.specs.declared.entry.Entry.TheVariants.{Set, Delete, Note}
+use Rattle.wal_base.specs.declared.entry.Entry.TheVariants.{Set, Delete, Note, RangeDelete}
 use Rattle.session_script.specs.Words.{parts_of, IsWord, SpellsOneEntry, SpellEntries}
 use Rattle.session_script.proofs.OneScript.{spells_one}
 
@@ -32,6 +32,10 @@ has_none (Delete key) part s = subst (All (λ word. is_semicolon word ≡ false)
 has_none (Note text) part s = subst (All (λ word. is_semicolon word ≡ false)) (sym s.0)
     (All-cons (λ word. is_semicolon word ≡ false) (codes "note") (text ∷ []) refl
     (All-cons (λ word. is_semicolon word ≡ false) text [] (word_is_none text s.1) (All-nil (λ word. is_semicolon word ≡ false))))
+has_none (RangeDelete start end) part s = subst (All (λ word. is_semicolon word ≡ false)) (sym s.0)
+    (All-cons (λ word. is_semicolon word ≡ false) (codes "rdel") (start ∷ end ∷ []) refl
+    (All-cons (λ word. is_semicolon word ≡ false) start (end ∷ []) (word_is_none start s.1)
+    (All-cons (λ word. is_semicolon word ≡ false) end [] (word_is_none end s.2) (All-nil (λ word. is_semicolon word ≡ false)))))
 
 pub part_at : (part more : List (List ℕ)) (entry : Entry) → SpellsOneEntry entry part → parts_of (part ++ codes ";" ∷ more) ≡ part ∷ parts_of more
 unfolding parts_of
@@ -99,6 +103,17 @@ module _ (words a b c d : List (List ℕ)) (e : words ≡ a ++ b) (f : words ≡
   one_front (Note k) (Delete l) s t = let g = joined (codes "note" ∷ k ∷ []) (codes "del" ∷ l ∷ []) s.0 t.0 in absurd (omega (arith, ap lead g))
   one_front (Note k) (Note l) s t = let g = joined (codes "note" ∷ k ∷ []) (codes "note" ∷ l ∷ []) s.0 t.0 in
       (s.0 ∙ (λ i. codes "note" ∷ ap (λ (u : List (List ℕ)). get_or u 1 []) g i ∷ []) ∙ sym t.0, ap (λ (u : List (List ℕ)). drop 2 u) g)
+  one_front (Set k v) (RangeDelete l w) s t = let g = joined (codes "set" ∷ k ∷ v ∷ []) (codes "rdel" ∷ l ∷ w ∷ []) s.0 t.0 in absurd (omega (arith, ap lead g))
+  one_front (Delete k) (RangeDelete l w) s t = let g = joined (codes "del" ∷ k ∷ []) (codes "rdel" ∷ l ∷ w ∷ []) s.0 t.0 in absurd (omega (arith, ap lead g))
+  one_front (Note k) (RangeDelete l w) s t = let g = joined (codes "note" ∷ k ∷ []) (codes "rdel" ∷ l ∷ w ∷ []) s.0 t.0 in absurd (omega (arith, ap lead g))
+  one_front (RangeDelete k v) (Set l w) s t = let g = joined (codes "rdel" ∷ k ∷ v ∷ []) (codes "set" ∷ l ∷ w ∷ []) s.0 t.0 in absurd (omega (arith, ap lead g))
+  one_front (RangeDelete k v) (Delete l) s t = let g = joined (codes "rdel" ∷ k ∷ v ∷ []) (codes "del" ∷ l ∷ []) s.0 t.0 in absurd (omega (arith, ap lead g))
+  one_front (RangeDelete k v) (Note l) s t = let g = joined (codes "rdel" ∷ k ∷ v ∷ []) (codes "note" ∷ l ∷ []) s.0 t.0 in absurd (omega (arith, ap lead g))
+  one_front (RangeDelete k v) (RangeDelete l w) s t = let g = joined (codes "rdel" ∷ k ∷ v ∷ []) (codes "rdel" ∷ l ∷ w ∷ []) s.0 t.0 in (
+    s.0 ∙ (λ i. codes "rdel" ∷ ap (λ (u : List (List ℕ)). get_or u 1 []) g i ∷ ap (λ (u : List (List ℕ)). get_or u 2 []) g i ∷ [])
+        ∙ sym t.0,
+    ap (λ (u : List (List ℕ)). drop 3 u) g,
+  )
 
 -- an entry more, at the end
 pub spell_push : (entries : List Entry) (parts : List (List (List ℕ))) (entry : Entry) (part : List (List ℕ)) → SpellEntries entries parts

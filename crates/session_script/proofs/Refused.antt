@@ -6,7 +6,7 @@ use Rattle.std.proofs.lemmas.Option.{slice_get_within}
 use Rattle.std.proofs.lemmas.List.{length-append, length-take, length-drop, take_all}
 use Rattle.std.proofs.lemmas.List.Sorted.{length_permutation}
 use Rattle.wal_base.specs.declared.entry.Entry.{Entry}
-use Rattle.wal_base.specs.declared.entry.Entry.TheVariants.{Set, Delete, Note}
+use Rattle.wal_base.specs.declared.entry.Entry.TheVariants.{Set, Delete, Note, RangeDelete}
 use Rattle.batch_repr.specs.declared.batch.Batch.{Batch}
 use Rattle.batch_repr.specs.declared.limits.TheConstants.{NUMBER_MAX, BATCHES_MAX}
 use Rattle.batch_repr.specs.Batches.{count_of, end_of, answer, end_after, IsContiguous, is_about, value_left, entries_in}
@@ -266,6 +266,7 @@ abbrev key_byte : Entry → ℕ
 key_byte (Set key value) = get_or key 0 0
 key_byte (Delete key) = 0
 key_byte (Note bytes) = 0
+key_byte (RangeDelete start end) = 0
 
 -- the first byte of the key that a batch sets
 abbrev first_byte : Option Batch → ℕ

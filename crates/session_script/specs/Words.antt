@@ -3,7 +3,7 @@ use Rattle.std.specs.Prelude.{◌≡◌, ◌≢◌, ℕ, ◌==◌, ◌||◌, ◌
 use Rattle.std.specs.List.{slice_split}
 use Rattle.std.specs.Str.{bytes_eq}
 use Rattle.wal_base.specs.declared.entry.Entry.{Entry}
-use Rattle.wal_base.specs.declared.entry.Entry.TheVariants.{Set, Delete, Note}
+use Rattle.wal_base.specs.declared.entry.Entry.TheVariants.{Set, Delete, Note, RangeDelete}
 
 -- the lines of a script: a line feed ends each, and may be left out at the end
 unfoldable pub lines_of : List ℕ → List (List ℕ)
@@ -24,11 +24,12 @@ IsWordByte b = (33 ≤ b) × (b ≤ 126) × (b ≢ 59)
 abbrev pub IsWord : List ℕ → Type 0
 IsWord word = (word ≢ []) × All IsWordByte word
 
--- `set K V`, `del K`, `note T`
+-- `set K V`, `del K`, `note T`, `rdel K K`
 abbrev pub SpellsOneEntry : Entry → List (List ℕ) → Type 0
 SpellsOneEntry (Set key value) words = (words ≡ codes "set" ∷ key ∷ value ∷ []) × IsWord key × IsWord value
 SpellsOneEntry (Delete key) words = (words ≡ codes "del" ∷ key ∷ []) × IsWord key
 SpellsOneEntry (Note bytes) words = (words ≡ codes "note" ∷ bytes ∷ []) × IsWord bytes
+SpellsOneEntry (RangeDelete start end) words = (words ≡ codes "rdel" ∷ start ∷ end ∷ []) × IsWord start × IsWord end
 
 -- Each part spells its entry.
 unfoldable pub SpellEntries : List Entry → List (List (List ℕ)) → Type 0

@@ -1,6 +1,6 @@
 //! The entries of a batch, as a line spells them.
 
-ghost use Rattle.std.specs.Prelude.{◌≡◌, ◌++◌, ◌∷◌, [], ℕ, List, IfOk, OnOk, IsErrOf};
+ghost use Rattle.std.specs.Prelude.{IfOk, IsErrOf};
 ghost use Rattle.wal_base.specs.declared.entry.Entry.{Entry};
 ghost use Rattle.session_script.specs.Words.{parts_of, SpellEntries};
 ghost use Rattle.session_script.specs.Next.{TakesEntry, HasNoEntry};
@@ -31,6 +31,11 @@ fn next_entry(words: &mut Pieces<'_>) -> Result<Entry, LineFault>
         b"note" => {
             let bytes = next_word(words)?;
             Ok(Entry::Note { bytes })
+        }
+        b"rdel" => {
+            let start = next_word(words)?;
+            let end = next_word(words)?;
+            Ok(Entry::RangeDelete { start, end })
         }
         _ => Err(LineFault::Bad),
     }

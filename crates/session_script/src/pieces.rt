@@ -1,6 +1,6 @@
 //! A text, taken piece by piece.
 
-ghost use Rattle.std.specs.Prelude.{◌≡◌, ◌≢◌, ◌≤◌, ◌^◌, ℕ, List, [], ◌∷◌, length, true, false, IfOk, IfSome, IfNone};
+ghost use Rattle.std.specs.Prelude.{◌≡◌, ◌≤◌, ◌^◌, ℕ, List, [], ◌∷◌, length, true, false, IfOk, IfSome, IfNone};
 ghost use Rattle.memchr.specs.Find.{IsFirstByte};
 ghost use Rattle.session_script.specs.Words.{lines_of, words_of};
 ghost use Rattle.session_script.specs.Cutting.{is_cut};

@@ -1,11 +1,10 @@
 //! A script, read line by line.
 
-ghost use Rattle.std.specs.Prelude.{◌≡◌, ◌<◌, ◌≤◌, ◌+◌, ◌++◌, ◌∷◌, [], ℕ, List, Option, length, IfOk, OnOk, IsErrOf, Err};
+ghost use Rattle.std.specs.Prelude.{◌≡◌, ◌<◌, ◌≤◌, ◌+◌, [], ℕ, length, IfOk, OnOk, IsErrOf, Err};
 ghost use Rattle.batch_repr.specs.declared.limits.TheConstants.{SESSIONS_MAX};
 ghost use Rattle.session_script.specs.declared.script.Saying.TheVariants as sayings;
 ghost use Rattle.session_script.specs.declared.fault.ScriptFault.TheVariants as faults;
 ghost use Rattle.session_script.specs.Words.{lines_of};
-ghost use Rattle.session_script.specs.Lines.{LineSays};
 ghost use Rattle.session_script.specs.Script.{IsScript, IsFirstBad, NamesItsSessions, script_numbers, sessions_named};
 ghost use Rattle.session_script.specs.Drafts.{empty_draft, with_saying, script_of, TakesLine, RefusesLine};
 

@@ -1,6 +1,6 @@
 //! What a line says.
 
-ghost use Rattle.std.specs.Prelude.{◌≡◌, ◌≤◌, ◌∷◌, [], ℕ, Bool, List, Option, codes, length, IfOk, IfSome, IfNone, IsErrOf};
+ghost use Rattle.std.specs.Prelude.{◌≡◌, ◌∷◌, Option, codes, IfOk, IfSome, IfNone, IsErrOf};
 ghost use Rattle.disk_face.specs.declared.Side.{Side};
 ghost use Rattle.batch_repr.specs.declared.limits.TheConstants.{KEY_MAX};
 ghost use Rattle.session_script.specs.declared.script.Saying.{Saying};

@@ -46,6 +46,9 @@ fn put_line(out: &mut Buf, alloc: Global, line: Line) -> Result<(), NoMemory> {
                     }
                     Entry::Delete { key } => put_parts(out, &[b"del", key.as_slice()])?,
                     Entry::Note { bytes } => put_parts(out, &[b"note", bytes.as_slice()])?,
+                    Entry::RangeDelete { start, end } => {
+                        put_parts(out, &[b"rdel", start.as_slice(), end.as_slice()])?
+                    }
                 }
             }
         }
@@ -82,7 +85,7 @@ fn shown(alloc: Global, script: Script) -> Result<Buf, NoMemory> {
 fn each_kind_of_line_is_read(rt: HostRuntime) -> Result<(), Fail> {
     let text = b"# all of them\n\
         stall p 1\n\
-        commit 63 sync set a 1 ; del b ; note t\n\
+        commit 63 sync set a 1 ; del b ; rdel c b ; note t\n\
         stall s 100000\n\
         \n\
         get 5 k\n\
@@ -96,7 +99,7 @@ fn each_kind_of_line_is_read(rt: HostRuntime) -> Result<(), Fail> {
     let expected = b"[\n\
         1 of primary\n\
         100000 of secondary\n\
-        63 sync set,a,1,del,b,note,t,\n\
+        63 sync set,a,1,del,b,rdel,c,b,note,t,\n\
         5 get,k,\n\
         ]\n\
         [\n\

@@ -1,14 +1,15 @@
 -- The pieces of a batch, applied one after the other: what is known amid them, and what of it after the last.
-use Rattle.std.proofs.Common.{◌≡◌, inl, inr, ⊎_elim, ℕ, ◌+◌, ◌≤◌, ◌<◌, List, ◌∷◌, Some, IsTrue, refl, sym, ap, ◌∙◌, subst, arith}
+use Rattle.std.specs.Prelude.{Contains}
+use Rattle.std.proofs.Common.{◌≡◌, ⊎_elim, ℕ, ◌+◌, ◌≤◌, ◌<◌, List, ◌∷◌, Some, IsTrue, refl, sym, ap, ◌∙◌, subst, arith}
 use mathlib.Core.Option.{some-injective}
 use lib.ListN.{get_elem?}
 use Rattle.std.proofs.lemmas.Bool.{cases_lt}
+use Rattle.wal_base.proofs.Laws.{none_within, within_cases, within_head, within_tail}
 use Rattle.batch_repr.specs.declared.batch.Batch.{Batch}
-use Rattle.arena_list.specs.Versions.{Version}
+use Rattle.memtable_shards.specs.Versions.{Version}
 use Rattle.memtable_shards.specs.Pieces.{PiecesLeft, IsNextPiece, NoPieceIsLeft}
 use Rattle.memtable_shards.specs.Versions.{touches, Gains, HaveOtherNumbers}
 use Rattle.memtable_shards.proofs.Laws.{next_is_piece, none_between, none_left}
-use Rattle.publish_core.specs.Machine.{Among}
 use Rattle.commit_queue.specs.declared.view.View.{View}
 use Rattle.commit_queue.specs.Calls.{CanMark, GivesApplied, HoldsAdmitted, HoldsUnapplied, IsAppliedAll}
 use Rattle.commit_queue.specs.Tells.{TakesShard}
@@ -84,7 +85,7 @@ amid_begins v pieces unapplied = record {
   at = unapplied.at;
   entries = unapplied.entries;
   first = unapplied.first;
-  below = λ k among. absurd (subst (Among k) unapplied.none among);
+  below = λ k among. absurd (none_within k (subst (λ (l : List ℕ). Contains l k) unapplied.none among));
   done = λ k before touch. absurd (omega (arith, before, unapplied.all));
 }
 
@@ -113,17 +114,18 @@ amid_goes_on v v' pieces shard piece amid next (only, one) = record {
   entries = amid.entries;
   first = amid.first;
   below = λ k among. ⊎_elim
-      (λ (is : k ≡ shard). omega (arith, is))
-      (λ (old : Among k v.pieces). let before = amid.below k old in omega (arith, before, next.on))
-      (subst (Among k) one among);
-  done = λ k before touch. subst (Among k) (sym one) (later k before touch);
+      (λ (is : shard ≡ k). omega (arith, is))
+      (λ (old : Contains v.pieces k). let before = amid.below k old in omega (arith, before, next.on))
+      (within_cases shard v.pieces k (subst (λ (l : List ℕ). Contains l k) one among));
+  done = λ k before touch. subst (λ (l : List ℕ). Contains l k) (sym one) (later k before touch);
 }
   where
-    later : (k : ℕ) → k < shard + 1 → IsTrue (touches amid.batch k) → Among k (shard ∷ v.pieces)
+    later : (k : ℕ) → k < shard + 1 → IsTrue (touches amid.batch k) → Contains (shard ∷ v.pieces) k
     later k before touch = ⊎_elim
-        (λ (old : k < pieces.from). inr (amid.done k old touch))
+        (λ (old : k < pieces.from). within_tail shard v.pieces k (amid.done k old touch))
         (λ (on : pieces.from ≤ k).
-        let least = none_between pieces amid.batch shard piece amid.entries amid.first next k touch on in inl (omega (arith, least, before)))
+        let least = none_between pieces amid.batch shard piece amid.entries amid.first next k touch on in
+        let is : shard ≡ k = omega (arith, least, before) in subst (λ (q : ℕ). Contains (shard ∷ v.pieces) q) is (within_head shard v.pieces))
         (cases_lt k pieces.from)
 
 -- Where no piece is left, all are applied.

@@ -1,10 +1,8 @@
 -- What is found among the same versions in another order.
 use Rattle.std.proofs.Common.{◌≡◌, ℕ, List, Some, sym, refl, ap, ◌∙◌, subst}
 use Rattle.std.specs.Prelude.{Option, None, Result, Ok, Err, IfOk, IsErrAnd, MatchResult}
-use Rattle.arena_list.specs.declared.found.Found.{Found}
-use Rattle.arena_list.specs.Versions.{Version}
-use Rattle.arena_list.specs.Newest.{FindsNewest, IsNewestOf, version_found}
-use Rattle.memtable_shards.specs.Newest.{value_found}
+use Rattle.memtable_shards.specs.Versions.{Version}
+use Rattle.memtable_shards.specs.Newest.{Found, FindsNewest, Told, told, TellsNewest, value_found}
 use Rattle.memtable_shards.specs.Versions.{shard_of, HasSameVersions}
 use Rattle.commit_queue.specs.declared.view.View.{View}
 use Rattle.commit_queue.specs.Calls.{GivesSame}
@@ -14,13 +12,15 @@ use Rattle.shard_gate.specs.Gates.{ReadsNewest}
 
 pub finds_same : (old new : List Version) (key : List ℕ) (below : ℕ) (found : Found) → HasSameVersions old new
     → FindsNewest new key below found → FindsNewest old key below found
-finds_same old new key below found same finds = go (version_found key found) finds
+finds_same old new key below found same finds = go (told found) finds
   where
-    go : (version : Option Version) → IsNewestOf new key below version → IsNewestOf old key below version
+    go : (it : Option Told) → TellsNewest new key below it → TellsNewest old key below it
     go None none = λ other stands. none other ((same other).1 stands)
-    go (Some version) (newest, its) = (
+    go (Some it) (version, newest, its) = (
+      version,
       record {
         stands = (same version).0 newest.stands;
+        about = newest.about;
         under = newest.under;
         last = λ other stands. newest.last other ((same other).1 stands);
       },

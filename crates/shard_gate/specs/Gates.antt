@@ -1,22 +1,19 @@
 -- What applying a piece and reading a key ask and tell (docs/formats/ring.md, "The shards of the table").
-use Rattle.std.specs.Prelude.{◌≡◌, ℕ, ◌<◌, List, ◌∷◌, Option, Some, IsTrue}
+use Rattle.std.specs.Prelude.{◌≡◌, ℕ, ◌<◌, List, ◌∷◌, Option, Some, IsTrue, Contains}
 use mathlib.Core.Option.{some}
 use lib.ListN.{get_elem?}
 use Rattle.atomic_table.specs.Seated.{TableId}
 use Rattle.batch_repr.specs.declared.batch.Batch.{Batch}
-use Rattle.arena_list.specs.declared.found.Found.{Found}
-use Rattle.arena_list.specs.Versions.{Version}
-use Rattle.arena_list.specs.Newest.{FindsNewest}
-use Rattle.memtable_shards.specs.Newest.{value_found}
+use Rattle.memtable_shards.specs.Versions.{Version}
+use Rattle.memtable_shards.specs.Newest.{Found, FindsNewest, value_found}
 use Rattle.memtable_shards.specs.Pieces.{PiecesLeft}
 use Rattle.memtable_shards.specs.Versions.{piece_in, shard_of, touches}
-use Rattle.publish_core.specs.Machine.{Among, ends}
 use Rattle.commit_queue.specs.declared.view.View.{View}
-use Rattle.commit_queue.specs.Rule.{numbers}
 use Rattle.commit_queue.specs.Calls.{IsAppliedAll}
 use Rattle.commit_queue.specs.Tables.{table_id_of}
 use Rattle.commit_queue.specs.Tells.{TakesShard}
 use Rattle.commit_queue.specs.Views.{applied_view, busy_view, given_view, taking_view}
+use Rattle.commit_queue.specs.Shown.{end_of_first}
 use Rattle.shard_gate.specs.declared.gate.ShardGate.{ShardGate}
 use Rattle.shard_gate.specs.declared.reading.ReadBusy.{ReadBusy}
 use Rattle.shard_gate.specs.declared.reading.ReadBusy.TheVariants.{Busy, NoMemory}
@@ -35,7 +32,7 @@ pub record HoldsPiece (v : View) (shard : ℕ) (piece : List Version) : Type 0 w
   pub at : get_elem? v.history index ≡ some batch
   pub own : piece ≡ piece_in shard batch
   pub has_piece : IsTrue (touches batch shard)
-  pub new : Among shard v.pieces → ⊥
+  pub new : Contains v.pieces shard → ⊥
 
 -- The shard was taken, and given back with the piece of the batch that the seat holds.
 abbrev pub AppliesPiece : View → ℕ → View → Type 0
@@ -71,8 +68,8 @@ pub record IsAmidPieces (v : View) (pieces : PiecesLeft) : Type 0 where
   pub at : get_elem? v.history index ≡ some batch
   pub entries : pieces.entries ≡ batch.entries
   pub first : pieces.first ≡ Some batch.first
-  pub below : (k : ℕ) → Among k v.pieces → k < pieces.from
-  pub done : (k : ℕ) → k < pieces.from → IsTrue (touches batch k) → Among k v.pieces
+  pub below : (k : ℕ) → Contains v.pieces k → k < pieces.from
+  pub done : (k : ℕ) → k < pieces.from → IsTrue (touches batch k) → Contains v.pieces k
 
 -- The batch that the seat holds is applied in each shard where it leaves a version.
 abbrev pub AppliesAll : View → View → Type 0
@@ -82,7 +79,7 @@ AppliesAll v v' = OnlyApplies v v' × ((index : ℕ) → v.seat.held ≡ Some in
 
 -- the greatest visible number that the seat has seen
 abbrev pub visible_seen : View → ℕ
-visible_seen v = ends numbers v.base v.history v.seat.published
+visible_seen v = end_of_first v.base v.history v.seat.published
 
 -- The value is that of the newest version of the key below the number, among the versions of its shard as it was taken.
 pub record ReadsNewest (v : View) (key : List ℕ) (below : ℕ) (value : Option (List ℕ)) (v' : View) : Type 0 where

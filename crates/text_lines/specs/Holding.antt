@@ -1,11 +1,11 @@
 -- What is held while a store is printed: each key that has a value, with it, both borrowed from the batches (docs/formats/program.md, "The text of a store").
-use Rattle.std.specs.Prelude.{ℕ, List, cond, Option, option_map}
+use Rattle.std.specs.Prelude.{ℕ, List, cond, Option, None, option_map}
 use Rattle.std.specs.Borrow.{Bor}
 use Rattle.std.specs.Ordering.{nat_cmp}
 use Rattle.std.specs.Cmp.Lexicographic.{slice_cmp}
 use Rattle.std.specs.BTreeMap.{BTreeMap, get_by}
 use Rattle.wal_base.specs.declared.entry.Entry.{Entry}
-use Rattle.batch_repr.specs.Batches.{is_about, value_left}
+use Rattle.batch_repr.specs.Batches.{is_within, is_about, value_left}
 use Rattle.text_lines.specs.Store.{Held}
 
 -- borrowed keys with borrowed values
@@ -19,6 +19,10 @@ held holding key = option_map (λ value. value.now) (get_by (λ own. slice_cmp n
 -- the value of a key after an entry, from the one before it
 abbrev pub changed : List ℕ → Option (List ℕ) → Entry → Option (List ℕ)
 changed key before entry = cond (is_about key entry) (value_left entry) before
+
+-- the value of a key once each key within a range is let go
+abbrev pub let_go : List ℕ → List ℕ → List ℕ → Option (List ℕ) → Option (List ℕ)
+let_go start end key before = cond (is_within start end key) None before
 
 -- a borrowed key with its value, as the store has them
 abbrev pub shown : Bor (List ℕ) × Bor (List ℕ) → Held

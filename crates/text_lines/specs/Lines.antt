@@ -3,7 +3,7 @@ use Rattle.std.specs.Prelude.{ℕ, Bool, true, false, List, [], ◌∷◌, ◌++
 use Rattle.std.specs.List.{flat_map}
 use Rattle.std.specs.Fmt.{decimal}
 use Rattle.wal_base.specs.declared.entry.Entry.{Entry}
-use Rattle.wal_base.specs.declared.entry.Entry.TheVariants.{Set, Delete, Note}
+use Rattle.wal_base.specs.declared.entry.Entry.TheVariants.{Set, Delete, Note, RangeDelete}
 use Rattle.batch_repr.specs.declared.batch.Batch.{Batch}
 use Rattle.batch_repr.specs.Batches.{count_of}
 use Rattle.disk_face.specs.declared.Side.{Side}
@@ -12,11 +12,12 @@ use Rattle.disk_face.specs.Names.{seg_text}
 use Rattle.text_lines.specs.declared.segments.SegmentLine.{SegmentLine}
 use Rattle.text_lines.specs.Printed.{printed}
 
--- `set K V`, `del K` or `note T`
+-- `set K V`, `del K`, `note T` or `rdel K K`
 abbrev pub entry_line : Entry → List ℕ
 entry_line (Set key value) = codes "set " ++ printed key ++ codes " " ++ printed value ++ 10 ∷ []
 entry_line (Delete key) = codes "del " ++ printed key ++ 10 ∷ []
 entry_line (Note bytes) = codes "note " ++ printed bytes ++ 10 ∷ []
+entry_line (RangeDelete start end) = codes "rdel " ++ printed start ++ codes " " ++ printed end ++ 10 ∷ []
 
 -- `batch FIRST COUNT`, and a line for each entry
 abbrev pub batch_lines : Batch → List ℕ

@@ -57,6 +57,16 @@ fn put_entry(out: &mut Buf, entry: &Entry) -> Result<(), NoMemory>
         }
         Entry::Delete { key } => put_about(out, b"del ", key.as_slice()),
         Entry::Note { bytes } => put_about(out, b"note ", bytes.as_slice()),
+        Entry::RangeDelete { start, end } => {
+            let line = [
+                Piece::Text(b"rdel "),
+                Piece::Printed(start.as_slice()),
+                Piece::Text(b" "),
+                Piece::Printed(end.as_slice()),
+                Piece::Text(b"\n"),
+            ];
+            put_pieces(out, &line)
+        }
     }
 }
 

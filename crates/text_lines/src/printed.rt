@@ -1,6 +1,6 @@
 //! Bytes and numbers, as they are printed.
 
-ghost use Rattle.std.specs.Prelude.{◌≡◌, ◌≤◌, ◌<◌, ◌==◌, ◌&&◌, ◌++◌, ◌∷◌, [], false, not, nat_le, decimal, take, length, OnOk, OnErr};
+ghost use Rattle.std.specs.Prelude.{◌≡◌, ◌<◌, ◌==◌, ◌&&◌, ◌++◌, false, not, nat_le, decimal, take, length, OnOk, OnErr};
 ghost use Rattle.text_lines.specs.Printed.{hex_digit, printed_byte, printed};
 
 use crate::pieces::whole_or_none;

@@ -1,12 +1,13 @@
 //! The store that batches leave, a line for each key that has a value.
 
-ghost use Rattle.std.specs.Prelude.{◌≡◌, ℕ, List, ◌++◌, None, fold, map, take, length, OnOk, OnErr, IfOk};
+ghost use Rattle.std.specs.Prelude.{◌≡◌, ℕ, List, ◌++◌, None, true, fold, map, take, length, OnOk, OnErr, IfOk, IfSome, IfNone, IsSome, IsTrue};
 ghost use Rattle.std.specs.List.{flat_map};
 ghost use Rattle.std.specs.Ordering.{nat_cmp};
 ghost use Rattle.std.specs.Cmp.Lexicographic.{slice_cmp};
 ghost use Rattle.std.specs.BTreeMap.{IsOrdered};
-ghost use Rattle.batch_repr.specs.Batches.{entries_in};
-ghost use Rattle.text_lines.specs.Holding.{held, changed, shown};
+ghost use Rattle.std.specs.Ordering.{is_lt};
+ghost use Rattle.batch_repr.specs.Batches.{is_within, entries_in};
+ghost use Rattle.text_lines.specs.Holding.{held, changed, let_go, shown};
 ghost use Rattle.text_lines.specs.Store.{held_line, IsStoreText};
 
 use crate::pieces::whole_or_none;
@@ -67,8 +68,41 @@ fn change_by<'b>(
             holding.remove(&key.as_slice());
         }
         Entry::Note { .. } => {}
+        Entry::RangeDelete { start, end } => {
+            let_go_of(holding, start.as_slice(), end.as_slice());
+        }
     }
     Ok(())
+}
+
+/// A key that is held within a range.
+fn first_within<'b>(
+    holding: &BTreeMap<&'b [u8], &'b [u8]>,
+    start: &'b [u8],
+    end: &'b [u8],
+) -> Option<&'b [u8]>
+    requires { IsTrue (is_lt (slice_cmp nat_cmp start.now end.now)) }
+    ensures within { IfSome result (λ key. is_within start.now end.now key.now ≡ true) }
+    ensures held { IfSome result (λ key. IsSome (held holding.now key.now)) }
+    ensures none { IfNone result ((key : List ℕ) → is_within start.now end.now key ≡ true → held holding.now key ≡ None) }
+{
+    match holding.range(start..end).next() {
+        Some((key, _)) => Some(*key),
+        None => None,
+    }
+}
+
+/// Lets each key within a range go. Each turn takes one out that was put in before, so all range deletes together take no
+/// more turns than there are entries.
+fn let_go_of<'b>(holding: &mut BTreeMap<&'b [u8], &'b [u8]>, start: &'b [u8], end: &'b [u8])
+    ensures { (key : List ℕ) → held holding.new key ≡ let_go start.now end.now key (held holding.old key) }
+{
+    if !start.cmp(&end).is_lt() {
+        return;
+    }
+    while let Some(key) = first_within(holding, start, end) {
+        holding.remove(&key);
+    }
 }
 
 /// Adds a line for each key that is held. After an `Err` a part of them may stand there.

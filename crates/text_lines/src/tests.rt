@@ -18,6 +18,7 @@ enum Change {
     Set(&'static [u8], &'static [u8]),
     Delete(&'static [u8]),
     Note(&'static [u8]),
+    RangeDelete(&'static [u8], &'static [u8]),
 }
 
 fn add_all(builder: &mut BatchBuilder, changes: &[Change]) -> Result<(), BuildFault> {
@@ -26,6 +27,7 @@ fn add_all(builder: &mut BatchBuilder, changes: &[Change]) -> Result<(), BuildFa
             Change::Set(key, value) => builder.set(key, value)?,
             Change::Delete(key) => builder.delete(key)?,
             Change::Note(bytes) => builder.note(bytes)?,
+            Change::RangeDelete(start, end) => builder.delete_range(start, end)?,
         }
     }
     Ok(())
@@ -179,6 +181,28 @@ fn put_two_batches(rt: &impl Abort, alloc: Global, out: &mut Buf) -> Result<(), 
     let first = batch_of(rt, alloc, &[Change::Set(b"a", b"1")]);
     let second = batch_of(rt, alloc, &changes);
     put_store(alloc, out, &[first, second])
+}
+
+#[test]
+fn a_store_has_no_key_of_a_deleted_range(rt: HostRuntime) {
+    let alloc = rt.alloc();
+    let sets = [
+        Change::Set(b"a", b"1"),
+        Change::Set(b"b", b"2"),
+        Change::Set(b"c", b"3"),
+    ];
+    let changes = [
+        Change::RangeDelete(b"a", b"c"),
+        Change::Set(b"a", b"9"),
+        Change::RangeDelete(b"d", b"c"),
+    ];
+    let first = batch_of(&rt, alloc, &sets);
+    let second = batch_of(&rt, alloc, &changes);
+    let mut out = Buf::new(alloc).expect(&rt, "memory");
+    put_batch(&mut out, &second).expect(&rt, "memory");
+    put_store(alloc, &mut out, &[first, second]).expect(&rt, "memory");
+    let text = b"batch 10 3\nrdel a c\nset a 9\nrdel d c\na = 9\nc = 3\n";
+    assert_eq!(rt; out.as_slice(), text.as_slice());
 }
 
 /// Adds a line many times, and looks each time at what it added. An allocation is refused only where that is asked for:

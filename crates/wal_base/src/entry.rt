@@ -6,7 +6,7 @@ use crate::NoMemory;
 use crate::bytes::Blob;
 use crate::list::ListOf;
 
-/// One entry of a batch: a change of a key, or a note that changes nothing.
+/// One entry of a batch: a change of a key or of a range of keys, or a note that changes nothing.
 #[derive(Debug, Drop)]
 pub enum Entry {
     /// The key has this value from now on.
@@ -15,6 +15,8 @@ pub enum Entry {
     Delete { key: Blob },
     /// Bytes that go to the log alone.
     Note { bytes: Blob },
+    /// No key from the start on and before the end has a value from now on.
+    RangeDelete { start: Blob, end: Blob },
 }
 
 impl Entry {
@@ -31,6 +33,10 @@ impl Entry {
             Entry::Note { bytes } => Ok(Entry::Note {
                 bytes: bytes.share()?,
             }),
+            Entry::RangeDelete { start, end } => Ok(Entry::RangeDelete {
+                start: start.share()?,
+                end: end.share()?,
+            }),
         }
     }
 
@@ -44,6 +50,9 @@ impl Entry {
             }
             (Entry::Delete { key }, Entry::Delete { key: k }) => key.as_slice() == k.as_slice(),
             (Entry::Note { bytes }, Entry::Note { bytes: b }) => bytes.as_slice() == b.as_slice(),
+            (Entry::RangeDelete { start, end }, Entry::RangeDelete { start: s, end: e }) => {
+                start.as_slice() == s.as_slice() && end.as_slice() == e.as_slice()
+            }
             _ => false,
         }
     }

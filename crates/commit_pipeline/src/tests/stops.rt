@@ -112,6 +112,7 @@ struct Holding<N: PipeName, M: Ledger> {
 impl<N: PipeName, M: Ledger> Model for Holding<N, M> {
     ghost use Rattle.std.specs.Prelude.{◌≡◌, None, length, ◌≤◌};
     ghost use Rattle.commit_queue.specs.Calls.{HoldsUnapplied};
+    ghost use Rattle.commit_queue.specs.Shown.{session_shown};
     ghost use Rattle.commit_queue.specs.Seats.{session_table, session_view};
     ghost use Rattle.commit_pipeline.specs.Waits.{IsHeldEnd};
     ghost use Rattle.commit_pipeline.specs.declared.desk.Desk.{Desk};
@@ -122,10 +123,10 @@ impl<N: PipeName, M: Ledger> Model for Holding<N, M> {
 
     ghost invariant = { λ s.
         (session_table s.desk.seat ≡ N.table)
-        × ((session_view s.desk.seat).base ≡ N.opening.start.state.next)
-        × ((session_view s.desk.seat).seat.turn ≡ None)
+        × ((session_shown s.desk.seat).base ≡ N.opening.start.state.next)
+        × ((session_shown s.desk.seat).turn ≡ None)
         × HoldsUnapplied (session_view s.desk.seat) s.pieces
-        × IsHeldEnd (session_view s.desk.seat) s.end
+        × IsHeldEnd (session_shown s.desk.seat) s.end
         × (s.desk.own.parts ≡ 1) × (s.desk.dead.parts ≡ 1) × (s.desk.told.parts ≡ 1) };
 }
 

@@ -64,6 +64,24 @@ fn a_stalled_round_is_written_to_both_segments(rt: HostRuntime) -> Result<(), Fa
 }
 
 #[test]
+fn a_deleted_range_has_no_values(rt: HostRuntime) -> Result<(), Fail> {
+    let alloc = rt.alloc();
+    let script = "commit 0 sync set a 1 ; set b 2 ; set c 3\n\
+        commit 0 nosync rdel a c ; set a 9\n\
+        get 0 a\n\
+        get 0 b\n\
+        get 0 c\n";
+    let text = "s0 commit 10 3 synced\n\
+        s0 commit 13 2\n\
+        s0 get a = 9 @15\n\
+        s0 get b none @15\n\
+        s0 get c = 3 @15\n\
+        end visible 15 batches 2 acked 2 segments 1 closed\n";
+    let disk = check_replay(&rt, alloc, script, Status::Done, text)?;
+    check_crash(&rt, alloc, disk, "a = 9\nc = 3\nend batches 2 next 15\n")
+}
+
+#[test]
 fn a_transfer_is_recovered_dumped_and_gone_on_from(rt: HostRuntime) -> Result<(), Fail> {
     let alloc = rt.alloc();
     let script = "# transfer\n\

@@ -1,7 +1,7 @@
 -- The version that is held stands where the search lands.
 use Rattle.std.proofs.Common.{subst, sym, arith, slice_index, slice_index_or}
 use Rattle.std.proofs.lemmas.Bool.{iff_false}
-use Rattle.arena_list.specs.Versions.{Version, IsAt}
+use Rattle.arena_list.specs.Versions.{KeyVersion, IsAt}
 use Rattle.arena_list.specs.Nodes.{no_node}
 use Rattle.arena_list.proofs.Levels.{version_read}
 use Rattle.arena_list.proofs.Arenas.{LandsAt, lands_at, lands_on_held, landed}
@@ -30,7 +30,7 @@ returns-then-place-eq0-clause-none c holds =
     elim c.then-place-eq0.branch [
       | then-place-eq0-via-then-place-eq0 w ↦ held.0 w.if-place-eq0.true
       | then-place-eq0-via-else-place-eq0+then-not-is_at w ↦ iff_false w.is_at.ensures w.if-not-is_at.true
-          (subst (λ (v : Version). IsAt v c.args.key.now c.args.number)
+          (subst (λ (v : KeyVersion). IsAt v c.args.key.now c.args.number)
           (sym (version_read nodes place w.index-nodes-place.result w.index-nodes-place.is (lands.below w.if-place-eq0.false))) held.1)
     ]
 
@@ -50,6 +50,6 @@ returns-clause-at c =
     let lands : LandsAt nodes last c.index-nodes-lasts.result =
     lands_at nodes c.args.key.now c.args.number last c.index-nodes-lasts.result c.requires.linked c.requires.head (c.requires.cuts 0 (omega arith)) in
     let place = slice_index (slice_index_or nodes last c.index-nodes-lasts.result).links 0 in
-    subst (λ (v : Version). IsAt v c.args.key.now c.args.number)
+    subst (λ (v : KeyVersion). IsAt v c.args.key.now c.args.number)
     (version_read nodes place c.index-nodes-place.result c.index-nodes-place.is (lands.below c.if-place-eq0.false))
     (c.is_at.ensures.0 c.if-not-is_at.false)

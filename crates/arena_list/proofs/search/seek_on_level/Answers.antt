@@ -1,6 +1,6 @@
 -- The next place stands on the level. Where the search stops there, the level is cut.
 use Rattle.std.proofs.Common.{◌≢◌, ℕ, ◌<◌, length, inl, inr, sym, ◌∙◌, subst}
-use Rattle.arena_list.specs.Versions.{Version, GoesBefore}
+use Rattle.arena_list.specs.Versions.{KeyVersion, GoesBefore}
 use Rattle.std.proofs.lemmas.Bool.{iff_false}
 use Rattle.arena_list.specs.Chains.{path}
 use Rattle.arena_list.specs.Nodes.{next_on, version_at}
@@ -47,7 +47,7 @@ loop-next-preserved c =
     subst (λ (p : ℕ). p < length nodes) (sym inv.next)
     (next_below nodes c.requires.linked c.args.level c.requires.level c.args.key.now c.args.number c.loop-next.last inv.goes some) in
     let early : GoesBefore (version_at nodes c.loop-next.next) c.args.key.now c.args.number =
-    subst (λ (v : Version). GoesBefore v c.args.key.now c.args.number)
+    subst (λ (v : KeyVersion). GoesBefore v c.args.key.now c.args.number)
     (version_read nodes c.loop-next.next c.index-nodes-next.result c.index-nodes-next.is within)
     (c.is_before.ensures.0 c.if-is_before.true) in record {
       goes = subst (MayGoOn nodes c.args.level c.args.key.now c.args.number) (sym inv.next)
@@ -66,7 +66,7 @@ returns-else-is_before-clause-cut c =
     (next_below nodes c.requires.linked c.args.level c.requires.level c.args.key.now c.args.number c.loop-next.last inv.goes some) in
     cut_here nodes c.requires.linked c.args.level c.requires.level c.args.key.now c.args.number c.loop-next.last inv.goes
     (inr (λ early. iff_false c.is_before.ensures c.if-is_before.false
-    (subst (λ (v : Version). GoesBefore v c.args.key.now c.args.number)
+    (subst (λ (v : KeyVersion). GoesBefore v c.args.key.now c.args.number)
     (sym (version_read nodes c.loop-next.next c.index-nodes-next.result c.index-nodes-next.is within))
     (subst (λ (p : ℕ). GoesBefore (version_at nodes p) c.args.key.now c.args.number) (sym inv.next) early))))
 

@@ -9,3 +9,6 @@ part_of-requires-in-1 c = ends_after_one c.args.text.now _ _ _ c.requires c.in-S
 
 pub part_of-requires-in-3 : goal.part_of-requires-in-3
 part_of-requires-in-3 c = ends_after_one c.args.text.now _ _ _ c.requires c.in-Some.ensures.cases.0
+
+pub part_of-requires-in-15 : goal.part_of-requires-in-15
+part_of-requires-in-15 c = ends_after_one c.args.text.now _ _ _ c.requires c.in-Some.ensures.cases.0

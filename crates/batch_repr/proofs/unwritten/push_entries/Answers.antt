@@ -1,7 +1,6 @@
 use Rattle.std.proofs.Common.{◌∙◌, ap, ◌++◌, List, ℕ, sym, take, append_assoc, append-nil}
 use Rattle.batch_repr.specs.Written.{written_entry, written_entries}
 use Rattle.batch_repr.proofs.Sizes.{entries_none, entries_more}
-use Rattle.batch_repr.proofs.Tools.{ok_of}
 use Rattle.batch_repr.proofs.unwritten.push_entries.Goals as goal
 
 pub loop-entry-init : goal.loop-entry-init

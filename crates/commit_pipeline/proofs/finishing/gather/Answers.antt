@@ -1,6 +1,7 @@
 use Rattle.std.proofs.Common.{◌≡◌, ◌+◌, ◌∷◌, [], ◌++◌, length, sym, ap, ◌∙◌, arith}
 use Rattle.commit_pipeline.specs.Standings.{standing}
 use Rattle.commit_queue.specs.Seats.{producer_view, session_view}
+use Rattle.commit_queue.specs.Shown.{session_shown}
 use Rattle.commit_pipeline.proofs.TakesAllBack.{gathers_none, gathers_next, gathers_all}
 use Rattle.commit_pipeline.proofs.finishing.gather.Goals as goal
 
@@ -16,7 +17,7 @@ retire-requires-clause-table g c = c.loop-session.invariant.table ∙ sym c.requ
 pub loop-session-preserved : goal.loop-session-preserved
 loop-session-preserved g c =
     let desk = c.session.inside.desk in
-    let popped = standing (session_view desk.seat) desk.dead.amount desk.told.amount in
+    let popped = standing (session_shown desk.seat) desk.dead.amount desk.told.amount in
     let last : c.loop-session.sessions.items ≡ c.pop.new.self.items ++ popped ∷ [] =
     c.in-Some.ensures.items ∙ ap (λ s. c.pop.new.self.items ++ s ∷ []) (sym c.session.view_is) in
     record {

@@ -1,6 +1,6 @@
 -- Version by version.
 use Rattle.std.proofs.Common.{List, ◌++◌, ◌∷◌, [], sym, ap, ◌∙◌, append_assoc}
-use Rattle.arena_list.specs.Versions.{Version}
+use Rattle.memtable_shards.specs.Versions.{Version}
 use Rattle.memtable_shards.proofs.part.find_waiting.Goals as goal
 
 pub loop-version-preserved : goal.loop-version-preserved

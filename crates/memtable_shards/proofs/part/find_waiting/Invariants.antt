@@ -1,7 +1,7 @@
 -- What is found in the versions so far.
 use Rattle.std.specs.Prelude.{◌≡◌, ◌++◌, List, length}
-use Rattle.arena_list.specs.Versions.{Version}
-use Rattle.arena_list.specs.Newest.{FindsNewest}
+use Rattle.memtable_shards.specs.Versions.{Version}
+use Rattle.memtable_shards.specs.Newest.{FindsNewest}
 use Rattle.memtable_shards.proofs.part.find_waiting.Given as goal
 
 abbrev pub invariant-loop-version : goal.invariant-loop-version

@@ -2,7 +2,7 @@
 use Rattle.std.proofs.Common.{Option, length, take, refl, ap, arith}
 use Rattle.std.proofs.lemmas.List.{append-nil}
 use Rattle.std.specs.Option.{option_to_list}
-use Rattle.arena_list.specs.Versions.{Version}
+use Rattle.memtable_shards.specs.Versions.{Version}
 use Rattle.memtable_shards.specs.Versions.{versions_from}
 use Rattle.memtable_shards.proofs.Cutting.{entry_more}
 use Rattle.memtable_shards.proofs.pieces.sort_versions.Goals as goal

@@ -1,5 +1,5 @@
 use Rattle.std.proofs.Common.{◌≡◌, List, ◌++◌, ◌∷◌, [], arith}
-use Rattle.arena_list.specs.Versions.{Version}
+use Rattle.memtable_shards.specs.Versions.{Version}
 use Rattle.memtable_shards.proofs.Cutting.{empty_by_shard, one_less}
 use Rattle.memtable_shards.proofs.Rigs.{all_empty}
 use Rattle.memtable_shards.proofs.tests.new_shards.Goals as goal

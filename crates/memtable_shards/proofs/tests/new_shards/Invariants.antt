@@ -2,7 +2,7 @@
 use Rattle.std.specs.Prelude.{◌≡◌, ◌≤◌, [], List, length}
 use Rattle.std.specs.List.{AllByRecursion}
 use Rattle.memtable_shards.specs.declared.sharding.TheConstants.{SHARDS}
-use Rattle.arena_list.specs.Versions.{Version}
+use Rattle.memtable_shards.specs.Versions.{Version}
 use Rattle.memtable_shards.proofs.tests.new_shards.Given as goal
 
 abbrev pub invariant-loop : goal.invariant-loop

@@ -1,11 +1,11 @@
 use Rattle.std.proofs.Common.{◌≡◌, ℕ, ◌+◌, ◌∙◌, Some, None, List, refl, sym, ap, subst}
-use Rattle.arena_list.specs.Versions.{Version}
+use Rattle.memtable_shards.specs.Versions.{Version}
 use Rattle.memtable_shards.specs.Pieces.{PiecesLeft, IsNextPiece, NoPieceIsLeft}
-use Rattle.publish_core.specs.declared.seat.Kind.TheVariants.{Worker, Producer}
 use Rattle.commit_queue.specs.declared.view.View.{View}
 use Rattle.commit_queue.specs.Calls.{CanMark, HoldsUnapplied}
 use Rattle.commit_queue.specs.Seats.{session_view}
-use Rattle.commit_queue.proofs.Laws.{turn_marked}
+use Rattle.commit_queue.specs.Shown.{IsOfSession}
+use Rattle.commit_queue.proofs.Laws.{turn_marked, session_holds}
 use Rattle.shard_gate.specs.Gates.{AppliesOne, AppliesPiece}
 use Rattle.shard_gate.proofs.AppliesAll.{amid_begins, amid_next, amid_goes_on, amid_ends}
 use Rattle.shard_gate.proofs.tests.apply_and_mark.Goals as goal
@@ -34,15 +34,16 @@ applies_one v v' shard index idle held applies =
 -- The batch may be marked once its one piece is applied.
 can_mark_one : (v v' : View) (pieces left : PiecesLeft) (shard : ℕ) (piece : List Version) → v.seat.turn ≡ None → HoldsUnapplied v pieces
     → IsNextPiece pieces shard piece → AppliesPiece v shard v' → left ≡ record pieces { from = shard + 1 } → NoPieceIsLeft left
-    → v'.seat.kind ≡ Worker → CanMark v'
+    → IsOfSession v' → CanMark v'
 can_mark_one v v' pieces left shard piece idle holds next applies is none kind =
     let amid = amid_begins v pieces holds in
     let one = applies_one v v' shard amid.index idle amid.holds applies in
     let held = one.0.held ∙ amid.holds in
     let past : PiecesLeft = record pieces { from = shard + 1 } in
+    let its = session_holds v' amid.index kind held in
     record {
-      holds = record { index = amid.index; holds = held; admitted = λ producer. let no : Worker ≡ Producer = sym kind ∙ producer in cc };
-      applied = amid_ends v' past (amid_goes_on v v' pieces shard piece amid next one) (subst NoPieceIsLeft is none) amid.index held;
+      holds = its;
+      applied = amid_ends v' past (amid_goes_on v v' pieces shard piece amid next one) (subst NoPieceIsLeft is none) its.index its.holds;
     }
 
 pub try_apply-requires-clause-piece : goal.try_apply-requires-clause-piece

@@ -1,14 +1,14 @@
 -- What the session knows from one step to the next.
-use Rattle.std.proofs.Common.{◌≡◌, ℕ, suc, ◌≤◌, Some, sym, ap, ◌∙◌, subst, arith}
+use Rattle.std.proofs.Common.{ℕ, suc, ◌≤◌, Some, sym, ap, ◌∙◌, subst, arith}
+use Rattle.wal_base.proofs.Laws.{at_prefix}
 use Rattle.batch_repr.specs.declared.batch.Batch.{Batch}
 use Rattle.memtable_shards.specs.Pieces.{PiecesLeft}
-use Rattle.publish_core.proofs.Laws.{ends_mono}
 use Rattle.commit_queue.specs.declared.view.View.{View}
 use Rattle.commit_queue.specs.declared.published.Published.{Published}
 use Rattle.commit_queue.specs.Rule.{numbers}
 use Rattle.commit_queue.specs.Calls.{HoldsUnapplied, Tries, TriesRaised}
 use Rattle.commit_queue.specs.Seats.{producer_view, session_view, note_view}
-use Rattle.commit_queue.proofs.Laws.{tries_goes_on, at_end_of, unapplied_next, unapplied_handed, unapplied_adopted}
+use Rattle.commit_queue.proofs.Laws.{tries_goes_on, at_end_of, unapplied_next, unapplied_handed, unapplied_adopted, ends_mono}
 use Rattle.shard_gate.specs.Gates.{visible_seen}
 use Rattle.shard_gate.proofs.tests.one_session_publishes_a_batch_step_by_step_and_reads_it.Goals as goal
 
@@ -18,7 +18,7 @@ unapplied_tried v v' p pieces h t = let on = tries_goes_on v v' p t in record {
   index = h.index;
   batch = h.batch;
   holds = on.held ∙ h.holds;
-  at = on.history h.index h.batch h.at;
+  at = at_prefix v.history v'.history on.history h.index h.batch h.at;
   entries = h.entries;
   first = h.first;
   all = h.all;

@@ -1,4 +1,4 @@
-use Rattle.text_lines.proofs.Changing.{held_set, held_delete}
+use Rattle.text_lines.proofs.Changing.{held_set, held_delete, held_range}
 use Rattle.text_lines.proofs.store.change_by.Goals as goal
 
 pub returns-in_ok-insert-in-Set : goal.returns-in_ok-insert-in-Set
@@ -8,3 +8,8 @@ returns-in_ok-insert-in-Set c =
 pub returns-in-Delete : goal.returns-in-Delete
 returns-in-Delete c =
     held_delete c.as_slice-in-Delete.result.now c.in-Delete.key c.args.entry.now c.args.holding.now c.remove.new.self c.remove.ensures.updates c.as_slice-in-Delete.ensures c.in-Delete.is
+
+pub returns-in-RangeDelete : goal.returns-in-RangeDelete
+returns-in-RangeDelete c =
+    held_range c.in-RangeDelete.start c.in-RangeDelete.end c.args.entry.now c.args.holding.now c.let_go_of.new.holding
+    (λ key. rw (c.as_slice-in-RangeDelete.ensures, c.as_slice-in-RangeDelete-2.ensures) at (c.let_go_of.ensures key)) c.in-RangeDelete.is

@@ -2,8 +2,8 @@
 use Rattle.std.proofs.Common.{◌≡◌, ℕ, ◌+◌, ◌<◌, List, length, sym, ap, ◌∙◌, subst, inl, inr, arith, slice_index, slice_index_or}
 use Rattle.std.proofs.lemmas.Bool.{iff_false}
 use Rattle.arena_list.specs.declared.node.Node.{Node}
-use Rattle.arena_list.specs.Versions.{Version}
-use Rattle.arena_list.specs.Newest.{FindsNewest, HasNoneBelow}
+use Rattle.arena_list.specs.Versions.{KeyVersion}
+use Rattle.arena_list.specs.Newest.{FindsNewestOfKey, HasNoneOfKey}
 use Rattle.arena_list.specs.Arena.{Arena}
 use Rattle.arena_list.specs.Nodes.{IsLinked, no_node, version_in, version_at, versions_on, arena_of}
 use Rattle.arena_list.proofs.Levels.{version_read}
@@ -43,14 +43,14 @@ returns-then-place-eq0 c =
     let lands : LandsAt nodes last c.index-nodes-spot.result =
     lands_at nodes c.args.key.now c.in-Some.number last c.index-nodes-spot.result linked some cut in
     let below : c.in-Some.number + 1 ≡ c.args.below = omega arith in
-    subst (λ (a : Arena). HasNoneBelow a.versions c.args.key.now c.args.below)
+    subst (λ (a : Arena). HasNoneOfKey a.versions c.args.key.now c.args.below)
     (ap (λ (ns : List Node). arena_of ns c.self.inside.free.count) is ∙ c.self.view_is)
-    (subst (HasNoneBelow (versions_on nodes 0) c.args.key.now) below
+    (subst (HasNoneOfKey (versions_on nodes 0) c.args.key.now) below
     (lands_on_none nodes linked c.args.key.now c.in-Some.number last cut _ lands.is
     (elim c.then-place-eq0.branch [
       | then-place-eq0-via-then-place-eq0 w ↦ inl w.if-place-eq0.true
       | then-place-eq0-via-else-place-eq0+then-not-has_key w ↦ inr (λ same. iff_false w.has_key.ensures w.if-not-has_key.true
-          (ap (λ (v : Version). v.key)
+          (ap (λ (v : KeyVersion). v.key)
           (version_read nodes (slice_index (slice_index_or nodes last c.index-nodes-spot.result).links 0) w.index-nodes-place.result w.index-nodes-place.is
           (lands.below w.if-place-eq0.false)) ∙ same))
     ])))
@@ -67,13 +67,13 @@ returns c =
     lands_at nodes c.args.key.now c.in-Some.number last c.index-nodes-spot.result linked some cut in
     let place = slice_index (slice_index_or nodes last c.index-nodes-spot.result).links 0 in
     let within : place < length nodes = lands.below c.if-place-eq0.false in
-    let one : Version = version_in c.index-nodes-place-2.result in
+    let one : KeyVersion = version_in c.index-nodes-place-2.result in
     let at : one ≡ version_at nodes place = version_read nodes place c.index-nodes-place-2.result c.index-nodes-place-2.is within in
     let same : one.key ≡ c.args.key.now =
-    ap (λ (v : Version). v.key) (at ∙ sym (version_read nodes place c.index-nodes-place.result c.index-nodes-place.is within))
+    ap (λ (v : KeyVersion). v.key) (at ∙ sym (version_read nodes place c.index-nodes-place.result c.index-nodes-place.is within))
     ∙ c.has_key.ensures.0 c.if-not-has_key.false in
     let below : c.in-Some.number + 1 ≡ c.args.below = omega arith in
-    subst (λ (a : Arena). FindsNewest a.versions c.args.key.now c.args.below c.one.result)
+    subst (λ (a : Arena). FindsNewestOfKey a.versions c.args.key.now c.args.below c.one.result)
     (ap (λ (ns : List Node). arena_of ns c.self.inside.free.count) is ∙ c.self.view_is)
-    (subst (λ (n : ℕ). FindsNewest (versions_on nodes 0) c.args.key.now n c.one.result) below
+    (subst (λ (n : ℕ). FindsNewestOfKey (versions_on nodes 0) c.args.key.now n c.one.result) below
     (lands_on_newest nodes linked c.args.key.now c.in-Some.number last cut place lands.is one c.one.result c.if-place-eq0.false at same c.one.ensures))

@@ -55,8 +55,8 @@ invariant_of-self c =
     subst (λ (ns : List Node). IsAt (version_at ns place) c.args.key.now c.args.seq) c.as_slice-3.ensures.value c.in-Some.ensures.at in
     let new = c.take_out.new.nodes in
     let out : TakesOut items lasts place c.self.inside.free.first new =
-    subst (λ (ns : List Node). TakesOut ns lasts place c.self.inside.free.first new) c.as_mut_slice.ensures.value c.take_out.ensures in
-    let new_len : length new ≡ vec_len c.self.inside.nodes = c.take_out.ensures.len ∙ c.as_mut_slice.ensures.len in
+    subst (λ (ns : List Node). TakesOut ns lasts place c.self.inside.free.first new) c.as_mut_slice.ensures.value c.take_out.ensures.out in
+    let new_len : length new ≡ vec_len c.self.inside.nodes = c.take_out.ensures.out.len ∙ c.as_mut_slice.ensures.len in
     let top = c.self.inside.top.items in
     let index = c.find_spot-spot.result.index in
     let top_cut : IsTopCut items top c.args.key.now c.args.seq index =
@@ -100,8 +100,8 @@ returns-clause-versions c =
     subst (λ (ns : List Node). IsAt (version_at ns place) c.args.key.now c.args.seq) c.as_slice-3.ensures.value c.in-Some.ensures.at in
     let new = c.take_out.new.nodes in
     let out : TakesOut items lasts place c.self.inside.free.first new =
-    subst (λ (ns : List Node). TakesOut ns lasts place c.self.inside.free.first new) c.as_mut_slice.ensures.value c.take_out.ensures in
-    let new_len : length new ≡ vec_len c.self.inside.nodes = c.take_out.ensures.len ∙ c.as_mut_slice.ensures.len in
+    subst (λ (ns : List Node). TakesOut ns lasts place c.self.inside.free.first new) c.as_mut_slice.ensures.value c.take_out.ensures.out in
+    let new_len : length new ≡ vec_len c.self.inside.nodes = c.take_out.ensures.out.len ∙ c.as_mut_slice.ensures.len in
     subst (λ (a : Arena). LeavesOut a.versions c.args.key.now c.args.seq (versions_on (with_items c.self.inside.nodes new).items 0)) c.self.view_is
     (subst (λ (ns : List Node). LeavesOut (versions_on items 0) c.args.key.now c.args.seq (versions_on ns 0))
     (sym (with_items_is c.self.inside.nodes new new_len))
@@ -121,8 +121,8 @@ returns-clause-places c =
     subst (λ (ns : List Node). IsAt (version_at ns place) c.args.key.now c.args.seq) c.as_slice-3.ensures.value c.in-Some.ensures.at in
     let new = c.take_out.new.nodes in
     let out : TakesOut items lasts place c.self.inside.free.first new =
-    subst (λ (ns : List Node). TakesOut ns lasts place c.self.inside.free.first new) c.as_mut_slice.ensures.value c.take_out.ensures in
-    let new_len : length new ≡ vec_len c.self.inside.nodes = c.take_out.ensures.len ∙ c.as_mut_slice.ensures.len in
+    subst (λ (ns : List Node). TakesOut ns lasts place c.self.inside.free.first new) c.as_mut_slice.ensures.value c.take_out.ensures.out in
+    let new_len : length new ≡ vec_len c.self.inside.nodes = c.take_out.ensures.out.len ∙ c.as_mut_slice.ensures.len in
     ap (λ (ns : List Node). places_in (arena_of ns (c.self.inside.free.count + 1))) (with_items_is c.self.inside.nodes new new_len)
     ∙ removal_places items c.take_out.new.nodes lasts place c.self.inside.free.first c.self.inside.free.count c.args.key.now
     c.args.seq c.self.invariant.0 cuts held at out ∙ ap places_in c.self.view_is

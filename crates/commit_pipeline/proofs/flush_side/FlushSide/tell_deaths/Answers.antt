@@ -1,5 +1,5 @@
 use Rattle.std.proofs.Common.{ap, subst, refl, ◌∙◌, arith}
-use Rattle.commit_queue.specs.Seats.{session_view}
+use Rattle.commit_queue.specs.Shown.{session_shown}
 use Rattle.commit_pipeline.specs.Meeting.{HearsDeath}
 use Rattle.commit_pipeline.specs.Sides.{FlushView}
 use Rattle.commit_pipeline.specs.Standings.{standing}
@@ -23,8 +23,8 @@ loop-session-preserved g c =
     let e = c.tell_death.ensures in
     let d = c.session.inside.desk in
     let d' = c.tell_death.new.desk in
-    let was = standing (session_view d.seat) d.dead.amount d.told.amount in
-    let is = standing (session_view d'.seat) d'.dead.amount d'.told.amount in
+    let was = standing (session_shown d.seat) d.dead.amount d.told.amount in
+    let is = standing (session_shown d'.seat) d'.dead.amount d'.told.amount in
     let i = c.loop-session.invariant in
     record {
       same = e.side ∙ i.same;

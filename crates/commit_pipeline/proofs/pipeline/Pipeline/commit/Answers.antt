@@ -1,6 +1,7 @@
 -- What is answered, by where the commit ended.
 use Rattle.std.proofs.Common.{rules, ◌≡◌, ◌<◌, true, false, IsTrue, Result, Err, sym, ◌∙◌, subst}
 use Rattle.commit_queue.specs.Seats.{session_view}
+use Rattle.commit_queue.specs.Shown.{session_shown}
 use Rattle.commit_pipeline.specs.declared.fault.CommitFault.{CommitFault}
 use Rattle.commit_pipeline.specs.declared.fault.Committed.{Committed}
 use Rattle.commit_pipeline.specs.declared.pipeline.Numbers.{Numbers}
@@ -28,10 +29,10 @@ returns-in_err-first g c =
     let answers : c.from_residual-in_err-first.result ≡ Err told = search rules in
     let d = c.session.inside.desk in
     let d' = c.start.new.desk in
-    let new : Standing = standing (session_view d'.seat) d'.dead.amount d'.told.amount in
+    let new : Standing = standing (session_shown d'.seat) d'.dead.amount d'.told.amount in
     subst (λ (s : Standing). TellsCommit g.N.PipeName.opening c.args.batch c.args.sync s c.from_residual-in_err-first.result new) c.session.view_is
     (subst (λ (r : Result Committed CommitFault). TellsCommit g.N.PipeName.opening c.args.batch c.args.sync
-    (standing (session_view d.seat) d.dead.amount d.told.amount) r new) (sym answers)
+    (standing (session_shown d.seat) d.dead.amount d.told.amount) r new) (sym answers)
     (answers_refused g.N.PipeName.opening c.args.batch c.args.sync (session_view d.seat) (session_view d'.seat) d.dead.amount d'.dead.amount d.told.amount
     d'.told.amount told c.session.invariant.base c.session.invariant.within c.in_err-first.ensures.started c.in_err-first.ensures.dead.1
     c.in_err-first.ensures.met.1 c.in_err-first.ensures.lives))
@@ -70,12 +71,12 @@ returns-in_err-wait_acked g c =
     let answers : c.from_residual-in_err-wait_acked.result ≡ Err told = search rules in
     let d = c.session.inside.desk in
     let d' = c.wait_acked.new.desk in
-    let new : Standing = standing (session_view d'.seat) d'.dead.amount d'.told.amount in
+    let new : Standing = standing (session_shown d'.seat) d'.dead.amount d'.told.amount in
     let of : Numbers = record { first = c.in_ok-first.first; count = c.count-count.result; index = c.in_ok-first.index } in
     subst (λ (s : Standing). TellsCommit g.N.PipeName.opening c.args.batch c.args.sync s c.from_residual-in_err-wait_acked.result new)
     c.session.view_is
     (subst (λ (r : Result Committed CommitFault). TellsCommit g.N.PipeName.opening c.args.batch c.args.sync
-    (standing (session_view d.seat) d.dead.amount d.told.amount) r new) (sym answers)
+    (standing (session_shown d.seat) d.dead.amount d.told.amount) r new) (sym answers)
     (answers_unsynced g.N.PipeName.opening c.args.batch c.args.sync of told d c.publish.new.desk d' (published_unsynced g c)
     (waited_unsynced g c) c.count-count.ensures.count c.if-sync.true c.in_err-wait_acked.ensures.waited.1))
 
@@ -119,6 +120,6 @@ returns g c =
     let waited = waited_well g c in
     subst (λ (s : Standing). CommitsWell c.args.batch c.args.sync
     (record { first = c.in_ok-first.first; count = c.count-count.result; synced = c.args.sync }) s
-    (standing (session_view d'.seat) d'.dead.amount d'.told.amount)) c.session.view_is
+    (standing (session_shown d'.seat) d'.dead.amount d'.told.amount)) c.session.view_is
     (answers_committed c.args.batch c.args.sync c.in_ok-first.first c.count-count.result c.in_ok-first.index c.session.inside.desk
     c.publish.new.desk d' (published_well g c) waited.0 c.count-count.ensures.count waited.1)

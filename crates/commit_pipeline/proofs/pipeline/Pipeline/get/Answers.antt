@@ -4,6 +4,7 @@ use Rattle.memtable_shards.specs.Versions.{shard_of}
 use Rattle.commit_queue.specs.declared.view.View.{View}
 use Rattle.commit_queue.specs.Seats.{session_view}
 use Rattle.commit_queue.specs.Views.{busy_view, but_turns}
+use Rattle.commit_queue.specs.Shown.{shown_by}
 use Rattle.shard_gate.specs.declared.reading.ReadBusy.{ReadBusy}
 use Rattle.shard_gate.specs.declared.reading.ReadBusy.TheVariants.{NoMemory}
 use Rattle.shard_gate.specs.Gates.{LeavesRead}
@@ -60,7 +61,7 @@ returns-in-Ok-clause-answers g c =
     let told : ℕ = c.session.inside.desk.told.amount in
     let w' : View = session_view c.try_newest.new.s in
     subst (λ (s : Standing). TellsRead g.N.PipeName.opening c.args.key.now (record { visible = c.visible-visible.result; value = c.in-Ok.value })
-    s (standing w' dead told)) c.session.view_is
+    s (standing (shown_by w') dead told)) c.session.view_is
     (answers_read (session_view c.session.inside.desk.seat) (session_view c.visible-visible.new.h) (session_view c.loop.seat)
     c.visible-visible.result c.visible-visible.ensures.seen c.loop.invariant.same g.N.PipeName.opening c.args.key.now c.in-Ok.value w' dead told
     session.base session.shards session.before c.in-Ok.ensures.read)
@@ -89,7 +90,7 @@ returns-in-Err-NoMemory-clause-err g c =
     let left : LeavesRead NoMemory (session_view c.loop.seat) (shard_of c.args.key.now) v' =
     subst (λ (f : ReadBusy). LeavesRead f (session_view c.loop.seat) (shard_of c.args.key.now) v') c.in-Err-NoMemory.field-0-is
     c.in-Err-NoMemory.ensures.err in
-    subst (λ (s : Standing). MissesRead s (standing v' dead told)) c.session.view_is (
+    subst (λ (s : Standing). MissesRead s (standing (shown_by v') dead told)) c.session.view_is (
       idles_on v v' dead dead told told
           (read_on v (session_view c.visible-visible.new.h) (session_view c.loop.seat) c.visible-visible.result saw i.same
           (shard_of c.args.key.now) left.0 v' c.session.invariant.idle.1 (i.pieces ∙ ap (λ (x : View). x.pieces) saw.view) left.1) refl,

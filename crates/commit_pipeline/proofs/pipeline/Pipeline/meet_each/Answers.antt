@@ -1,5 +1,6 @@
 use Rattle.std.proofs.Common.{subst, sym, ◌∙◌, arith, rules}
 use Rattle.commit_queue.specs.Seats.{session_view}
+use Rattle.commit_queue.specs.Shown.{shown_by, session_shown}
 use Rattle.commit_pipeline.specs.Standings.{standing}
 use Rattle.commit_pipeline.proofs.Meets.{stays_met, hears_met, stays_missed, session_after, session_met}
 use Rattle.commit_pipeline.proofs.MeetsEach.{MeetsFirst, meets_none, meets_all, meets_next, beside_next}
@@ -8,7 +9,7 @@ use Rattle.commit_pipeline.proofs.pipeline.Pipeline.meet_each.Goals as goal
 pub loop-other-init : goal.loop-other-init
 loop-other-init g c =
     let desk = c.one.inside.desk in
-    let one = standing (session_view desk.seat) desk.dead.amount desk.told.amount in record {
+    let one = standing (session_shown desk.seat) desk.dead.amount desk.told.amount in record {
       session = c.one.invariant;
       meets = subst (λ s. MeetsFirst s c.args.others.now one c.args.others.now 0) c.one.view_is (meets_none _ c.args.others.now);
     }
@@ -43,9 +44,9 @@ returns-in_err-meet-clause-err g c =
     let a' = session_view c.meet.new.a in
     let b' = session_view c.meet.new.b in
     let missed = c.in_err-meet.ensures in
-    let beside = beside_next c.args.one.now c.args.others.now (standing a mine.dead.amount mine.told.amount) c.loop-other.others c.loop-other.other-index
-    (standing a' mine.dead.amount mine.told.amount) (standing b theirs.dead.amount theirs.told.amount)
-    (standing b' theirs.dead.amount theirs.told.amount) c.other-item.result (omega arith) c.other.view_is
+    let beside = beside_next c.args.one.now c.args.others.now (standing (shown_by a) mine.dead.amount mine.told.amount) c.loop-other.others c.loop-other.other-index
+    (standing (shown_by a') mine.dead.amount mine.told.amount) (standing (shown_by b) theirs.dead.amount theirs.told.amount)
+    (standing (shown_by b') theirs.dead.amount theirs.told.amount) c.other-item.result (omega arith) c.other.view_is
     (stays_missed mine.dead.amount mine.told.amount a a' missed.less_a)
     (stays_missed theirs.dead.amount theirs.told.amount b b' missed.less_b) c.loop-other.invariant.meets.beside in
     search rules
@@ -62,9 +63,9 @@ loop-other-preserved g c =
     record {
       session =
           session_met g.N.PipeName.table g.N.PipeName.opening _ _ a b a' _ _ _ _ c.loop-other.invariant.session c.meet.ensures.same_a met.met_a;
-      meets = meets_next c.args.one.now c.args.others.now (standing a mine.dead.amount mine.told.amount) c.loop-other.others c.loop-other.other-index
-          (standing a' mine.dead.amount mine.told.amount) (standing b theirs.dead.amount theirs.told.amount)
-          (standing b' theirs.dead.amount theirs.told.amount) c.other-item.result (omega arith) c.other.view_is
+      meets = meets_next c.args.one.now c.args.others.now (standing (shown_by a) mine.dead.amount mine.told.amount) c.loop-other.others c.loop-other.other-index
+          (standing (shown_by a') mine.dead.amount mine.told.amount) (standing (shown_by b) theirs.dead.amount theirs.told.amount)
+          (standing (shown_by b') theirs.dead.amount theirs.told.amount) c.other-item.result (omega arith) c.other.view_is
           (stays_met mine.dead.amount mine.told.amount a b a' met.met_a) (stays_met theirs.dead.amount theirs.told.amount b a b' met.met_b)
           c.loop-other.invariant.meets
           (hears_met mine.dead.amount mine.told.amount theirs.dead.amount theirs.told.amount a b a' met.met_a)

@@ -5,6 +5,7 @@ use Rattle.wal_base.specs.declared.entry.Entry.{Entry}
 use Rattle.batch_repr.specs.declared.limits.TheConstants.{BATCHES_MAX}
 use Rattle.commit_queue.specs.declared.view.View.{View}
 use Rattle.commit_queue.specs.Seats.{session_view}
+use Rattle.commit_queue.specs.Shown.{shown_by}
 use Rattle.commit_pipeline.specs.Numbering.{numbered, HoldsNumbered, ShowsExhausted}
 use Rattle.commit_pipeline.proofs.IsIdleDesk.{on_same, on_both, stays_idle}
 use Rattle.commit_pipeline.proofs.GetsNumber.{numbered_later, shows_later, exhausted_later}
@@ -35,7 +36,7 @@ returns-in-Done-clause-taken g c =
     let v : View = session_view c.loop.desk.seat in
     let w : View = session_view c.number-numbering.new.desk.seat in
     numbered_later (numbered c.args.batch c.in-Done.first) c.in-Done.index (session_view c.args.desk.now.seat) v w i.on
-    (subst (λ (b : List Entry). HoldsNumbered (numbered b c.in-Done.first) c.in-Done.index v w) i.batch c.in-Done.ensures.told)
+    (subst (λ (b : List Entry). HoldsNumbered (numbered b c.in-Done.first) c.in-Done.index (shown_by v) (shown_by w)) i.batch c.in-Done.ensures.told)
 
 pub returns-in-TooMany-clause-taken : goal.returns-in-TooMany-clause-taken
 returns-in-TooMany-clause-taken g c =
@@ -48,7 +49,7 @@ returns-in-Exhausted-clause-taken g c =
     let v : View = session_view c.loop.desk.seat in
     let w : View = session_view c.number-numbering.new.desk.seat in
     exhausted_later c.args.batch c.in-Exhausted.next (session_view c.args.desk.now.seat) v w i.on
-    (subst (λ (b : List Entry). ShowsExhausted b c.in-Exhausted.next v w) i.batch c.in-Exhausted.ensures.told)
+    (subst (λ (b : List Entry). ShowsExhausted b c.in-Exhausted.next (shown_by v) (shown_by w)) i.batch c.in-Exhausted.ensures.told)
 
 pub loop-preserved : goal.loop-preserved
 loop-preserved g c =

@@ -3,6 +3,7 @@ use Rattle.std.proofs.Common.{rules, ◌≡◌, ap, subst, ◌∙◌}
 use Rattle.std.specs.Prelude.{None}
 use Rattle.commit_queue.specs.Seats.{session_table, session_view}
 use Rattle.commit_queue.specs.declared.seats.SessionSeat.{SessionSeat}
+use Rattle.commit_queue.specs.Shown.{session_shown}
 use Rattle.commit_pipeline.specs.Numbering.{HoldsNumbered, numbered}
 use Rattle.commit_pipeline.proofs.PublishesHeld.{numbered_end}
 use Rattle.commit_pipeline.proofs.TellsCommit.{HasPublished, has_published, has_not_waited, session_commits}
@@ -24,8 +25,8 @@ invariant_of-session g c =
     let t = c.in-Ok.ensures in
     let p = c.publish.ensures in
     let none : c.refuses.result ≡ None = search rules in
-    let number : HoldsNumbered (numbered batch c.in-Ok.first) c.in-Ok.index (session_view d.seat) (session_view d2.seat) =
-    subst (λ (s : SessionSeat). HoldsNumbered (numbered batch c.in-Ok.first) c.in-Ok.index (session_view s) (session_view d2.seat)) r.seat t.taken in
+    let number : HoldsNumbered (numbered batch c.in-Ok.first) c.in-Ok.index (session_shown d.seat) (session_shown d2.seat) =
+    subst (λ (s : SessionSeat). HoldsNumbered (numbered batch c.in-Ok.first) c.in-Ok.index (session_shown s) (session_shown d2.seat)) r.seat t.taken in
     let has : HasPublished batch c.in-Ok.first c.in-Ok.index d d3 =
     has_published batch c.in-Ok.first c.in-Ok.index d d2 d3 number (t.same ∙ ap session_table r.seat)
     (search rules) (search rules) (search rules) (r.lives none) p.published p.same p.own p.dead p.met in

@@ -1,5 +1,6 @@
 use Rattle.std.proofs.Common.{arith, ◌≡◌, ◌<◌, ◌∙◌, ℕ, Some, ap, sym, subst}
 use lib.ListN.{get_elem?}
+use Rattle.memtable_shards.specs.declared.sharding.TheConstants.{SHARDS}
 use Rattle.publish_core.specs.Machine.{Acts}
 use Rattle.memtable_shards.specs.Versions.{piece_in, Gains}
 use Rattle.commit_queue.specs.Tells.{Seated}
@@ -7,7 +8,7 @@ use Rattle.commit_queue.proofs.TakesTurns.{gives_applied}
 use Rattle.commit_queue.proofs.pipe_table.PipeTable.give_applied_at.Goals as goal
 
 pub store-requires : goal.store-requires
-store-requires c = let q = c.requires in let g = q.gives in let e = c.exchange.ensures.3 in let small : c.args.shard < 8 = q.small in
+store-requires c = let q = c.requires in let g = q.gives in let e = c.exchange.ensures.3 in let small : c.args.shard < SHARDS = q.small in
     let same : g.shard ≡ c.args.shard = let both : Some g.shard ≡ Some c.args.shard = sym g.turn ∙ q.turn in cc in (
       c.exchange.ensures.0 ∙ q.table,
       (let w = c.args.self.now.words in omega arith),

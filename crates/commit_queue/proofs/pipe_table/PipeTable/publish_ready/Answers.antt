@@ -1,7 +1,6 @@
 -- Each try goes on from the one before.
-use Rattle.std.proofs.Common.{◌∙◌, refl}
-use Rattle.commit_queue.specs.declared.view.View.{View}
-use Rattle.commit_queue.proofs.GoesOn.{goes_on_same, goes_on_both, tries_goes_on}
+use Rattle.std.proofs.Common.{refl}
+use Rattle.commit_queue.proofs.GoesOn.{goes_on_same}
 use Rattle.commit_queue.proofs.pipe_table.PipeTable.publish_ready.Goals as goal
 
 pub loop-init : goal.loop-init

@@ -1,5 +1,6 @@
 use Rattle.std.proofs.Common.{ap, arith, ◌*◌, sym, ◌%◌, ◌∙◌}
 use Rattle.batch_repr.specs.declared.batch.Batch.{Batch}
+use Rattle.publish_core.specs.declared.state.TheConstants.{SLOTS}
 use Rattle.commit_queue.specs.Views.{placed_view}
 use Rattle.commit_queue.proofs.Stands.{producer_places}
 use Rattle.commit_queue.proofs.Places.{places_at}
@@ -10,7 +11,7 @@ store-requires g c = let p = c.args.p.now in let b : Batch = c.args.batch.now in
     let last = c.end-end.ensures in (
       c.requires.table,
       (let w = c.args.self.now.words in omega arith),
-      places_at _ _ _ _ (p.head % 64) _ g.M.Naming.batch b p.stands.id_is c.requires.named (ap (λ x. x % 64) (sym p.stands.head_is))
+      places_at _ _ _ _ (p.head % SLOTS) _ g.M.Naming.batch b p.stands.id_is c.requires.named (ap (λ x. x % SLOTS) (sym p.stands.head_is))
           (ap (λ x. 2 * x) last.end) (omega arith) (omega arith) c.requires.fits,
     )
 

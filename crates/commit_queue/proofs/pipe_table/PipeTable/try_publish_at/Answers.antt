@@ -1,4 +1,5 @@
 use Rattle.std.proofs.Common.{arith, ◌%◌, ◌≡◌, ℕ, refl, ap, sym, subst, ◌∙◌}
+use Rattle.publish_core.specs.declared.state.TheConstants.{SLOTS}
 use Rattle.publish_core.specs.Machine.{Acts}
 use Rattle.commit_queue.specs.declared.view.View.{View}
 use Rattle.commit_queue.specs.Tells.{Seated, high, low}
@@ -34,7 +35,7 @@ store-requires c = let m : Seated = c.args.seat.now.me in let m1 : Seated = c.lo
     let m2 : Seated = c.load-word.new.seat.me in let m3 : Seated = c.compare_exchange-found.new.seat.me in let r : ℕ = c.load-both.result in
     let x : ℕ = c.load-word.result in
     let e : m2.0 ≡ looked_view m.0 (high r) (low r) x =
-    (looked c.args.self.now.table.shared.table_id.slots m m1 m2 r x (low r % 64) refl c.load-both.ensures.2 c.load-word.ensures.2).1 in (
+    (looked c.args.self.now.table.shared.table_id.slots m m1 m2 r x (low r % SLOTS) refl c.load-both.ensures.2 c.load-word.ensures.2).1 in (
       c.compare_exchange-found.ensures.0 ∙ c.load-word.ensures.0 ∙ c.load-both.ensures.0 ∙ c.requires.table,
       (let w = c.args.self.now.words in omega arith),
       can_empty _ _ _ m2 m3 r x c.compare_exchange-found.result (acts_looked m.0 (high r) (low r) x m2 e c.requires.acts)
@@ -46,7 +47,7 @@ fetch_max-requires c = let m : Seated = c.args.seat.now.me in let m1 : Seated = 
     let m2 : Seated = c.load-word.new.seat.me in let m3 : Seated = c.compare_exchange-found.new.seat.me in
     let m4 : Seated = c.store.new.seat.me in let r : ℕ = c.load-both.result in let x : ℕ = c.load-word.result in
     let e : m2.0 ≡ looked_view m.0 (high r) (low r) x =
-    (looked c.args.self.now.table.shared.table_id.slots m m1 m2 r x (low r % 64) refl c.load-both.ensures.2 c.load-word.ensures.2).1 in (
+    (looked c.args.self.now.table.shared.table_id.slots m m1 m2 r x (low r % SLOTS) refl c.load-both.ensures.2 c.load-word.ensures.2).1 in (
       c.store.ensures.0 ∙ c.compare_exchange-found.ensures.0 ∙ c.load-word.ensures.0 ∙ c.load-both.ensures.0 ∙ c.requires.table,
       (let w = c.args.self.now.words in omega arith),
       can_raise _ _ _ m2 m3 m4 r x c.compare_exchange-found.result (acts_looked m.0 (high r) (low r) x m2 e c.requires.acts)
@@ -60,5 +61,5 @@ returns-clause-tried c = let m : Seated = c.args.seat.now.me in let m1 : Seated 
     let r : ℕ = c.load-both.result in let x : ℕ = c.load-word.result in let n : ℕ = c.args.self.now.table.shared.table_id.slots in
     let odd = c.if-word-eq0.false in
     (raised_chain n m m2 m3 m4 m5 r x c.compare_exchange-found.result 0
-    (looked n m m1 m2 r x (low r % 64) refl c.load-both.ensures.2 c.load-word.ensures.2) (omega arith)
+    (looked n m m1 m2 r x (low r % SLOTS) refl c.load-both.ensures.2 c.load-word.ensures.2) (omega arith)
     c.compare_exchange-found.ensures.2 c.if-found-both.false c.store.ensures.2 c.fetch_max.ensures.2).1

@@ -1,7 +1,7 @@
 -- The first list that is not empty, under its numbers.
 use Rattle.std.proofs.Common.{◌≡◌, ℕ, List, ◌+◌, Option, Some, sym, ap, ◌∙◌, subst}
 use Rattle.std.proofs.Math.ListN.{set}
-use Rattle.arena_list.specs.Versions.{Version}
+use Rattle.memtable_shards.specs.Versions.{Version}
 use Rattle.memtable_shards.specs.Parts.{MayWait, AreCut}
 use Rattle.memtable_shards.specs.Pieces.{PiecesLeft, NoPieceIsLeft, IsNextPiece}
 use Rattle.memtable_shards.proofs.Handing.{piece_waits, next_piece, cut_rest, none_left}

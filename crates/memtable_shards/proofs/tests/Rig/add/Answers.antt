@@ -2,7 +2,7 @@
 use Rattle.std.proofs.Common.{◌≡◌, List, [], ◌∷◌, ◌++◌, Some, sym, ap, ◌∙◌, subst, arith}
 use Rattle.std.proofs.Math.ListN.{set}
 use Rattle.batch_repr.specs.declared.batch.Batch.{Batch}
-use Rattle.arena_list.specs.Versions.{Version}
+use Rattle.memtable_shards.specs.Versions.{Version}
 use Rattle.memtable_shards.specs.Pieces.{PiecesLeft, whole_pieces, AreShardsAmid}
 use Rattle.memtable_shards.proofs.Applying.{next_applied, next_is_new, pieces_begin, pieces_end}
 use Rattle.memtable_shards.proofs.Rigs.{row_more, end_more, shard_at}

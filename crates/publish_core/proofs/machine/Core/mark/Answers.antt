@@ -1,4 +1,5 @@
-use Rattle.std.proofs.Common.{ℕ, ◌<◌, ◌≤◌, ◌*◌, ◌^◌, ◌%◌, length, arith}
+use Rattle.std.proofs.Common.{ℕ, ◌<◌, ◌≤◌, ◌*◌, ◌%◌, length, arith}
+use Rattle.publish_core.specs.declared.state.TheConstants.{SLOTS, END_LIMIT}
 use Rattle.publish_core.specs.Machine.{mark, ends}
 use Rattle.publish_core.specs.Parts.{shape_count}
 use Rattle.publish_core.specs.Answers.{state_of}
@@ -8,8 +9,8 @@ use Rattle.publish_core.proofs.machine.Core.mark.Goals as goal
 
 pub mark_batch-requires-clause-word : goal.mark_batch-requires-clause-word
 mark_batch-requires-clause-word c = let s = c.args.self.now in let i : ℕ = c.in-Some.batch in
-    let w : (state_of s).ring (i % 64) ≤ 2 * ends shape_count s.kept.base s.kept.batches.items (length s.kept.batches.items) = word_within (state_of s) s.sound c.args.seat i c.in-Some.ensures.held in
-    let e = s.kept.end_is in let small : s.kept.end < 2 ^ 56 = s.kept.end_small in omega arith
+    let w : (state_of s).ring (i % SLOTS) ≤ 2 * ends shape_count s.kept.base s.kept.batches.items (length s.kept.batches.items) = word_within (state_of s) s.sound c.args.seat i c.in-Some.ensures.held in
+    let e = s.kept.end_is in let small : s.kept.end < END_LIMIT = s.kept.end_small in omega arith
 
 pub invariant_of-self : goal.invariant_of-self
 invariant_of-self c = let s = c.args.self.now in

@@ -2,6 +2,7 @@ use Rattle.std.proofs.Common.{◌≡◌, ℕ, ◌<◌, true, false, IsTrue, sym,
 use Rattle.std.specs.List.{list_any}
 use mathlib.Core.Logic.{dite}
 use native.Mathlib.Decide.{ℕ_discrete, dec_le}
+use Rattle.publish_core.specs.declared.state.TheConstants.{SHARDS}
 use Rattle.publish_core.specs.Machine.{Among}
 use Rattle.publish_core.specs.Parts.{has_part}
 use Rattle.publish_core.specs.Kept.{seat_of}
@@ -29,8 +30,8 @@ loop-shard-preserved c = λ k lt part. let now : ℕ = c.loop-shard.shard in let
 
 pub returns : goal.returns
 returns c = (
-  λ _ k part. dite (dec_le 8 k)
+  λ _ k part. dite (dec_le SHARDS k)
       (λ far. absurd (no_part c.args.shape k (omega arith) far part))
-      (λ near. let lt : k < 8 = lt_of_not-le near in c.loop-shard.invariant k (omega arith) part),
+      (λ near. let lt : k < SHARDS = lt_of_not-le near in c.loop-shard.invariant k (omega arith) part),
   λ _. refl,
 )

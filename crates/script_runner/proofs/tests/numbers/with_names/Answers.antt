@@ -3,7 +3,6 @@ use Rattle.std.proofs.Common.{IsTrue, refl, ap, sym, subst}
 use Rattle.commit_pipeline.specs.Openings.{Opening}
 use Rattle.script_runner.specs.Works.{work_rounds}
 use Rattle.script_runner.proofs.AllowsStalls.{allowed}
-use Rattle.script_runner.proofs.HandsOnOver.{named_own}
 use Rattle.script_runner.proofs.tests.numbers.with_names.Goals as goal
 
 pub perform-requires-clause-may : goal.perform-requires-clause-may

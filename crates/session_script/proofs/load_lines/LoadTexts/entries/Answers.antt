@@ -1,4 +1,4 @@
-use Rattle.std.proofs.Common.{◌≡◌, ℕ, ◌+◌, ◌*◌, ◌%◌, rules, arith, ap, sym, ◌∙◌}
+use Rattle.std.proofs.Common.{◌≡◌, ℕ, ◌+◌, ◌%◌, rules, ap, sym, ◌∙◌}
 use Rattle.session_script.specs.Load.{load_key}
 use Rattle.session_script.specs.EveryNth.{nth_number}
 use Rattle.session_script.proofs.EveryNth.{stands_back}

@@ -1,13 +1,15 @@
--- Lists behind others, and prefixes: what stands at a place, and what a store answers there.
-use Rattle.std.proofs.Common.{◌≡◌, ℕ, zero, suc, ◌+◌, ◌≤◌, List, [], ◌∷◌, ◌++◌, length, take, drop, Some, refl, sym, ap, ◌∙◌, le_refl, arith}
+-- Lists behind others: what stands at a place, and what a store answers there.
+use Rattle.std.proofs.Common.{◌≡◌, ℕ, zero, suc, ◌+◌, List, [], ◌∷◌, ◌++◌, length, take, drop, Some, refl, sym, ap, ◌∙◌, le_refl, arith}
 use Rattle.std.specs.Prelude.{slice_get}
 use mathlib.Core.Option.{some, some-ne-none, some-injective}
 use lib.ListN.{get_elem?}
 use Rattle.std.proofs.lemmas.List.{drop-drop, drop_at, take_all}
+use Rattle.wal_base.specs.Prefixes.{IsPrefixOf}
+use Rattle.wal_base.proofs.Laws.{prefix_take}
 use Rattle.batch_repr.specs.declared.batch.Batch.{Batch}
 use Rattle.batch_repr.specs.Batches.{IsContiguous, end_of, end_after, answer}
-use Rattle.publish_core.specs.Machine.{ends}
-use Rattle.commit_queue.specs.Rule.{IsPrefix, numbers}
+use Rattle.commit_queue.specs.Rule.{numbers}
+use Rattle.commit_queue.specs.Shown.{end_of_first}
 
 -- ---- places behind a front
 
@@ -28,43 +30,23 @@ pub drop_after : {X : Type 0} (xs ys : List X) (p : ℕ) → drop (length xs + p
 drop_after {X = X} xs ys p =
     sym (drop-drop p (length xs) (xs ++ ys)) ∙ ap (λ (rest : List X). drop p rest) (drop_at xs ys (length xs) refl)
 
--- ---- prefixes
-
 -- the same place, as specs of sessions and of stores read it
 pub as_got : {X : Type 0} (xs : List X) (i : ℕ) (x : X) → get_elem? xs i ≡ some x → slice_get xs i ≡ Some x
 as_got [] i x e = absurd (some-ne-none x (sym e))
 as_got (y ∷ xs) zero x e = ap (λ z. Some z) (some-injective y x e)
 as_got (y ∷ xs) (suc i) x e = as_got xs i x e
 
-pub prefix_same : (xs : List Batch) → IsPrefix xs xs
-prefix_same xs k b e = e
-
-pub prefix_then : (xs ys zs : List Batch) → IsPrefix xs ys → IsPrefix ys zs → IsPrefix xs zs
-prefix_then xs ys zs one two k b e = two k b (one k b e)
-
--- a prefix is what is taken of the whole
-pub prefix_take : (xs ys : List Batch) → IsPrefix xs ys → take (length xs) ys ≡ xs
-prefix_take [] ys pre = refl
-prefix_take (x ∷ xs) [] pre = let e : get_elem? {A = Batch} [] 0 ≡ some x = pre 0 x refl in absurd (some-ne-none x (sym e))
-prefix_take (x ∷ xs) (y ∷ ys) pre =
-    let head : y ≡ x = some-injective y x (pre 0 x refl) in
-    ap (λ (b : Batch). b ∷ take (length xs) ys) head ∙ ap (λ (rest : List Batch). x ∷ rest) (prefix_take xs ys (λ k b e. pre (suc k) b e))
-
--- and a prefix that is no shorter is the whole
-pub prefix_whole : (xs ys : List Batch) → IsPrefix xs ys → length ys ≤ length xs → xs ≡ ys
-prefix_whole xs ys pre long = sym (prefix_take xs ys pre) ∙ take_all (length xs) ys long
-
 -- ---- numbers
 
 -- Batches in a row end where they end by their counts.
-pub row_end : (from : ℕ) (batches : List Batch) (n : ℕ) → IsContiguous from batches → end_after from (take n batches) ≡ ends numbers from batches n
+pub row_end : (from : ℕ) (batches : List Batch) (n : ℕ) → IsContiguous from batches → end_after from (take n batches) ≡ end_of_first from batches n
 unfolding IsContiguous end_after
 row_end from batches zero row = refl
 row_end from [] (suc n) row = refl
-row_end from (b ∷ batches) (suc n) row = row_end (end_of b) batches n row.2 ∙ ap (λ (k : ℕ). ends numbers (k + numbers b) batches n) row.0
+row_end from (b ∷ batches) (suc n) row = row_end (end_of b) batches n row.2 ∙ ap (λ (k : ℕ). end_of_first (k + numbers b) batches n) row.0
 
 -- The store answers after the base and what was seen as the base with what was seen.
-pub answer_seen : (base seen batches : List Batch) (key : List ℕ) → IsPrefix seen batches
+pub answer_seen : (base seen batches : List Batch) (key : List ℕ) → IsPrefixOf seen batches
     → answer (base ++ batches) (length base + length seen) key ≡ answer (base ++ seen) (length (base ++ seen)) key
 unfolding answer
 answer_seen base seen batches key pre =

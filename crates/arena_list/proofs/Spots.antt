@@ -1,0 +1,228 @@
+-- What stands on either side of a cut: the last version before it, and the first one after it.
+use Rattle.std.proofs.Common.{◌≡◌, ◌≢◌, ◌⊎◌, inl, inr, ℕ, ◌-◌, ◌<◌, false, List, [], ◌∷◌, ◌++◌, length, Contains, Option, sym, ap, ◌∙◌, subst, arith, Some, None, take, drop, slice_index, slice_index_or}
+use Rattle.std.specs.Prelude.{unwrap_or}
+use Rattle.std.proofs.lemmas.List.Elements.{Contains-append_left, Contains-append_right}
+use Rattle.std.proofs.lemmas.List.{take-append-drop}
+use Rattle.wal_base.proofs.Laws.{none_within, within_head, within_tail, within_cases}
+use Rattle.arena_list.specs.declared.node.TheConstants.{LEVELS}
+use Rattle.arena_list.specs.declared.node.Held.{Held}
+use Rattle.arena_list.specs.declared.node.Held.TheVariants.{Vacant, Deletion, Set}
+use Rattle.arena_list.specs.declared.node.Node.{Node}
+use Rattle.arena_list.specs.Versions.{KeyVersion, version_with, GoesBefore, Precedes}
+use Rattle.arena_list.specs.Spots.{IsLastBefore, IsFirstFrom}
+use Rattle.arena_list.specs.Chains.{last_of}
+use Rattle.arena_list.specs.Nodes.{key_of, value_of, is_vacant, held_of, unless_vacant, version_in, no_node, node_at, version_at, next_on, places_on, versions_on, AscendPlaces, IsLinked, IsArena}
+use Rattle.arena_list.specs.Steps.{IsCut, AreCuts}
+use Rattle.arena_list.specs.Tops.{IsTop, IsTopCut}
+use Rattle.arena_list.proofs.Chains.{last_cases, not_the_end}
+use Rattle.arena_list.proofs.Orders.{before_along, never_before_itself}
+use Rattle.arena_list.proofs.Levels.{mapped, unmapped, ascend_across, within_lowest, read_at}
+use Rattle.arena_list.proofs.Cuts.{cut_last, sides, after_sides, next_after, next_held}
+use Rattle.arena_list.proofs.Arenas.{lands_at}
+
+-- of places in order, each is the last one or goes before it
+before_last : (nodes : List Node) (start : ℕ) (xs ys : List ℕ) → AscendPlaces nodes (xs ++ ys) → (p : ℕ) → Contains xs p
+    → Contains xs (last_of start xs) × ((p ≡ last_of start xs) ⊎ Precedes (version_at nodes p) (version_at nodes (last_of start xs)))
+before_last nodes start [] ys a p h = absurd (none_within p h)
+before_last nodes start (x ∷ xs) ys a p h = elim (last_cases x xs) [
+  | inl is ↦ (
+    subst (Contains (x ∷ xs)) (sym is) (within_head x xs),
+    elim (within_cases x xs p h) [
+      | inl e ↦ inl (sym e ∙ sym is)
+      | inr rest ↦ (before_last nodes x xs ys a.1 p rest).1
+    ],
+  )
+  | inr there ↦ (
+    within_tail x xs (last_of x xs) there,
+    elim (within_cases x xs p h) [
+      | inl e ↦ inr (subst (λ (w : ℕ). Precedes (version_at nodes w) (version_at nodes (last_of x xs))) e
+          (a.0 (last_of x xs) (Contains-append_left xs ys (last_of x xs) there)))
+      | inr rest ↦ (before_last nodes x xs ys a.1 p rest).1
+    ],
+  )
+]
+
+module _ (nodes : List Node) (linked : IsLinked nodes) (key : List ℕ) (number last : ℕ) (cut : IsCut nodes 0 key number last) where
+  ascends : AscendPlaces nodes (cut.before ++ cut.after)
+  ascends = subst (AscendPlaces nodes) cut.is (linked.levels 0 (omega arith)).ascends
+
+  -- the version of a place, by a fact on places
+  at_places : (P : KeyVersion → Type 0) → ((p : ℕ) → Contains (places_on nodes 0) p → P (version_at nodes p))
+      → (version : KeyVersion) → Contains (versions_on nodes 0) version → P version
+  at_places P all version h =
+      let m = unmapped (version_at nodes) (places_on nodes 0) version h in subst P m.2 (all m.0 m.1)
+
+  pub some_before : last ≢ 0 → IsLastBefore (versions_on nodes 0) key number (Some (version_at nodes last))
+  some_before some = record {
+    stands = mapped (version_at nodes) (places_on nodes 0) last there;
+    before = cut.early last in_before;
+    last = at_places (λ (v : KeyVersion). GoesBefore v key number → (v ≡ version_at nodes last) ⊎ Precedes v (version_at nodes last))
+        (λ p h early. elim (sides nodes linked key number last cut p h) [
+          | inl before ↦ elim ((before_last nodes 0 cut.before cut.after ascends p before).1) [
+            | inl same ↦ inl (ap (version_at nodes) (same ∙ sym cut.ends))
+            | inr first ↦ inr (subst (λ (w : ℕ). Precedes (version_at nodes p) (version_at nodes w)) (sym cut.ends) first)
+          ]
+          | inr after ↦ absurd (cut.late p after early)
+        ]);
+  }
+    where
+      in_before : Contains cut.before last
+      in_before = elim (last_cases 0 cut.before) [
+        | inl head ↦ absurd (some (cut.ends ∙ head))
+        | inr there ↦ subst (Contains cut.before) (sym cut.ends) there
+      ]
+
+      there : Contains (places_on nodes 0) last
+      there = elim (cut_last nodes 0 key number last cut) [ inl head ↦ absurd (some head) | inr held ↦ held ]
+
+  pub none_before : last ≡ 0 → IsLastBefore (versions_on nodes 0) key number None
+  none_before head = at_places (λ (v : KeyVersion). GoesBefore v key number → ⊥)
+      (λ p h early. elim (sides nodes linked key number last cut p h) [
+        | inl before ↦ not_the_end (next_on nodes 0) (next_on nodes 0 0) (places_on nodes 0) (linked.levels 0 (omega arith)).follows (last_of 0 cut.before)
+            (subst (λ (l : List ℕ). Contains l (last_of 0 cut.before)) (sym cut.is)
+            (Contains-append_left cut.before cut.after (last_of 0 cut.before) (before_last nodes 0 cut.before cut.after ascends p before).0))
+            (sym cut.ends ∙ head)
+        | inr after ↦ cut.late p after early
+      ])
+
+  pub some_from : next_on nodes 0 last ≢ 0 → IsFirstFrom (versions_on nodes 0) key number (Some (version_at nodes (next_on nodes 0 last)))
+  some_from some = record {
+    stands = mapped (version_at nodes) (places_on nodes 0) (next_on nodes 0 last) (next_held nodes linked key number last cut some);
+    late = cut.late (next_on nodes 0 last) (next_after nodes linked key number last cut some);
+    first = at_places
+        (λ (v : KeyVersion). (GoesBefore v key number → ⊥)
+        → (v ≡ version_at nodes (next_on nodes 0 last)) ⊎ Precedes (version_at nodes (next_on nodes 0 last)) v)
+        (λ p h late. elim (sides nodes linked key number last cut p h) [
+          | inl before ↦ absurd (late (cut.early p before))
+          | inr after ↦ elim ((after_sides nodes linked key number last cut p after).1) [
+            | inl same ↦ inl (ap (version_at nodes) same)
+            | inr later ↦ inr later
+          ]
+        ]);
+  }
+
+  pub none_from : next_on nodes 0 last ≡ 0 → IsFirstFrom (versions_on nodes 0) key number None
+  none_from end = at_places (λ (v : KeyVersion). GoesBefore v key number)
+      (λ p h. elim (sides nodes linked key number last cut p h) [
+        | inl before ↦ cut.early p before
+        | inr after ↦ absurd ((after_sides nodes linked key number last cut p after).0 end)
+      ])
+
+  -- ---- what cuts the levels at a key and a number cuts them at the first version from there on, too
+
+  -- a place that goes before the one goes before the other
+  early_both : next_on nodes 0 last ≢ 0 → (p : ℕ) → Contains (places_on nodes 0) p → GoesBefore (version_at nodes p) key number
+      → Precedes (version_at nodes p) (version_at nodes (next_on nodes 0 last))
+  early_both some p h early = elim (sides nodes linked key number last cut p h) [
+    | inl before ↦ ascend_across nodes cut.before cut.after p (next_on nodes 0 last) ascends before
+        (next_after nodes linked key number last cut some)
+    | inr after ↦ absurd (cut.late p after early)
+  ]
+
+  late_both : (p : ℕ) → Contains (places_on nodes 0) p → (GoesBefore (version_at nodes p) key number → ⊥)
+      → Precedes (version_at nodes p) (version_at nodes (next_on nodes 0 last)) → ⊥
+  late_both p h late first = elim (sides nodes linked key number last cut p h) [
+    | inl before ↦ late (cut.early p before)
+    | inr after ↦ elim ((after_sides nodes linked key number last cut p after).1) [
+      | inl same ↦ never_before_itself (version_at nodes (next_on nodes 0 last))
+          (subst (λ (w : ℕ). Precedes (version_at nodes w) (version_at nodes (next_on nodes 0 last))) same first)
+      | inr later ↦ never_before_itself (version_at nodes (next_on nodes 0 last))
+          (before_along (version_at nodes (next_on nodes 0 last)) (version_at nodes p) (version_at nodes (next_on nodes 0 last)).key
+          (version_at nodes (next_on nodes 0 last)).number later first)
+    ]
+  ]
+
+  pub same_cut : next_on nodes 0 last ≢ 0 → (level place : ℕ) → level < LEVELS → IsCut nodes level key number place
+      → IsCut nodes level (version_at nodes (next_on nodes 0 last)).key (version_at nodes (next_on nodes 0 last)).number place
+  same_cut some level place less one = record {
+    before = one.before;
+    after = one.after;
+    is = one.is;
+    ends = one.ends;
+    early = λ p h. early_both some p (low p (Contains-append_left one.before one.after p h)) (one.early p h);
+    late = λ p h. late_both p (low p (Contains-append_right one.before one.after p h)) (one.late p h);
+  }
+    where
+      low : (p : ℕ) → Contains (one.before ++ one.after) p → Contains (places_on nodes 0) p
+      low p h = within_lowest nodes linked level p less (subst (λ (l : List ℕ). Contains l p) (sym one.is) h)
+
+  pub same_top_cut : next_on nodes 0 last ≢ 0 → (top : List ℕ) (index : ℕ) → IsTop nodes top → IsTopCut nodes top key number index
+      → IsTopCut nodes top (version_at nodes (next_on nodes 0 last)).key (version_at nodes (next_on nodes 0 last)).number index
+  same_top_cut some top index is one = record {
+    within = one.within;
+    early = λ p h. early_both some p (low p (Contains-append_left (take index top) (drop index top) p h)) (one.early p h);
+    late = λ p h. late_both p (low p (Contains-append_right (take index top) (drop index top) p h)) (one.late p h);
+  }
+    where
+      low : (p : ℕ) → Contains (take index top ++ drop index top) p → Contains (places_on nodes 0) p
+      low p h = within_lowest nodes linked (LEVELS - 1) p (omega arith) (is.linked p (subst (λ (l : List ℕ). Contains l p) (take-append-drop index top) h))
+
+-- ---- what is taken out where a search lands
+
+module _ (nodes : List Node) (first count : ℕ) (arena : IsArena nodes first count) (key : List ℕ) (seq : ℕ) (lasts : List ℕ)
+    (cuts : AreCuts nodes key seq lasts) where
+  cut : IsCut nodes 0 key seq (slice_index lasts 0)
+  cut = cuts 0 (omega arith)
+
+  pub last_within : slice_index lasts 0 < length nodes
+  last_within = (lands_at nodes key seq (slice_index lasts 0) no_node arena.linked (omega (arith, arena.all)) cut).within
+
+  module _ (node : Node) (is : node ≡ slice_index_or nodes (slice_index lasts 0) node) where
+    next_is : slice_index node.links 0 ≡ next_on nodes 0 (slice_index lasts 0)
+    next_is = ap (λ (n : Node). slice_index n.links 0) (is ∙ read_at nodes (slice_index lasts 0) node last_within)
+
+    pub found_none : slice_index node.links 0 ≡ 0 → IsFirstFrom (versions_on nodes 0) key seq None
+    found_none end = none_from nodes arena.linked key seq (slice_index lasts 0) cut (sym next_is ∙ end)
+
+    module _ (some : slice_index node.links 0 ≢ 0) where
+      goes_on : next_on nodes 0 (slice_index lasts 0) ≢ 0
+      goes_on e = some (next_is ∙ e)
+
+      pub found_held : Contains (places_on nodes 0) (slice_index node.links 0)
+      found_held = subst (Contains (places_on nodes 0)) (sym next_is) (next_held nodes arena.linked key seq (slice_index lasts 0) cut goes_on)
+
+      pub found_within : slice_index node.links 0 < length nodes
+      found_within = ((arena.linked.levels 0 (omega arith)).held (slice_index node.links 0) found_held).0
+
+      pub found_filled : is_vacant (node_at nodes (slice_index node.links 0)).held ≡ false
+      found_filled = ((arena.linked.levels 0 (omega arith)).held (slice_index node.links 0) found_held).1
+
+      pub found_first : IsFirstFrom (versions_on nodes 0) key seq (Some (version_at nodes (slice_index node.links 0)))
+      found_first = subst (λ (p : ℕ). IsFirstFrom (versions_on nodes 0) key seq (Some (version_at nodes p))) (sym next_is)
+          (some_from nodes arena.linked key seq (slice_index lasts 0) cut goes_on)
+
+      pub found_cuts : AreCuts nodes (version_at nodes (slice_index node.links 0)).key (version_at nodes (slice_index node.links 0)).number lasts
+      found_cuts level less =
+          subst (λ (p : ℕ). IsCut nodes level (version_at nodes p).key (version_at nodes p).number (slice_index lasts level)) (sym next_is)
+          (same_cut nodes arena.linked key seq (slice_index lasts 0) cut goes_on level (slice_index lasts level) less (cuts level less))
+
+      pub found_top : (top : List ℕ) (index : ℕ) → IsTop nodes top → IsTopCut nodes top key seq index
+          → IsTopCut nodes top (version_at nodes (slice_index node.links 0)).key (version_at nodes (slice_index node.links 0)).number index
+      found_top top index top_is top_cut =
+          subst (λ (p : ℕ). IsTopCut nodes top (version_at nodes p).key (version_at nodes p).number index) (sym next_is)
+          (same_top_cut nodes arena.linked key seq (slice_index lasts 0) cut goes_on top index top_is top_cut)
+
+-- ---- what a node hands over
+
+handed : (held : Held) (key : List ℕ) (value : Option (List ℕ)) → Some (held_of key value) ≡ unless_vacant held → held_of key value ≡ held
+handed Vacant key value e = absurd cc
+handed (Deletion own) key value e = ap (λ (o : Option Held). unwrap_or o Vacant) e
+handed (Set own bytes) key value e = ap (λ (o : Option Held). unwrap_or o Vacant) e
+
+pub nothing_handed : (held : Held) → None ≡ unless_vacant held → is_vacant held ≡ false → ⊥
+nothing_handed Vacant e some = absurd cc
+nothing_handed (Deletion own) e some = absurd cc
+nothing_handed (Set own bytes) e some = absurd cc
+
+handed_version : (node : Node) (key : List ℕ) (value : Option (List ℕ)) → held_of key value ≡ node.held → version_with key node.seq value ≡ version_in node
+handed_version node key None is =
+    ap (λ (h : Held). let v : KeyVersion = record { key = key_of h; number = node.seq; value = value_of h } in v) is
+handed_version node key (Some bytes) is =
+    ap (λ (h : Held). let v : KeyVersion = record { key = key_of h; number = node.seq; value = value_of h } in v) is
+
+pub handed_over : (nodes : List Node) (place : ℕ) (node : Node) (held : Held) (key : List ℕ) (value : Option (List ℕ)) → place < length nodes
+    → node ≡ slice_index_or nodes place node → held ≡ (node_at nodes place).held → Some (held_of key value) ≡ unless_vacant held
+    → version_with key node.seq value ≡ version_at nodes place
+handed_over nodes place node held key value less is was e =
+    let same : node ≡ node_at nodes place = is ∙ read_at nodes place node less in
+    handed_version node key value (handed held key value e ∙ was ∙ ap (λ (n : Node). n.held) (sym same)) ∙ ap version_in same

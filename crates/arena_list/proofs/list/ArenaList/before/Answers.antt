@@ -1,0 +1,42 @@
+-- The last place before the cut holds the version, where it is not the head.
+use Rattle.std.proofs.Common.{◌≡◌, ◌<◌, List, Some, None, length, sym, ap, ◌∙◌, subst, arith, slice_index}
+use Rattle.arena_list.specs.declared.node.Node.{Node}
+use Rattle.arena_list.specs.Versions.{KeyVersion, version_shown}
+use Rattle.arena_list.specs.Spots.{IsLastBefore}
+use Rattle.arena_list.specs.Arena.{Arena}
+use Rattle.arena_list.specs.Nodes.{IsLinked, no_node, versions_on, arena_of}
+use Rattle.arena_list.proofs.Levels.{version_read}
+use Rattle.arena_list.proofs.Arenas.{lands_at}
+use Rattle.arena_list.proofs.Spots.{some_before, none_before}
+use Rattle.arena_list.proofs.list.ArenaList.before.Goals as goal
+
+pub bounds-nodes-place : goal.bounds-nodes-place
+bounds-nodes-place c =
+    let is : c.as_slice-nodes.result.now ≡ c.self.inside.nodes.items = c.as_slice-nodes.ensures.value in
+    let some : 0 < length c.as_slice-nodes.result.now = omega (arith, c.self.invariant.0.all, ap length is) in
+    (lands_at c.as_slice-nodes.result.now c.args.key.now c.args.seq (slice_index c.find_spot-spot.result.lasts 0) no_node
+    (subst IsLinked (sym is) c.self.invariant.0.linked) some (c.find_spot-spot.ensures.lasts 0 (omega arith))).within
+
+pub returns-then-place-eq0 : goal.returns-then-place-eq0
+returns-then-place-eq0 c =
+    let nodes = c.as_slice-nodes.result.now in
+    let is : nodes ≡ c.self.inside.nodes.items = c.as_slice-nodes.ensures.value in
+    subst (λ (a : Arena). IsLastBefore a.versions c.args.key.now c.args.seq None)
+    (ap (λ (ns : List Node). arena_of ns c.self.inside.free.count) is ∙ c.self.view_is)
+    (none_before nodes (subst IsLinked (sym is) c.self.invariant.0.linked) c.args.key.now c.args.seq (slice_index c.find_spot-spot.result.lasts 0)
+    (c.find_spot-spot.ensures.lasts 0 (omega arith)) c.if-place-eq0.true)
+
+pub returns : goal.returns
+returns c =
+    let nodes = c.as_slice-nodes.result.now in
+    let is : nodes ≡ c.self.inside.nodes.items = c.as_slice-nodes.ensures.value in
+    let some : 0 < length nodes = omega (arith, c.self.invariant.0.all, ap length is) in
+    let linked : IsLinked nodes = subst IsLinked (sym is) c.self.invariant.0.linked in
+    let last = slice_index c.find_spot-spot.result.lasts 0 in
+    let cut = c.find_spot-spot.ensures.lasts 0 (omega arith) in
+    let within : last < length nodes = (lands_at nodes c.args.key.now c.args.seq last no_node linked some cut).within in
+    subst (λ (a : Arena). IsLastBefore a.versions c.args.key.now c.args.seq (Some (version_shown c.version.result)))
+    (ap (λ (ns : List Node). arena_of ns c.self.inside.free.count) is ∙ c.self.view_is)
+    (subst (λ (v : KeyVersion). IsLastBefore (versions_on nodes 0) c.args.key.now c.args.seq (Some v))
+    (sym (c.version.ensures ∙ version_read nodes last c.index-nodes-place.result c.index-nodes-place.is within))
+    (some_before nodes linked c.args.key.now c.args.seq last cut c.if-place-eq0.false))

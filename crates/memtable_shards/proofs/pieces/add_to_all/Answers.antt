@@ -1,0 +1,1 @@
+-- One list after another gets the version.

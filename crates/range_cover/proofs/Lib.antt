@@ -1,0 +1,7 @@
+mod Keys
+mod Tops
+mod Telling
+mod Raised
+mod Held
+mod Fewer
+mod Scan
