@@ -1,15 +1,19 @@
 -- What a list is seen as, by its nodes.
-use Rattle.std.proofs.Common.{◌≡◌, ◌≢◌, ◌⊎◌, inl, inr, ℕ, zero, suc, ◌+◌, ◌-◌, ◌<◌, List, [], ◌∷◌, length, map, Contains, refl, sym, ap, ◌∙◌, subst, arith, slice_index, slice_index_or, Some, replicate, get_or}
+use Rattle.std.proofs.Common.{◌≡◌, ◌≢◌, ◌⊎◌, inl, inr, ℕ, zero, suc, ◌+◌, ◌-◌, ◌<◌, List, [], ◌∷◌, ◌++◌, length, map, Contains, refl, sym, ap, ◌∙◌, subst, arith, slice_index, slice_index_or, Some, replicate, get_or}
+use Rattle.std.proofs.lemmas.List.{map-append}
+use Rattle.std.proofs.lemmas.List.Elements.{Contains-append_right}
 use Rattle.wal_base.proofs.Laws.{none_within}
+use Rattle.arena_list.specs.Chains.{LeadsAlong, path}
+use Rattle.arena_list.proofs.Chains.{path_of}
 use Rattle.arena_list.specs.declared.node.TheConstants.{LEVELS}
 use Rattle.arena_list.specs.declared.node.Node.{Node}
-use Rattle.arena_list.specs.Versions.{KeyVersion, AscendVersions, AreSomeOf, IsAt, HoldsVersion}
+use Rattle.arena_list.specs.Versions.{KeyVersion, AscendVersions, AreSomeOf, IsAt, HoldsVersion, GoesBefore, IsRestFrom}
 use Rattle.arena_list.specs.declared.found.Found.{Found}
 use Rattle.arena_list.specs.Newest.{HasNoneOfKey, IsNewestOf, FindsNewestOfKey, version_found}
 use Rattle.arena_list.specs.Steps.{IsCut}
-use Rattle.arena_list.proofs.Cuts.{cut_last, next_held, newest_at, newest_none, held_next}
+use Rattle.arena_list.proofs.Cuts.{cut_last, follows_cut, next_held, newest_at, newest_none, held_next}
 use Rattle.arena_list.specs.Arena.{on_level}
-use Rattle.arena_list.specs.Nodes.{version_at, next_on, places_on, versions_on, arena_of, IsLevel, IsLinked, IsArena}
+use Rattle.arena_list.specs.Nodes.{version_at, next_on, places_on, versions_on, versions_along, arena_of, IsLevel, IsLinked, IsOnLevel, IsArena}
 use Rattle.arena_list.proofs.Levels.{mapped, unmapped, ascend_versions, level_is, level_of, on_level_is, read_next}
 
 pub zeros_at : (n i : ℕ) → ◌≡◌ {A = ℕ} (get_or (replicate {A = ℕ} n 0) i 0) 0
@@ -123,3 +127,32 @@ module _ (nodes : List Node) (linked : IsLinked nodes) (key : List ℕ) (number 
 
   pub landed : place ≢ 0 → Contains (places_on nodes 0) place
   landed some = subst (Contains (places_on nodes 0)) (sym is) (next_held nodes linked key number last cut (λ e. some (is ∙ e)))
+
+-- what follows a cut of the lowest level
+pub walk_begins_at : (nodes : List Node) (linked : IsLinked nodes) (key : List ℕ) (number last : ℕ) (cut : IsCut nodes 0 key number last)
+    → IsRestFrom (versions_on nodes 0) key number (versions_along nodes 0 (next_on nodes 0 last)) × IsOnLevel nodes 0 (next_on nodes 0 last)
+walk_begins_at nodes linked key number last cut = (
+  record {
+    front = map (version_at nodes) cut.before;
+    is = ap (map (version_at nodes)) cut.is ∙ map-append (version_at nodes) cut.before cut.after
+        ∙ ap (λ (l : List ℕ). map (version_at nodes) cut.before ++ map (version_at nodes) l) (sym along);
+    before = λ version h.
+        let m = unmapped (version_at nodes) cut.before version h in
+        subst (λ (v : KeyVersion). GoesBefore v key number) m.2 (cut.early m.0 m.1);
+    from = λ version h g.
+        let m = unmapped (version_at nodes) cut.after version
+        (subst (λ (l : List ℕ). Contains (map (version_at nodes) l) version) along h) in
+        cut.late m.0 m.1 (subst (λ (v : KeyVersion). GoesBefore v key number) (sym m.2) g);
+  },
+  record { within = omega arith; rest = cut.after; follows = follows; there = below },
+)
+  where
+    follows : LeadsAlong (next_on nodes 0) (next_on nodes 0 last) cut.after
+    follows = follows_cut nodes 0 key number last linked (omega arith) cut
+
+    below : (p : ℕ) → Contains cut.after p → p < length nodes
+    below p h = ((linked.levels 0 (omega arith)).held p
+        (subst (λ (l : List ℕ). Contains l p) (sym cut.is) (Contains-append_right cut.before cut.after p h))).0
+
+    along : path (next_on nodes 0) (next_on nodes 0 last) (length nodes) ≡ cut.after
+    along = path_of (next_on nodes 0) (next_on nodes 0 last) cut.after (length nodes) follows below

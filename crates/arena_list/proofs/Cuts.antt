@@ -66,7 +66,7 @@ stands nodes level key number last (inl head) = inl head
 stands nodes level key number last (inr there) = inr there.0
 
 -- the place that is led on to, where it is not the end
-next_there : (next : ℕ → ℕ) (first : ℕ) (back : List ℕ) → LeadsAlong next first back → first ≢ 0
+pub next_there : (next : ℕ → ℕ) (first : ℕ) (back : List ℕ) → LeadsAlong next first back → first ≢ 0
     → (rest : List ℕ) × (back ≡ first ∷ rest) × LeadsAlong next (next first) rest
 next_there next first [] f some = absurd (some f)
 next_there next first (x ∷ rest) f some =

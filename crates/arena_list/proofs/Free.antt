@@ -85,20 +85,20 @@ is_taken old new free left place frees head linked are (inl taken) =
       few = λ less. omega (arith, less, ap length taken.2);
     }
 is_taken old new free left place frees head linked are (inr made) = record {
-  longer = omega (arith, ap length made.3.1, length-append old (made.3.0 ∷ []));
-  within = omega (arith, ap length made.3.1, length-append old (made.3.0 ∷ []), made.1);
-  some = λ e. omega (arith, head, made.1, e);
-  fresh = λ h. omega (arith, ((linked.levels 0 (omega arith)).held place h).0, made.1);
-  kept = λ other o. ap (λ (nodes : List Node). node_at nodes other) made.3.1 ∙ node_kept old made.3.0 other (λ e. o (e ∙ sym made.1));
+  longer = omega (arith, ap length made.1.is, length-append old (made.1.made ∷ []));
+  within = omega (arith, ap length made.1.is, length-append old (made.1.made ∷ []), made.1.at);
+  some = λ e. omega (arith, head, made.1.at, e);
+  fresh = λ h. omega (arith, ((linked.levels 0 (omega arith)).held place h).0, made.1.at);
+  kept = λ other o. ap (λ (nodes : List Node). node_at nodes other) made.1.is ∙ node_kept old made.1.made other (λ e. o (e ∙ sym made.1.at));
   frees = frees;
-  none = λ h. omega (arith, (are.vacant place h).0, made.1);
-  free_left = subst (λ (f : FreeList). AreFree old f.first f.count frees) (sym made.4) are;
+  none = λ h. omega (arith, (are.vacant place h).0, made.1.at);
+  free_left = subst (λ (f : FreeList). AreFree old f.first f.count frees) (sym made.2) are;
   counts = inr (
     none_counted frees are,
-    ap (λ (f : FreeList). f.count) made.4 ∙ none_counted frees are,
-    omega (arith, ap length made.3.1, length-append old (made.3.0 ∷ [])),
+    ap (λ (f : FreeList). f.count) made.2 ∙ none_counted frees are,
+    omega (arith, ap length made.1.is, length-append old (made.1.made ∷ [])),
   );
-  few = λ less. omega (arith, made.2, ap length made.3.1, length-append old (made.3.0 ∷ []));
+  few = λ less. omega (arith, made.1.few, ap length made.1.is, length-append old (made.1.made ∷ []));
 }
   where
     none_counted : (places : List ℕ) → AreFree old free.first free.count places → free.count ≡ 0

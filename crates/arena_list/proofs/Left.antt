@@ -29,7 +29,7 @@ pub record LeavesPlace (old new : List Node) (level place : ℕ) : Type 0 where
 module _ (old new : List Node) (lasts : List ℕ) (place first : ℕ) (linked : IsLinked old)
     (cuts : AreCuts old (version_at old place).key (version_at old place).number lasts)
     (held : Contains (places_on old 0) place) (left : TakesOut old lasts place first new) where
-  version_kept : (x : ℕ) → x ≢ place → version_at new x ≡ version_at old x
+  pub version_kept : (x : ℕ) → x ≢ place → version_at new x ≡ version_at old x
   version_kept x other = version_same (node_at new x) (node_at old x) (left.held x other) (left.seq x other)
 
   there : (level x : ℕ) → level < LEVELS → Contains (places_on old level) x → x ≢ place → HasNode new false x
@@ -59,20 +59,43 @@ module _ (old new : List Node) (lasts : List ℕ) (place first : ℕ) (linked : 
             | inr in_before ↦ never_before_itself (version_at old place) (all place (subst (Contains before) (sym ends ∙ e) in_before))
           ]
 
+  -- the level of the others
+  without_is : (level : ℕ) → level < LEVELS → (before after : List ℕ) → places_on old level ≡ before ++ place ∷ after
+      → slice_index lasts level ≡ last_of 0 before → next_on old level (slice_index lasts level) ≡ place → IsLevel new level (before ++ after)
+  without_is level less before after is ends leads = record {
+    follows = spliced_out (next_on old level) (next_on new level) place 0 before after follows
+        (ap (next_on new level) (sym ends) ∙ left.to level less (last_other level less) leads)
+        (λ x other last. left.others level x other (λ e _. absurd (last (e ∙ ends))))
+        (follows_distinct_head (next_on old level) (next_on old level 0) (before ++ place ∷ after) follows);
+    ascends = ascend_same old new (before ++ after) (λ x h. version_kept x (apart x h))
+        (ascend_out old before after place (subst (AscendPlaces old) is (linked.levels level less).ascends));
+    held = λ x h. there level x less (in_old x h) (apart x h);
+  }
+    where
+      follows : LeadsAlong (next_on old level) (next_on old level 0) (before ++ place ∷ after)
+      follows = subst (LeadsAlong (next_on old level) (next_on old level 0)) is (linked.levels level less).follows
+
+      in_old : (x : ℕ) → Contains (before ++ after) x → Contains (places_on old level) x
+      in_old x h = subst (λ (l : List ℕ). Contains l x) (sym is) (amid_more before after place x h)
+
+      apart : (x : ℕ) → Contains (before ++ after) x → x ≢ place
+      apart x h e =
+          (distinct_out before after place
+          (follows_distinct (next_on old level) (next_on old level 0) (before ++ place ∷ after)
+          (subst (LeadsAlong (next_on old level) (next_on old level 0)) is (linked.levels level less).follows))).1
+          (subst (Contains (before ++ after)) e h)
+
+  -- where the last place before it leads on to it, the level is the others
+  pub level_without : (level : ℕ) → level < LEVELS → (before after : List ℕ) → places_on old level ≡ before ++ place ∷ after
+      → slice_index lasts level ≡ last_of 0 before → next_on old level (slice_index lasts level) ≡ place → places_on new level ≡ before ++ after
+  level_without level less before after is ends leads = level_is new level (before ++ after) (without_is level less before after is ends leads)
+
   -- where the last place before it leads on to it, it is taken out
   taken_out : (level : ℕ) → level < LEVELS → (before after : List ℕ) → places_on old level ≡ before ++ place ∷ after
       → slice_index lasts level ≡ last_of 0 before → next_on old level (slice_index lasts level) ≡ place → LeavesPlace old new level place
   taken_out level less before after is ends leads = record {
     places = before ++ after;
-    is = record {
-      follows = spliced_out (next_on old level) (next_on new level) place 0 before after follows
-          (ap (next_on new level) (sym ends) ∙ left.to level less (last_other level less) leads)
-          (λ x other last. left.others level x other (λ e _. absurd (last (e ∙ ends))))
-          (follows_distinct_head (next_on old level) (next_on old level 0) (before ++ place ∷ after) follows);
-      ascends = ascend_same old new (before ++ after) (λ x h. version_kept x (apart x h))
-          (ascend_out old before after place (subst (AscendPlaces old) is (linked.levels level less).ascends));
-      held = λ x h. there level x less (in_old x h) (apart x h);
-    };
+    is = without_is level less before after is ends leads;
     from = λ x h. (in_old x h, apart x h);
     to = λ x h other. elim (amid_cases before after place x (subst (λ (l : List ℕ). Contains l x) is h)) [
       | inl same ↦ absurd (other (sym same))
@@ -81,9 +104,6 @@ module _ (old new : List Node) (lasts : List ℕ) (place first : ℕ) (linked : 
     shorter = λ _. omega (arith, ap length is, length-append before (place ∷ after), length-append before after);
   }
     where
-      follows : LeadsAlong (next_on old level) (next_on old level 0) (before ++ place ∷ after)
-      follows = subst (LeadsAlong (next_on old level) (next_on old level 0)) is (linked.levels level less).follows
-
       in_old : (x : ℕ) → Contains (before ++ after) x → Contains (places_on old level) x
       in_old x h = subst (λ (l : List ℕ). Contains l x) (sym is) (amid_more before after place x h)
 

@@ -1,5 +1,5 @@
 -- The places of a level, in order, as the function tells them.
-use Rattle.std.proofs.Common.{◌≡◌, ◌⊎◌, inl, inr, ℕ, zero, suc, ◌+◌, ◌<◌, List, [], ◌∷◌, ◌++◌, length, map, Contains, sym, ap, ap₂, ◌∙◌, subst, arith}
+use Rattle.std.proofs.Common.{◌≡◌, ◌⊎◌, inl, inr, ℕ, zero, suc, ◌+◌, ◌<◌, List, [], ◌∷◌, ◌++◌, length, map, Contains, refl, sym, ap, ap₂, ◌∙◌, subst, arith}
 use Rattle.std.specs.Prelude.{slice_index_or, slice_index}
 use Rattle.std.proofs.lemmas.List.{get_or_default}
 use Rattle.std.proofs.lemmas.List.FromFn.{get_or-map-range_with_len}
@@ -28,6 +28,10 @@ unmapped f (w ∷ xs) y h = elim (within_cases (f w) (map f xs) y h) [
   | inl is ↦ (w, within_head w xs, is)
   | inr rest ↦ let m = unmapped f xs y rest in (m.0, within_tail w xs m.0 m.1, m.2)
 ]
+
+pub map_same : {X Y : Type 0} (f g : X → Y) (xs : List X) → ((x : X) → Contains xs x → f x ≡ g x) → map f xs ≡ map g xs
+map_same f g [] same = refl
+map_same f g (x ∷ xs) same = ap₂ ◌∷◌ (same x (within_head x xs)) (map_same f g xs (λ y h. same y (within_tail x xs y h)))
 
 -- ---- versions that ascend
 

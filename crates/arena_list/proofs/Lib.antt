@@ -7,7 +7,13 @@ mod Cuts
 mod Spots
 mod Tops
 mod Free
+mod Made
 mod Joined
 mod Left
+mod Passing
+mod Marking
+mod Sweeping
+mod Swept
+mod Held
 mod Walks
 mod Arenas

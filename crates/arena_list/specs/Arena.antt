@@ -20,3 +20,7 @@ places_in arena = length arena.versions + arena.free
 abbrev pub UsesPlace : Arena → Arena → Type 0
 UsesPlace old new = ((0 < old.free) × (new.free + 1 ≡ old.free) × (places_in new ≡ places_in old))
     ⊎ ((old.free ≡ 0) × (new.free ≡ 0) × (places_in new ≡ places_in old + 1))
+
+-- A place is made where none was free, and nothing else changes.
+abbrev pub MakesRoom : Arena → Arena → Type 0
+MakesRoom old new = ((0 < old.free) × (new ≡ old)) ⊎ ((old.free ≡ 0) × (new ≡ record old { free = 1 }))

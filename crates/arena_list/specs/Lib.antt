@@ -1,5 +1,6 @@
 pub mod Versions
 pub mod Newest
+pub mod Marks
 pub mod Spots
 pub mod Arena
 pub mod Chains
@@ -7,3 +8,5 @@ pub mod Leads
 pub mod Nodes
 pub mod Steps
 pub mod Tops
+pub mod Keeping
+pub mod Theorems

@@ -63,12 +63,20 @@ pub record LinksOut (old : List Node) (lasts : List ℕ) (place height : ℕ) (n
 
 -- ---- the places
 
+-- A place is made at the end, which holds nothing and leads on to no other.
+pub record MakesPlace (nodes : List Node) (place : ℕ) (new_nodes : List Node) : Type 0 where
+  pub at : place ≡ length nodes
+  pub few : length nodes + 1 < 2 ^ 32
+  pub made : Node
+  pub is : new_nodes ≡ nodes ++ made ∷ []
+  pub vacant : is_vacant made.held ≡ true
+  pub ends : slice_index made.links 0 ≡ 0
+
 -- A place is taken off the free list, or made at the end where none is free.
 abbrev pub TakesPlace : List Node → FreeList → ℕ → List Node → FreeList → Type 0
 TakesPlace nodes free place new_nodes new_free =
     ((free.first ≢ 0) × (place ≡ free.first) × (new_nodes ≡ nodes) × (new_free.first ≡ next_on nodes 0 place) × (new_free.count + 1 ≡ free.count))
-    ⊎ ((free.first ≡ 0) × (place ≡ length nodes) × (length nodes + 1 < 2 ^ 32)
-    × ((made : Node) × (new_nodes ≡ nodes ++ made ∷ []) × (is_vacant made.held ≡ true)) × (new_free ≡ free))
+    ⊎ ((free.first ≡ 0) × MakesPlace nodes place new_nodes × (new_free ≡ free))
 
 -- A version is put into a place, which leads on to what these nodes led on to, and they lead on to it, so many levels high.
 pub record PutsIn (old : List Node) (lasts : List ℕ) (place height : ℕ) (held : Held) (seq : ℕ) (new : List Node) : Type 0 where

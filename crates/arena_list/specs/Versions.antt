@@ -1,5 +1,5 @@
 -- The versions of keys, and the order of a walk: by key ascending and, within a key, by number descending (docs/formats/ring.md, "The shards").
-use Rattle.std.specs.Prelude.{◌≡◌, ◌⊎◌, ◌↔◌, ℕ, List, [], ◌∷◌, Option, Contains, option_map, ⊤}
+use Rattle.std.specs.Prelude.{◌≡◌, ◌⊎◌, ◌↔◌, ℕ, List, [], ◌∷◌, ◌++◌, Option, Contains, option_map, ⊤}
 use Rattle.std.specs.declared.cmp.Ordering.{Ordering}
 use Rattle.std.specs.declared.cmp.Ordering.TheVariants.{Less}
 use Rattle.std.specs.Ordering.{nat_cmp, ordering_then}
@@ -60,3 +60,10 @@ LeavesOut old key number new = (other : KeyVersion) → Contains new other ↔ (
 -- Each of the versions is one of the others.
 abbrev pub AreSomeOf : List KeyVersion → List KeyVersion → Type 0
 AreSomeOf versions others = (version : KeyVersion) → Contains versions version → Contains others version
+
+-- These are the last of the versions, from the first one on that does not go before that of a key and a number.
+pub record IsRestFrom (versions : List KeyVersion) (key : List ℕ) (number : ℕ) (rest : List KeyVersion) : Type 0 where
+  pub front : List KeyVersion
+  pub is : versions ≡ front ++ rest
+  pub before : (version : KeyVersion) → Contains front version → GoesBefore version key number
+  pub from : (version : KeyVersion) → Contains rest version → GoesBefore version key number → ⊥

@@ -1,7 +1,11 @@
 //! The lead of a key: its first bytes as one number.
 
-ghost use Rattle.std.specs.Prelude.{◌≡◌};
+ghost use Rattle.std.specs.Prelude.{◌≡◌, ◌↔◌, IsTrue};
+ghost use Rattle.std.specs.Ordering.{nat_cmp};
+ghost use Rattle.std.specs.Cmp.Lexicographic.{slice_cmp};
 ghost use Rattle.arena_list.specs.Leads.{lead_of, AreBytes};
+
+use std::cmp::Ordering;
 
 /// How many bytes of a key its lead has.
 const LEAD_SIZE: usize = 8;
@@ -18,4 +22,25 @@ pub(crate) fn lead(key: &[u8]) -> u64
     let mut digits = [0; LEAD_SIZE];
     digits[..key.len()].copy_from_slice(key);
     u64::from_be_bytes(digits)
+}
+
+/// How two keys with the same lead stand to each other. Where one of them ends within the lead, one begins with the
+/// other, so their lengths decide. Only else their bytes are read.
+pub(crate) fn order_of_same_lead(key: &[u8], other: &[u8]) -> Ordering
+    requires { lead_of key.now ≡ lead_of other.now }
+    ensures { result ≡ slice_cmp nat_cmp key.now other.now }
+{
+    if key.len() <= LEAD_SIZE || other.len() <= LEAD_SIZE {
+        return key.len().cmp(&other.len());
+    }
+    key.cmp(other)
+}
+
+/// Whether two keys with the same lead are equal. Their bytes are read only where they are equally long and go on after
+/// the lead.
+pub(crate) fn is_same_key(key: &[u8], other: &[u8]) -> bool
+    requires { lead_of key.now ≡ lead_of other.now }
+    ensures { IsTrue result ↔ (key.now ≡ other.now) }
+{
+    key.len() == other.len() && (key.len() <= LEAD_SIZE || key == other)
 }

@@ -9,18 +9,24 @@
 #![tactic(auto)]
 
 mod found;
+mod keeping;
 mod lead;
 mod links;
 mod list;
+mod marks;
 mod node;
 mod search;
+mod sought;
+mod theorems;
 mod top;
 mod version;
 mod walk;
 
 pub use found::Found;
 pub use list::ArenaList;
+pub use marks::Marks;
 pub use node::LEVELS;
+pub use theorems::{a_mark_keeps_what_it_shows, a_newest_version_is_one};
 pub use version::Version;
 pub use walk::Walk;
 

@@ -2,7 +2,7 @@
 
 ghost use Rattle.std.specs.Prelude.{◌≡◌, ◌≢◌, ℕ, ◌+◌, ◌^◌, ◌<◌, ◌≤◌, List, IfOk, OnOk, OnErr, IsOk, length, slice_index, vec_len, vec_capacity};
 ghost use Rattle.arena_list.specs.Nodes.{node_at, next_on, AreFree};
-ghost use Rattle.arena_list.specs.Steps.{AreWithin, AreOtherPlaces, LinksIn, LinksOut, TakesPlace, PutsIn, TakesOut};
+ghost use Rattle.arena_list.specs.Steps.{AreWithin, AreOtherPlaces, LinksIn, LinksOut, MakesPlace, TakesPlace, PutsIn, TakesOut};
 
 use crate::node::{Keyed, LEVELS, Node, Place};
 use std::mem::replace;
@@ -71,6 +71,21 @@ fn reserve_one(nodes: &mut Vec<Node>) -> Result<(), NoMemory>
     Ok(())
 }
 
+/// Makes a new place. Its node holds nothing, and leads on to no other.
+pub(crate) fn make_place(nodes: &mut Vec<Node>) -> Result<Place, NoMemory>
+    requires { vec_len nodes.old < 2 ^ 32 }
+    ensures made { IfOk result (λ place. MakesPlace nodes.old.items place nodes.new.items) }
+    ensures nodes { OnErr result (nodes.new.items ≡ nodes.old.items) }
+{
+    let place = nodes.len();
+    if place >= u32::MAX as usize {
+        return Err(NoMemory);
+    }
+    reserve_one(nodes)?;
+    nodes.push_reserved(Node::vacant(0));
+    Ok(place as Place)
+}
+
 /// Takes a place off the free list, or makes a new one where there is none. Its node holds nothing.
 pub(crate) fn take_place(nodes: &mut Vec<Node>, free: &mut FreeList) -> Result<Place, NoMemory>
     requires free { (frees : List ℕ) × AreFree nodes.old.items free.old.first free.old.count frees }
@@ -87,13 +102,7 @@ pub(crate) fn take_place(nodes: &mut Vec<Node>, free: &mut FreeList) -> Result<P
         free.count -= 1;
         return Ok(place);
     }
-    let place = nodes.len();
-    if place >= u32::MAX as usize {
-        return Err(NoMemory);
-    }
-    reserve_one(nodes)?;
-    nodes.push_reserved(Node::vacant(0));
-    Ok(place as Place)
+    make_place(nodes)
 }
 
 /// Puts a version into a place, and links it in after these nodes, so many levels high.

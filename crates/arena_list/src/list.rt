@@ -1,16 +1,21 @@
 //! The list.
 
-ghost use Rattle.std.specs.Prelude.{◌≡◌, ◌↔◌, ◌+◌, ◌-◌, ◌<◌, ◌≤◌, [], IsTrue, IfOk, IfErr, OnOk, OnErr, IsOk, IfSome, IfNone, OnSome, option_map};
+ghost use Rattle.std.specs.Prelude.{◌≡◌, ◌↔◌, ◌+◌, ◌-◌, ◌<◌, ◌≤◌, [], IsTrue, IfOk, IfErr, OnOk, OnErr, IsOk, IfSome, IfNone, OnSome, option_map, length};
+ghost use Rattle.std.specs.List.Sorted.{IsNonDecreasing};
 ghost use Rattle.std.specs.Bool.{OnTrue, OnFalse};
-ghost use Rattle.arena_list.specs.Versions.{version_with, version_shown, version_taken, AscendVersions, HoldsVersion, Adds, LeavesOut, AreSomeOf};
+ghost use Rattle.arena_list.specs.Versions.{version_with, version_shown, version_taken, AscendVersions, HoldsVersion, Adds, LeavesOut, AreSomeOf, IsRestFrom};
 ghost use Rattle.arena_list.specs.Newest.{FindsNewestOfKey};
+ghost use Rattle.arena_list.specs.Marks.{KeepsMarked};
 ghost use Rattle.arena_list.specs.Spots.{IsLastBefore, IsFirstFrom};
-ghost use Rattle.arena_list.specs.Arena.{on_level, places_in, UsesPlace};
+ghost use Rattle.arena_list.specs.Arena.{on_level, places_in, UsesPlace, MakesRoom};
 
 use crate::found::Found;
-use crate::links::{FreeList, put_in, take_out, take_place};
+use crate::keeping::{keep_full, sweep};
+use crate::links::{FreeList, make_place, put_in, take_out, take_place};
+use crate::marks::Marks;
 use crate::node::{Keyed, LEVELS, Node, Place};
 use crate::search::find;
+use crate::sought::Sought;
 use crate::top::{find_spot, put_in_top, take_from_top};
 use crate::version::Version;
 use crate::walk::Walk;
@@ -70,6 +75,22 @@ impl ArenaList {
         })
     }
 
+    /// Makes a place where none is free, so that the next insertion is not refused. After an error all is as it was.
+    pub fn reserve_one(&mut self) -> Result<(), NoMemory>
+        ensures room { OnOk result (MakesRoom self.old self.new) }
+        ensures unchanged { OnErr result (self.new ≡ self.old) }
+    {
+        if self.free.count > 0 {
+            return Ok(());
+        }
+        let place = make_place(&mut self.nodes)?;
+        self.free = FreeList {
+            first: place,
+            count: 1,
+        };
+        Ok(())
+    }
+
     /// Adds a version, whose key and number are not held. `Err` means out of memory or of places, hands key and value
     /// back, and changes nothing.
     pub fn insert(
@@ -86,12 +107,8 @@ impl ArenaList {
         ensures back { IfErr result (λ back. back ≡ (key, value)) }
         ensures unchanged { OnErr result (self.new ≡ self.old) }
     {
-        let spot = find_spot(
-            self.nodes.as_slice(),
-            self.top.as_slice(),
-            key.as_slice(),
-            seq,
-        );
+        let sought = Sought::new(key.as_slice(), seq);
+        let spot = find_spot(self.nodes.as_slice(), self.top.as_slice(), &sought);
         let Ok(place) = take_place(&mut self.nodes, &mut self.free) else {
             return Err((key, value));
         };
@@ -117,10 +134,11 @@ impl ArenaList {
         let Some(number) = below.checked_sub(1) else {
             return Found::Nothing;
         };
+        let sought = Sought::new(key, number);
         let nodes = self.nodes.as_slice();
-        let spot = find_spot(nodes, self.top.as_slice(), key, number);
+        let spot = find_spot(nodes, self.top.as_slice(), &sought);
         let place = nodes[spot.lasts[0] as usize].links[0];
-        if place == 0 || !nodes[place as usize].has_key(key) {
+        if place == 0 || !nodes[place as usize].has_key(&sought) {
             return Found::Nothing;
         }
         Found::one(&nodes[place as usize])
@@ -131,8 +149,9 @@ impl ArenaList {
     pub fn before(&self, key: &[u8], seq: u64) -> Option<Version<'_>>
         ensures { IsLastBefore self.now.versions key.now seq (option_map version_shown result) }
     {
+        let sought = Sought::new(key, seq);
         let nodes = self.nodes.as_slice();
-        let spot = find_spot(nodes, self.top.as_slice(), key, seq);
+        let spot = find_spot(nodes, self.top.as_slice(), &sought);
         let place = spot.lasts[0];
         if place == 0 {
             return None;
@@ -144,8 +163,9 @@ impl ArenaList {
     pub fn from(&self, key: &[u8], seq: u64) -> Option<Version<'_>>
         ensures { IsFirstFrom self.now.versions key.now seq (option_map version_shown result) }
     {
+        let sought = Sought::new(key, seq);
         let nodes = self.nodes.as_slice();
-        let spot = find_spot(nodes, self.top.as_slice(), key, seq);
+        let spot = find_spot(nodes, self.top.as_slice(), &sought);
         let place = nodes[spot.lasts[0] as usize].links[0];
         if place == 0 {
             return None;
@@ -172,6 +192,16 @@ impl ArenaList {
         Walk::new(self.nodes.as_slice(), level as usize)
     }
 
+    /// Goes over the versions that do not go before that of a key and a number, in the same order. It takes no memory.
+    pub fn walk_from(&self, key: &[u8], seq: u64) -> Walk<'_>
+        ensures { IsRestFrom self.now.versions key.now seq result }
+    {
+        let sought = Sought::new(key, seq);
+        let nodes = self.nodes.as_slice();
+        let spot = find_spot(nodes, self.top.as_slice(), &sought);
+        Walk::from(nodes, nodes[spot.lasts[0] as usize].links[0])
+    }
+
     /// Takes the version with this key and number out, and frees its place. False exactly where it was not held. It takes
     /// no memory.
     pub fn remove(&mut self, key: &[u8], seq: u64) -> bool
@@ -181,8 +211,9 @@ impl ArenaList {
         ensures places { places_in self.new ≡ places_in self.old }
         ensures unchanged { OnFalse result (self.new ≡ self.old) }
     {
-        let spot = find_spot(self.nodes.as_slice(), self.top.as_slice(), key, seq);
-        let Some(place) = find(self.nodes.as_slice(), &spot.lasts, key, seq) else {
+        let sought = Sought::new(key, seq);
+        let spot = find_spot(self.nodes.as_slice(), self.top.as_slice(), &sought);
+        let Some(place) = find(self.nodes.as_slice(), &spot.lasts, &sought) else {
             return false;
         };
         take_out(
@@ -207,7 +238,8 @@ impl ArenaList {
         ensures places { places_in self.new ≡ places_in self.old }
         ensures unchanged { IfNone result (self.new ≡ self.old) }
     {
-        let spot = find_spot(self.nodes.as_slice(), self.top.as_slice(), key, seq);
+        let sought = Sought::new(key, seq);
+        let spot = find_spot(self.nodes.as_slice(), self.top.as_slice(), &sought);
         let place = self.nodes[spot.lasts[0] as usize].links[0];
         if place == 0 {
             return None;
@@ -228,6 +260,19 @@ impl ArenaList {
             Some((key, value)) => Some((key, seq, value)),
             None => unreachable!(),
         }
+    }
+
+    /// Keeps the versions that are their key's newest below one of the marks, takes out every other one, and answers how
+    /// many. It goes over the list once, and takes no memory.
+    pub fn keep_for(&mut self, marks: &Marks) -> u64
+        requires { IsNonDecreasing marks.now }
+        ensures kept { KeepsMarked self.old.versions marks.now self.new.versions }
+        ensures fewer { result + length self.new.versions ≡ length self.old.versions }
+        ensures freed { self.new.free ≡ self.old.free + result }
+    {
+        let removed = sweep(self.nodes.as_mut_slice(), &mut self.free, marks.as_slice());
+        keep_full(self.nodes.as_slice(), &mut self.top);
+        removed
     }
 
     /// How many places there are: one for each version, and the free ones.

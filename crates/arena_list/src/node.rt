@@ -1,12 +1,13 @@
 //! One node of a list.
 
-ghost use Rattle.std.specs.Prelude.{◌≡◌, ◌↔◌, ℕ, ◌<◌, true, IsTrue, slice_index, option_map};
+ghost use Rattle.std.specs.Prelude.{◌≡◌, ◌↔◌, ℕ, ◌<◌, true, not, IsTrue, slice_index, option_map};
 ghost use Rattle.std.specs.Ordering.{nat_cmp};
 ghost use Rattle.std.specs.Cmp.Lexicographic.{slice_cmp};
 ghost use Rattle.arena_list.specs.Versions.{IsAt, GoesBefore, version_shown};
 ghost use Rattle.arena_list.specs.Nodes.{key_of, value_of, held_of, unless_vacant, is_vacant, version_in};
 
-use crate::lead::lead;
+use crate::lead::{is_same_key, lead, order_of_same_lead};
+use crate::sought::Sought;
 use crate::version::Version;
 use std::cmp::Ordering;
 use std::marker::Model;
@@ -55,8 +56,9 @@ impl Model for Keyed {
 pub(crate) struct Node {
     /// For each level the place of the next node there.
     pub(crate) links: [Place; LEVELS],
-    pub(crate) held: Keyed,
+    /// The number of its version. It stands beside the links and the lead, so that a comparison mostly reads no more.
     pub(crate) seq: u64,
+    pub(crate) held: Keyed,
 }
 
 /// How many bytes a node takes beside those of its two `Blob`s.
@@ -136,22 +138,35 @@ impl Keyed {
         self.held.value()
     }
 
-    /// How its key stands to another one. The bytes of its key are read only where the leads are equal.
-    fn order(&self, key: &[u8]) -> Ordering
-        ensures { result ≡ slice_cmp nat_cmp (key_of self.now) key.now }
+    /// Whether it holds a version.
+    fn is_full(&self) -> bool
+        ensures { result ≡ not (is_vacant self.now) }
     {
-        match self.lead.cmp(&lead(key)) {
-            Ordering::Less => Ordering::Less,
-            Ordering::Equal => self.held.key().cmp(key),
-            Ordering::Greater => Ordering::Greater,
+        match self.held {
+            Held::Vacant => false,
+            Held::Deletion { .. } | Held::Set { .. } => true,
         }
     }
 
-    /// Whether its version has this key. The bytes of its key are read only where the leads are equal.
-    fn has_key(&self, key: &[u8]) -> bool
-        ensures { IsTrue result ↔ (key_of self.now ≡ key.now) }
+    /// How its key stands to the one that is sought. Nothing of its key is read unless the leads are equal. A search asks
+    /// this of each node, so the leads are compared by two tests: `cmp` would make an answer first, which is then tested.
+    fn order(&self, sought: &Sought<'_>) -> Ordering
+        ensures { result ≡ slice_cmp nat_cmp (key_of self.now) sought.now.key.now }
     {
-        self.lead == lead(key) && self.held.key() == key
+        if self.lead < sought.lead {
+            return Ordering::Less;
+        }
+        if self.lead > sought.lead {
+            return Ordering::Greater;
+        }
+        order_of_same_lead(self.held.key(), sought.key)
+    }
+
+    /// Whether its version has the key that is sought. Nothing of its key is read unless the leads are equal.
+    fn has_key(&self, sought: &Sought<'_>) -> bool
+        ensures { IsTrue result ↔ (key_of self.now ≡ sought.now.key.now) }
+    {
+        self.lead == sought.lead && is_same_key(self.held.key(), sought.key)
     }
 }
 
@@ -171,29 +186,43 @@ impl Node {
         }
     }
 
-    /// Whether its version goes before that of a key and a number.
-    pub(crate) fn is_before(&self, key: &[u8], number: u64) -> bool
-        ensures { IsTrue result ↔ GoesBefore (version_in self.now) key.now number }
+    /// Whether its version goes before what is sought.
+    pub(crate) fn is_before(&self, sought: &Sought<'_>) -> bool
+        ensures { IsTrue result ↔ GoesBefore (version_in self.now) sought.now.key.now sought.now.number }
     {
-        match self.held.order(key) {
+        match self.held.order(sought) {
             Ordering::Less => true,
-            Ordering::Equal => number < self.seq,
+            Ordering::Equal => sought.number < self.seq,
             Ordering::Greater => false,
         }
     }
 
-    /// Whether its version has this key.
-    pub(crate) fn has_key(&self, key: &[u8]) -> bool
-        ensures { IsTrue result ↔ ((version_in self.now).key ≡ key.now) }
+    /// Whether its version has the key that is sought.
+    pub(crate) fn has_key(&self, sought: &Sought<'_>) -> bool
+        ensures { IsTrue result ↔ ((version_in self.now).key ≡ sought.now.key.now) }
     {
-        self.held.has_key(key)
+        self.held.has_key(sought)
     }
 
-    /// Whether its version has this key and this number.
-    pub(crate) fn is_at(&self, key: &[u8], number: u64) -> bool
-        ensures { IsTrue result ↔ IsAt (version_in self.now) key.now number }
+    /// Whether its version has the key of another one's. Nothing of the keys is read unless the leads are equal.
+    pub(crate) fn has_key_of(&self, other: &Node) -> bool
+        ensures { IsTrue result ↔ ((version_in self.now).key ≡ (version_in other.now).key) }
     {
-        self.seq == number && self.held.has_key(key)
+        self.held.lead == other.held.lead && is_same_key(self.held.key(), other.held.key())
+    }
+
+    /// Whether it holds a version.
+    pub(crate) fn is_full(&self) -> bool
+        ensures { result ≡ not (is_vacant self.now.held) }
+    {
+        self.held.is_full()
+    }
+
+    /// Whether its version has the key and the number that are sought.
+    pub(crate) fn is_at(&self, sought: &Sought<'_>) -> bool
+        ensures { IsTrue result ↔ IsAt (version_in self.now) sought.now.key.now sought.now.number }
+    {
+        self.seq == sought.number && self.held.has_key(sought)
     }
 
     /// Shows its version.

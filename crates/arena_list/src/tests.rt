@@ -366,6 +366,21 @@ fn an_insertion_that_lacks_memory_changes_nothing(rt: HostRuntime) {
     }
 }
 
+#[test]
+fn a_reservation_makes_one_place_for_the_next_insertion(rt: HostRuntime) {
+    let mut rig = Rig::new(&rt, rt.alloc());
+    for _ in 0..2 {
+        assert!(&rt; rig.list.reserve_one().is_ok());
+        rig.has_places(&rt, 1, 1);
+        shows(&rt, rig.list.walk(), &[]);
+    }
+    rig.put(&rt, b"a", 1, Some(b"1"));
+    rig.has_places(&rt, 1, 0);
+    assert!(&rt; rig.list.reserve_one().is_ok());
+    rig.has_places(&rt, 2, 1);
+    shows(&rt, rig.list.walk(), &[(b"a", 1)]);
+}
+
 /// How many keys the test of near keys has.
 const NEAR: usize = 26;
 

@@ -10,6 +10,7 @@ ghost use Rattle.arena_list.specs.Tops.{IsTop, IsTopCut, PutsInTop, TakesFromTop
 
 use crate::node::{LEVELS, Node, Place};
 use crate::search::{Stop, seek};
+use crate::sought::Sought;
 
 /// Where a version stands.
 #[derive(Drop)]
@@ -20,18 +21,19 @@ pub(crate) struct Spot {
     pub(crate) index: usize,
 }
 
-/// How many of the places go before the version of a key and a number.
-fn count_before(nodes: &[Node], top: &[Place], key: &[u8], number: u64) -> usize
+/// How many of the places go before what is sought.
+fn count_before(nodes: &[Node], top: &[Place], sought: &Sought<'_>) -> usize
     requires linked { IsLinked nodes.now }
     requires top { IsTop nodes.now top.now }
-    ensures { IsTopCut nodes.now top.now key.now number result }
+    ensures { IsTopCut nodes.now top.now sought.now.key.now sought.now.number result }
 {
     top.partition_point(
         |place: &Place| -> bool
-            ensures { result ≡ is_early nodes.entry.now key.entry.now number place.now }
+            ensures { result
+                ≡ is_early nodes.entry.now sought.entry.now.key.now sought.entry.now.number place.now }
         {
             match nodes.get(*place as usize) {
-                Some(node) => node.is_before(key, number),
+                Some(node) => node.is_before(sought),
                 None => false,
             }
         },
@@ -53,21 +55,21 @@ fn place_from(top: &[Place], index: usize) -> Place
     if index < top.len() { top[index] } else { 0 }
 }
 
-/// Finds where the version of a key and a number stands, held or not.
-pub(crate) fn find_spot(nodes: &[Node], top: &[Place], key: &[u8], number: u64) -> Spot
+/// Finds where the version that is sought stands, held or not.
+pub(crate) fn find_spot(nodes: &[Node], top: &[Place], sought: &Sought<'_>) -> Spot
     requires head { 0 < length nodes.now }
     requires linked { IsLinked nodes.now }
     requires top { IsTop nodes.now top.now }
-    ensures lasts { AreCuts nodes.now key.now number result.lasts }
-    ensures index { IsTopCut nodes.now top.now key.now number result.index }
+    ensures lasts { AreCuts nodes.now sought.now.key.now sought.now.number result.lasts }
+    ensures index { IsTopCut nodes.now top.now sought.now.key.now sought.now.number result.index }
 {
-    let index = count_before(nodes, top, key, number);
+    let index = count_before(nodes, top, sought);
     let from = Stop {
         last: place_before(top, index),
         next: place_from(top, index),
     };
     Spot {
-        lasts: seek(nodes, from, key, number),
+        lasts: seek(nodes, from, sought),
         index,
     }
 }

@@ -3,7 +3,7 @@
 ghost use Rattle.std.specs.Prelude.{◌≡◌, ◌<◌, length};
 ghost use Rattle.std.specs.Iterator.{YieldsFirstBy, item_count};
 ghost use Rattle.arena_list.specs.Versions.{version_shown};
-ghost use Rattle.arena_list.specs.Nodes.{versions_on, IsLinked};
+ghost use Rattle.arena_list.specs.Nodes.{versions_on, versions_along, IsLinked, IsOnLevel};
 
 use crate::node::{LEVELS, Node, Place};
 use crate::version::Version;
@@ -41,6 +41,18 @@ impl<'a> Walk<'a> {
             nodes,
             level,
             at: nodes[0].links[level],
+        }
+    }
+
+    /// Begins at a place of the lowest level.
+    pub(crate) fn from(nodes: &'a [Node], at: Place) -> Walk<'a>
+        requires { IsOnLevel nodes.now 0 at }
+        ensures { result ≡ versions_along nodes.now 0 at }
+    {
+        Walk {
+            nodes,
+            level: 0,
+            at,
         }
     }
 }

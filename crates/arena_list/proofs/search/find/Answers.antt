@@ -10,46 +10,51 @@ use Rattle.arena_list.proofs.search.find.Goals.{then-place-eq0-via-then-place-eq
 
 pub bounds-nodes-lasts : goal.bounds-nodes-lasts
 bounds-nodes-lasts c =
-    (lands_at c.args.nodes.now c.args.key.now c.args.number (slice_index c.args.lasts.now 0) no_node c.requires.linked c.requires.head
+    let sought = c.args.sought.now in
+    (lands_at c.args.nodes.now sought.key.now sought.number (slice_index c.args.lasts.now 0) no_node c.requires.linked c.requires.head
     (c.requires.cuts 0 (omega arith))).within
 
 pub bounds-nodes-place : goal.bounds-nodes-place
 bounds-nodes-place c =
-    (lands_at c.args.nodes.now c.args.key.now c.args.number (slice_index c.args.lasts.now 0) c.index-nodes-lasts.result c.requires.linked c.requires.head
+    let sought = c.args.sought.now in
+    (lands_at c.args.nodes.now sought.key.now sought.number (slice_index c.args.lasts.now 0) c.index-nodes-lasts.result c.requires.linked c.requires.head
     (c.requires.cuts 0 (omega arith))).below c.if-place-eq0.false
 
 pub returns-then-place-eq0-clause-none : goal.returns-then-place-eq0-clause-none
 returns-then-place-eq0-clause-none c holds =
+    let sought = c.args.sought.now in
     let nodes = c.args.nodes.now in
     let last = slice_index c.args.lasts.now 0 in
     let cut = c.requires.cuts 0 (omega arith) in
     let lands : LandsAt nodes last c.index-nodes-lasts.result =
-    lands_at nodes c.args.key.now c.args.number last c.index-nodes-lasts.result c.requires.linked c.requires.head cut in
+    lands_at nodes sought.key.now sought.number last c.index-nodes-lasts.result c.requires.linked c.requires.head cut in
     let place = slice_index (slice_index_or nodes last c.index-nodes-lasts.result).links 0 in
-    let held = lands_on_held nodes c.requires.linked c.args.key.now c.args.number last cut place lands.is holds in
+    let held = lands_on_held nodes c.requires.linked sought.key.now sought.number last cut place lands.is holds in
     elim c.then-place-eq0.branch [
       | then-place-eq0-via-then-place-eq0 w ↦ held.0 w.if-place-eq0.true
       | then-place-eq0-via-else-place-eq0+then-not-is_at w ↦ iff_false w.is_at.ensures w.if-not-is_at.true
-          (subst (λ (v : KeyVersion). IsAt v c.args.key.now c.args.number)
+          (subst (λ (v : KeyVersion). IsAt v sought.key.now sought.number)
           (sym (version_read nodes place w.index-nodes-place.result w.index-nodes-place.is (lands.below w.if-place-eq0.false))) held.1)
     ]
 
 pub returns-clause-held : goal.returns-clause-held
 returns-clause-held c =
+    let sought = c.args.sought.now in
     let nodes = c.args.nodes.now in
     let last = slice_index c.args.lasts.now 0 in
     let cut = c.requires.cuts 0 (omega arith) in
     let lands : LandsAt nodes last c.index-nodes-lasts.result =
-    lands_at nodes c.args.key.now c.args.number last c.index-nodes-lasts.result c.requires.linked c.requires.head cut in
-    landed nodes c.requires.linked c.args.key.now c.args.number last cut _ lands.is c.if-place-eq0.false
+    lands_at nodes sought.key.now sought.number last c.index-nodes-lasts.result c.requires.linked c.requires.head cut in
+    landed nodes c.requires.linked sought.key.now sought.number last cut _ lands.is c.if-place-eq0.false
 
 pub returns-clause-at : goal.returns-clause-at
 returns-clause-at c =
+    let sought = c.args.sought.now in
     let nodes = c.args.nodes.now in
     let last = slice_index c.args.lasts.now 0 in
     let lands : LandsAt nodes last c.index-nodes-lasts.result =
-    lands_at nodes c.args.key.now c.args.number last c.index-nodes-lasts.result c.requires.linked c.requires.head (c.requires.cuts 0 (omega arith)) in
+    lands_at nodes sought.key.now sought.number last c.index-nodes-lasts.result c.requires.linked c.requires.head (c.requires.cuts 0 (omega arith)) in
     let place = slice_index (slice_index_or nodes last c.index-nodes-lasts.result).links 0 in
-    subst (λ (v : KeyVersion). IsAt v c.args.key.now c.args.number)
+    subst (λ (v : KeyVersion). IsAt v sought.key.now sought.number)
     (version_read nodes place c.index-nodes-place.result c.index-nodes-place.is (lands.below c.if-place-eq0.false))
     (c.is_at.ensures.0 c.if-not-is_at.false)

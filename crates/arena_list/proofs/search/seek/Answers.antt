@@ -10,8 +10,8 @@ use Rattle.arena_list.proofs.search.seek.Goals as goal
 pub loop-level-preserved : goal.loop-level-preserved
 loop-level-preserved c =
     let nodes = c.args.nodes.now in
-    let key = c.args.key.now in
-    let number = c.args.number in
+    let key = c.args.sought.now.key.now in
+    let number = c.args.sought.now.number in
     let level = c.loop-level.level - 1 in
     let last = c.seek_on_level-stop.result.last in
     let less : level < LEVELS = omega arith in

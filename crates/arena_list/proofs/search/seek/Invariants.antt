@@ -8,9 +8,9 @@ abbrev pub invariant-loop-level : goal.invariant-loop-level
 invariant-loop-level l = record {
   within : l.level ≤ LEVELS;
   len : length l.lasts ≡ LEVELS;
-  cuts : (level : ℕ) → l.level ≤ level → level < LEVELS → IsCut l.nodes level l.key l.number (slice_index l.lasts level);
-  goes : 0 < l.level → MayGoOn l.nodes (l.level - 1) l.key l.number l.stop.last;
-  stops : MayStop l.nodes l.key l.number l.stop.next;
+  cuts : (level : ℕ) → l.level ≤ level → level < LEVELS → IsCut l.nodes level l.sought.key.now l.sought.number (slice_index l.lasts level);
+  goes : 0 < l.level → MayGoOn l.nodes (l.level - 1) l.sought.key.now l.sought.number l.stop.last;
+  stops : MayStop l.nodes l.sought.key.now l.sought.number l.stop.next;
 }
 
 abbrev pub decreases-loop-level : goal.decreases-loop-level

@@ -11,71 +11,78 @@ use Rattle.arena_list.proofs.search.seek_on_level.Goals as goal
 
 pub bounds-nodes-next : goal.bounds-nodes-next
 bounds-nodes-next c =
+    let sought = c.args.sought.now in
     let inv = c.loop-next.invariant in
     subst (λ (p : ℕ). p < length c.args.nodes.now) (sym inv.next)
-    (next_below c.args.nodes.now c.requires.linked c.args.level c.requires.level c.args.key.now c.args.number c.loop-next.last inv.goes
+    (next_below c.args.nodes.now c.requires.linked c.args.level c.requires.level sought.key.now sought.number c.loop-next.last inv.goes
     (λ e. c.if-next-ne0.true (inv.next ∙ e)))
 
 pub bounds-nodes-last-then-is_before : goal.bounds-nodes-last-then-is_before
 bounds-nodes-last-then-is_before c =
+    let sought = c.args.sought.now in
     let inv = c.loop-next.invariant in
     subst (λ (p : ℕ). p < length c.args.nodes.now) (sym inv.next)
-    (next_below c.args.nodes.now c.requires.linked c.args.level c.requires.level c.args.key.now c.args.number c.loop-next.last inv.goes
+    (next_below c.args.nodes.now c.requires.linked c.args.level c.requires.level sought.key.now sought.number c.loop-next.last inv.goes
     (λ e. c.if-next-ne0.true (inv.next ∙ e)))
 
 pub loop-next-smaller : goal.loop-next-smaller
 loop-next-smaller c =
+    let sought = c.args.sought.now in
     let nodes = c.args.nodes.now in
     let inv = c.loop-next.invariant in
     let within : c.loop-next.next < length nodes =
     subst (λ (p : ℕ). p < length nodes) (sym inv.next)
-    (next_below nodes c.requires.linked c.args.level c.requires.level c.args.key.now c.args.number c.loop-next.last inv.goes
+    (next_below nodes c.requires.linked c.args.level c.requires.level sought.key.now sought.number c.loop-next.last inv.goes
     (λ e. c.if-next-ne0.true (inv.next ∙ e))) in
     let left : ℕ → ℕ = λ p. length (path (next_on nodes c.args.level) p (length nodes)) in
     subst (λ (p : ℕ). left p < left c.loop-next.next)
     (sym (read_next nodes c.args.level c.loop-next.next c.index-nodes-last-in-loop-next.result within))
     (subst (λ (p : ℕ). left (next_on nodes c.args.level p) < left p) (sym inv.next)
-    (goes_less nodes c.requires.linked c.args.level c.requires.level c.args.key.now c.args.number c.loop-next.last inv.goes
+    (goes_less nodes c.requires.linked c.args.level c.requires.level sought.key.now sought.number c.loop-next.last inv.goes
     (λ e. c.if-next-ne0.true (inv.next ∙ e))))
 
 pub loop-next-preserved : goal.loop-next-preserved
 loop-next-preserved c =
+    let sought = c.args.sought.now in
     let nodes = c.args.nodes.now in
     let inv = c.loop-next.invariant in
     let some : next_on nodes c.args.level c.loop-next.last ≢ 0 = λ e. c.if-next-ne0.true (inv.next ∙ e) in
     let within : c.loop-next.next < length nodes =
     subst (λ (p : ℕ). p < length nodes) (sym inv.next)
-    (next_below nodes c.requires.linked c.args.level c.requires.level c.args.key.now c.args.number c.loop-next.last inv.goes some) in
-    let early : GoesBefore (version_at nodes c.loop-next.next) c.args.key.now c.args.number =
-    subst (λ (v : KeyVersion). GoesBefore v c.args.key.now c.args.number)
+    (next_below nodes c.requires.linked c.args.level c.requires.level sought.key.now sought.number c.loop-next.last inv.goes some) in
+    let early : GoesBefore (version_at nodes c.loop-next.next) sought.key.now sought.number =
+    subst (λ (v : KeyVersion). GoesBefore v sought.key.now sought.number)
     (version_read nodes c.loop-next.next c.index-nodes-next.result c.index-nodes-next.is within)
     (c.is_before.ensures.0 c.if-is_before.true) in record {
-      goes = subst (MayGoOn nodes c.args.level c.args.key.now c.args.number) (sym inv.next)
-          (goes_on nodes c.requires.linked c.args.level c.requires.level c.args.key.now c.args.number c.loop-next.last inv.goes some
-          (subst (λ (p : ℕ). GoesBefore (version_at nodes p) c.args.key.now c.args.number) inv.next early));
+      goes = subst (MayGoOn nodes c.args.level sought.key.now sought.number) (sym inv.next)
+          (goes_on nodes c.requires.linked c.args.level c.requires.level sought.key.now sought.number c.loop-next.last inv.goes some
+          (subst (λ (p : ℕ). GoesBefore (version_at nodes p) sought.key.now sought.number) inv.next early));
       next = read_next nodes c.args.level c.loop-next.next c.index-nodes-last-in-loop-next.result within;
     }
 
 pub returns-else-is_before-clause-cut : goal.returns-else-is_before-clause-cut
 returns-else-is_before-clause-cut c =
+    let sought = c.args.sought.now in
     let nodes = c.args.nodes.now in
     let inv = c.loop-next.invariant in
     let some : next_on nodes c.args.level c.loop-next.last ≢ 0 = λ e. c.if-next-ne0.true (inv.next ∙ e) in
     let within : c.loop-next.next < length nodes =
     subst (λ (p : ℕ). p < length nodes) (sym inv.next)
-    (next_below nodes c.requires.linked c.args.level c.requires.level c.args.key.now c.args.number c.loop-next.last inv.goes some) in
-    cut_here nodes c.requires.linked c.args.level c.requires.level c.args.key.now c.args.number c.loop-next.last inv.goes
+    (next_below nodes c.requires.linked c.args.level c.requires.level sought.key.now sought.number c.loop-next.last inv.goes some) in
+    cut_here nodes c.requires.linked c.args.level c.requires.level sought.key.now sought.number c.loop-next.last inv.goes
     (inr (λ early. iff_false c.is_before.ensures c.if-is_before.false
-    (subst (λ (v : KeyVersion). GoesBefore v c.args.key.now c.args.number)
+    (subst (λ (v : KeyVersion). GoesBefore v sought.key.now sought.number)
     (sym (version_read nodes c.loop-next.next c.index-nodes-next.result c.index-nodes-next.is within))
-    (subst (λ (p : ℕ). GoesBefore (version_at nodes p) c.args.key.now c.args.number) (sym inv.next) early))))
+    (subst (λ (p : ℕ). GoesBefore (version_at nodes p) sought.key.now sought.number) (sym inv.next) early))))
 
 pub returns-else-next-ne0-clause-cut : goal.returns-else-next-ne0-clause-cut
 returns-else-next-ne0-clause-cut c =
-    cut_here c.args.nodes.now c.requires.linked c.args.level c.requires.level c.args.key.now c.args.number c.loop-next.last c.loop-next.invariant.goes
+    let sought = c.args.sought.now in
+    cut_here c.args.nodes.now c.requires.linked c.args.level c.requires.level sought.key.now sought.number c.loop-next.last c.loop-next.invariant.goes
     (inl (sym c.loop-next.invariant.next ∙ c.if-next-ne0.false))
 
 pub returns-after-loop-next-clause-cut : goal.returns-after-loop-next-clause-cut
 returns-after-loop-next-clause-cut c =
-    cut_here c.args.nodes.now c.requires.linked c.args.level c.requires.level c.args.key.now c.args.number c.loop-next.last c.loop-next.invariant.goes
-    (subst (MayStop c.args.nodes.now c.args.key.now c.args.number) (sym c.loop-next-test.false ∙ c.loop-next.invariant.next) c.requires.next)
+    let sought = c.args.sought.now in
+    cut_here c.args.nodes.now c.requires.linked c.args.level c.requires.level sought.key.now sought.number c.loop-next.last c.loop-next.invariant.goes
+    (subst (MayStop c.args.nodes.now sought.key.now sought.number) (sym c.loop-next-test.false ∙ c.loop-next.invariant.next) c.requires.next)

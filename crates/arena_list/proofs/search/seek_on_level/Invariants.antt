@@ -7,7 +7,7 @@ use Rattle.arena_list.proofs.search.seek_on_level.Given as goal
 
 abbrev pub invariant-loop-next : goal.invariant-loop-next
 invariant-loop-next l = record {
-  goes : MayGoOn l.nodes l.level l.key l.number l.last;
+  goes : MayGoOn l.nodes l.level l.sought.key.now l.sought.number l.last;
   next : l.next ≡ next_on l.nodes l.level l.last;
 }
 

@@ -4,10 +4,12 @@ use Rattle.arena_list.proofs.top.find_spot.Goals as goal
 
 pub seek-requires-clause-last : goal.seek-requires-clause-last
 seek-requires-clause-last c =
-    top_last c.args.nodes.now c.args.top.now c.requires.linked c.requires.top c.args.key.now c.args.number c.count_before-index.result
+    let sought = c.args.sought.now in
+    top_last c.args.nodes.now c.args.top.now c.requires.linked c.requires.top sought.key.now sought.number c.count_before-index.result
     c.place_before.result c.count_before-index.ensures c.place_before.ensures
 
 pub seek-requires-clause-next : goal.seek-requires-clause-next
 seek-requires-clause-next c =
-    top_next c.args.nodes.now c.args.top.now c.requires.linked c.requires.top c.args.key.now c.args.number c.count_before-index.result
+    let sought = c.args.sought.now in
+    top_next c.args.nodes.now c.args.top.now c.requires.linked c.requires.top sought.key.now sought.number c.count_before-index.result
     c.place_from.result c.count_before-index.ensures c.place_from.ensures

@@ -1,5 +1,5 @@
 -- The last place before the cut holds the version, where it is not the head.
-use Rattle.std.proofs.Common.{◌≡◌, ◌<◌, List, Some, None, length, sym, ap, ◌∙◌, subst, arith, slice_index}
+use Rattle.std.proofs.Common.{◌≡◌, ℕ, ◌<◌, List, Some, None, length, sym, ap, ◌∙◌, subst, subst₂, arith, slice_index}
 use Rattle.arena_list.specs.declared.node.Node.{Node}
 use Rattle.arena_list.specs.Versions.{KeyVersion, version_shown}
 use Rattle.arena_list.specs.Spots.{IsLastBefore}
@@ -12,31 +12,37 @@ use Rattle.arena_list.proofs.list.ArenaList.before.Goals as goal
 
 pub bounds-nodes-place : goal.bounds-nodes-place
 bounds-nodes-place c =
+    let sought = c.new-sought.result in
     let is : c.as_slice-nodes.result.now ≡ c.self.inside.nodes.items = c.as_slice-nodes.ensures.value in
     let some : 0 < length c.as_slice-nodes.result.now = omega (arith, c.self.invariant.0.all, ap length is) in
-    (lands_at c.as_slice-nodes.result.now c.args.key.now c.args.seq (slice_index c.find_spot-spot.result.lasts 0) no_node
+    (lands_at c.as_slice-nodes.result.now sought.key.now sought.number (slice_index c.find_spot-spot.result.lasts 0) no_node
     (subst IsLinked (sym is) c.self.invariant.0.linked) some (c.find_spot-spot.ensures.lasts 0 (omega arith))).within
 
 pub returns-then-place-eq0 : goal.returns-then-place-eq0
 returns-then-place-eq0 c =
+    let sought = c.new-sought.result in
     let nodes = c.as_slice-nodes.result.now in
     let is : nodes ≡ c.self.inside.nodes.items = c.as_slice-nodes.ensures.value in
-    subst (λ (a : Arena). IsLastBefore a.versions c.args.key.now c.args.seq None)
+    subst₂ (λ (k : List ℕ) (n : ℕ). IsLastBefore c.args.self.now.versions k n None) c.new-sought.ensures.key c.new-sought.ensures.number
+    (subst (λ (a : Arena). IsLastBefore a.versions sought.key.now sought.number None)
     (ap (λ (ns : List Node). arena_of ns c.self.inside.free.count) is ∙ c.self.view_is)
-    (none_before nodes (subst IsLinked (sym is) c.self.invariant.0.linked) c.args.key.now c.args.seq (slice_index c.find_spot-spot.result.lasts 0)
-    (c.find_spot-spot.ensures.lasts 0 (omega arith)) c.if-place-eq0.true)
+    (none_before nodes (subst IsLinked (sym is) c.self.invariant.0.linked) sought.key.now sought.number (slice_index c.find_spot-spot.result.lasts 0)
+    (c.find_spot-spot.ensures.lasts 0 (omega arith)) c.if-place-eq0.true))
 
 pub returns : goal.returns
 returns c =
+    let sought = c.new-sought.result in
     let nodes = c.as_slice-nodes.result.now in
     let is : nodes ≡ c.self.inside.nodes.items = c.as_slice-nodes.ensures.value in
     let some : 0 < length nodes = omega (arith, c.self.invariant.0.all, ap length is) in
     let linked : IsLinked nodes = subst IsLinked (sym is) c.self.invariant.0.linked in
     let last = slice_index c.find_spot-spot.result.lasts 0 in
     let cut = c.find_spot-spot.ensures.lasts 0 (omega arith) in
-    let within : last < length nodes = (lands_at nodes c.args.key.now c.args.seq last no_node linked some cut).within in
-    subst (λ (a : Arena). IsLastBefore a.versions c.args.key.now c.args.seq (Some (version_shown c.version.result)))
+    let within : last < length nodes = (lands_at nodes sought.key.now sought.number last no_node linked some cut).within in
+    subst₂ (λ (k : List ℕ) (n : ℕ). IsLastBefore c.args.self.now.versions k n (Some (version_shown c.version.result)))
+    c.new-sought.ensures.key c.new-sought.ensures.number
+    (subst (λ (a : Arena). IsLastBefore a.versions sought.key.now sought.number (Some (version_shown c.version.result)))
     (ap (λ (ns : List Node). arena_of ns c.self.inside.free.count) is ∙ c.self.view_is)
-    (subst (λ (v : KeyVersion). IsLastBefore (versions_on nodes 0) c.args.key.now c.args.seq (Some v))
+    (subst (λ (v : KeyVersion). IsLastBefore (versions_on nodes 0) sought.key.now sought.number (Some v))
     (sym (c.version.ensures ∙ version_read nodes last c.index-nodes-place.result c.index-nodes-place.is within))
-    (some_before nodes linked c.args.key.now c.args.seq last cut c.if-place-eq0.false))
+    (some_before nodes linked sought.key.now sought.number last cut c.if-place-eq0.false)))

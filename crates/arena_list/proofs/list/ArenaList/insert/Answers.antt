@@ -1,5 +1,5 @@
 -- The place that was taken is linked in.
-use Rattle.std.proofs.Common.{◌≡◌, ◌<◌, ℕ, List, length, sym, ◌∙◌, subst, vec_len}
+use Rattle.std.proofs.Common.{◌≡◌, ◌<◌, ℕ, List, length, sym, ◌∙◌, subst, subst₂, vec_len}
 use Rattle.std.specs.Vec.{with_items}
 use Rattle.std.proofs.lemmas.List.{with_items_is}
 use Rattle.arena_list.specs.declared.node.Held.{Held}
@@ -19,8 +19,9 @@ put_in-requires-clause-within c =
     let mid = c.take_place.new.nodes.items in
     let lasts = c.find_spot-spot.result.lasts in
     let cuts : AreCuts items c.args.key c.args.seq lasts =
-    subst (λ (ns : List Node). AreCuts ns c.args.key c.args.seq lasts) c.as_slice.ensures.value
-    (subst (λ (k : List ℕ). AreCuts c.as_slice.result.now k c.args.seq lasts) c.as_slice-3.ensures c.find_spot-spot.ensures.lasts) in
+    subst (λ (ns : List Node). AreCuts ns c.args.key c.args.seq lasts) c.as_slice-2.ensures.value
+    (subst₂ (λ (k : List ℕ) (n : ℕ). AreCuts c.as_slice-2.result.now k n lasts) (c.new-sought.ensures.key ∙ c.as_slice.ensures)
+    c.new-sought.ensures.number c.find_spot-spot.ensures.lasts) in
     subst (λ (ns : List Node). AreWithin ns lasts) (sym c.as_mut_slice.ensures.value)
     (lasts_within items mid c.self.inside.free c.take_place.new.free lasts c.in-Ok.place c.args.key c.args.seq c.self.invariant.0 cuts c.in-Ok.ensures.taken)
 
@@ -30,8 +31,9 @@ put_in-requires-clause-place c =
     let mid = c.take_place.new.nodes.items in
     let lasts = c.find_spot-spot.result.lasts in
     let cuts : AreCuts items c.args.key c.args.seq lasts =
-    subst (λ (ns : List Node). AreCuts ns c.args.key c.args.seq lasts) c.as_slice.ensures.value
-    (subst (λ (k : List ℕ). AreCuts c.as_slice.result.now k c.args.seq lasts) c.as_slice-3.ensures c.find_spot-spot.ensures.lasts) in
+    subst (λ (ns : List Node). AreCuts ns c.args.key c.args.seq lasts) c.as_slice-2.ensures.value
+    (subst₂ (λ (k : List ℕ) (n : ℕ). AreCuts c.as_slice-2.result.now k n lasts) (c.new-sought.ensures.key ∙ c.as_slice.ensures)
+    c.new-sought.ensures.number c.find_spot-spot.ensures.lasts) in
     subst (λ (ns : List Node). c.in-Ok.place < length ns) (sym c.as_mut_slice.ensures.value)
     (taken_within items mid c.self.inside.free c.take_place.new.free lasts c.in-Ok.place c.args.key c.args.seq c.self.invariant.0 cuts c.in-Ok.ensures.taken)
 
@@ -41,8 +43,9 @@ put_in-requires-clause-apart c =
     let mid = c.take_place.new.nodes.items in
     let lasts = c.find_spot-spot.result.lasts in
     let cuts : AreCuts items c.args.key c.args.seq lasts =
-    subst (λ (ns : List Node). AreCuts ns c.args.key c.args.seq lasts) c.as_slice.ensures.value
-    (subst (λ (k : List ℕ). AreCuts c.as_slice.result.now k c.args.seq lasts) c.as_slice-3.ensures c.find_spot-spot.ensures.lasts) in
+    subst (λ (ns : List Node). AreCuts ns c.args.key c.args.seq lasts) c.as_slice-2.ensures.value
+    (subst₂ (λ (k : List ℕ) (n : ℕ). AreCuts c.as_slice-2.result.now k n lasts) (c.new-sought.ensures.key ∙ c.as_slice.ensures)
+    c.new-sought.ensures.number c.find_spot-spot.ensures.lasts) in
     lasts_apart items mid c.self.inside.free c.take_place.new.free lasts c.in-Ok.place c.args.key c.args.seq c.self.invariant.0 cuts c.in-Ok.ensures.taken
 
 pub invariant_of-self-2 : goal.invariant_of-self-2
@@ -51,8 +54,9 @@ invariant_of-self-2 c =
     let mid = c.take_place.new.nodes.items in
     let lasts = c.find_spot-spot.result.lasts in
     let cuts : AreCuts items c.args.key c.args.seq lasts =
-    subst (λ (ns : List Node). AreCuts ns c.args.key c.args.seq lasts) c.as_slice.ensures.value
-    (subst (λ (k : List ℕ). AreCuts c.as_slice.result.now k c.args.seq lasts) c.as_slice-3.ensures c.find_spot-spot.ensures.lasts) in
+    subst (λ (ns : List Node). AreCuts ns c.args.key c.args.seq lasts) c.as_slice-2.ensures.value
+    (subst₂ (λ (k : List ℕ) (n : ℕ). AreCuts c.as_slice-2.result.now k n lasts) (c.new-sought.ensures.key ∙ c.as_slice.ensures)
+    c.new-sought.ensures.number c.find_spot-spot.ensures.lasts) in
     let height = c.tower_height-height.result in
     let new = c.put_in.new.nodes in
     let put : PutsIn mid lasts c.in-Ok.place height (held_of c.args.key c.args.value) c.args.seq new =
@@ -62,10 +66,10 @@ invariant_of-self-2 c =
     λ holds. c.requires.absent (subst (λ (a : Arena). HoldsVersion a.versions c.args.key c.args.seq) c.self.view_is holds) in
     let new_len : length new ≡ vec_len c.take_place.new.nodes = c.put_in.ensures.len ∙ c.as_mut_slice.ensures.len in
     let top_cut : IsTopCut items c.self.inside.top.items c.args.key c.args.seq c.find_spot-spot.result.index =
-    subst (λ (k : List ℕ). IsTopCut items c.self.inside.top.items k c.args.seq c.find_spot-spot.result.index) c.as_slice-3.ensures
-    (subst (λ (ns : List Node). IsTopCut ns c.self.inside.top.items c.as_slice-3.result.now c.args.seq c.find_spot-spot.result.index) c.as_slice.ensures.value
-    (subst (λ (t : List ℕ). IsTopCut c.as_slice.result.now t c.as_slice-3.result.now c.args.seq c.find_spot-spot.result.index) c.as_slice-2.ensures.value
-    c.find_spot-spot.ensures.index)) in (
+    subst₂ (λ (ns : List Node) (t : List ℕ). IsTopCut ns t c.args.key c.args.seq c.find_spot-spot.result.index) c.as_slice-2.ensures.value
+    c.as_slice-3.ensures.value
+    (subst₂ (λ (k : List ℕ) (n : ℕ). IsTopCut c.as_slice-2.result.now c.as_slice-3.result.now k n c.find_spot-spot.result.index)
+    (c.new-sought.ensures.key ∙ c.as_slice.ensures) c.new-sought.ensures.number c.find_spot-spot.ensures.index) in (
       subst (λ (ns : List Node). IsArena ns c.take_place.new.free.first c.take_place.new.free.count) (sym (with_items_is c.take_place.new.nodes new new_len))
           (insertion_arena items mid c.self.inside.free c.take_place.new.free lasts c.in-Ok.place c.args.key c.args.seq c.self.invariant.0 cuts
           c.in-Ok.ensures.taken new height c.args.value absent c.tower_height-height.ensures.some c.tower_height-height.ensures.most put),
@@ -81,8 +85,9 @@ returns-clause-added c =
     let mid = c.take_place.new.nodes.items in
     let lasts = c.find_spot-spot.result.lasts in
     let cuts : AreCuts items c.args.key c.args.seq lasts =
-    subst (λ (ns : List Node). AreCuts ns c.args.key c.args.seq lasts) c.as_slice.ensures.value
-    (subst (λ (k : List ℕ). AreCuts c.as_slice.result.now k c.args.seq lasts) c.as_slice-3.ensures c.find_spot-spot.ensures.lasts) in
+    subst (λ (ns : List Node). AreCuts ns c.args.key c.args.seq lasts) c.as_slice-2.ensures.value
+    (subst₂ (λ (k : List ℕ) (n : ℕ). AreCuts c.as_slice-2.result.now k n lasts) (c.new-sought.ensures.key ∙ c.as_slice.ensures)
+    c.new-sought.ensures.number c.find_spot-spot.ensures.lasts) in
     let height = c.tower_height-height.result in
     let new = c.put_in.new.nodes in
     let put : PutsIn mid lasts c.in-Ok.place height (held_of c.args.key c.args.value) c.args.seq new =
@@ -104,8 +109,9 @@ returns-clause-place c =
     let mid = c.take_place.new.nodes.items in
     let lasts = c.find_spot-spot.result.lasts in
     let cuts : AreCuts items c.args.key c.args.seq lasts =
-    subst (λ (ns : List Node). AreCuts ns c.args.key c.args.seq lasts) c.as_slice.ensures.value
-    (subst (λ (k : List ℕ). AreCuts c.as_slice.result.now k c.args.seq lasts) c.as_slice-3.ensures c.find_spot-spot.ensures.lasts) in
+    subst (λ (ns : List Node). AreCuts ns c.args.key c.args.seq lasts) c.as_slice-2.ensures.value
+    (subst₂ (λ (k : List ℕ) (n : ℕ). AreCuts c.as_slice-2.result.now k n lasts) (c.new-sought.ensures.key ∙ c.as_slice.ensures)
+    c.new-sought.ensures.number c.find_spot-spot.ensures.lasts) in
     let height = c.tower_height-height.result in
     let new = c.put_in.new.nodes in
     let put : PutsIn mid lasts c.in-Ok.place height (held_of c.args.key c.args.value) c.args.seq new =

@@ -1,0 +1,6 @@
+-- None of those before it is greater.
+use Rattle.std.proofs.Common.{ℕ, ◌<◌, ◌≤◌, slice_index}
+use Rattle.arena_list.proofs.marks.first_above.Given as goal
+
+abbrev pub invariant-loop-place : goal.invariant-loop-place
+invariant-loop-place l = (k : ℕ) → k < l.place → slice_index l.numbers k ≤ l.number

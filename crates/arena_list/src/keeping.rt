@@ -1,0 +1,90 @@
+//! Taking out, in one walk, the versions that no mark keeps.
+
+ghost use Rattle.std.specs.Prelude.{◌≡◌, ◌↔◌, leb, IsTrue, filter};
+ghost use Rattle.std.specs.List.Sorted.{IsNonDecreasing};
+ghost use Rattle.arena_list.specs.Nodes.{IsArena, version_in};
+ghost use Rattle.arena_list.specs.Steps.{AreWithin};
+ghost use Rattle.arena_list.specs.Keeping.{IsBetween, IsNewerFor, StepsOver, Sweeps, is_full};
+
+use crate::links::{FreeList, take_out};
+use crate::node::{LEVELS, Node, Place};
+
+/// Whether a mark is above the number, and at most so high.
+fn is_marked(marks: &[u64], number: u64, most: Option<u64>) -> bool
+    requires { IsNonDecreasing marks.now }
+    ensures { IsTrue result ↔ IsBetween marks.now number most }
+{
+    let place = marks.partition_point(
+        |mark: &u64| -> bool
+            ensures { result ≡ leb mark.now number }
+        { *mark <= number },
+    );
+    if place >= marks.len() {
+        return false;
+    }
+    match most {
+        None => true,
+        Some(most) => marks[place] <= most,
+    }
+}
+
+/// The number of a version where it is of the same key as the next one: the next newer of that one's key.
+fn newer_than(version: &Node, next: &Node) -> Option<u64>
+    ensures { IsNewerFor (version_in version.now) (version_in next.now) result }
+{
+    if next.has_key_of(version) {
+        Some(version.seq)
+    } else {
+        None
+    }
+}
+
+/// Goes on past a place on each level where it comes next.
+fn step_over(nodes: &[Node], lasts: &mut [Place; LEVELS], place: Place)
+    requires { AreWithin nodes.now lasts.old }
+    ensures { StepsOver nodes.now lasts.old place LEVELS lasts.new }
+{
+    for level in 0..LEVELS {
+        if nodes[lasts[level] as usize].links[level] == place {
+            lasts[level] = place;
+        }
+    }
+}
+
+/// Takes out the versions that are their key's newest below none of the marks, and answers how many.
+pub(crate) fn sweep(nodes: &mut [Node], free: &mut FreeList, marks: &[u64]) -> u64
+    requires arena { IsArena nodes.old free.old.first free.old.count }
+    requires marks { IsNonDecreasing marks.now }
+    ensures { Sweeps nodes.old free.old marks.now nodes.new free.new result }
+{
+    let mut lasts = [0; LEVELS];
+    let mut place = nodes[0].links[0];
+    let mut newer = None;
+    let mut removed = 0;
+    while place != 0 {
+        let node = &nodes[place as usize];
+        let next = node.links[0];
+        let wanted = is_marked(marks, node.seq, newer);
+        newer = newer_than(node, &nodes[next as usize]);
+        if wanted {
+            step_over(nodes, &mut lasts, place);
+        } else {
+            take_out(nodes, &lasts, place, free.first);
+            free.first = place;
+            free.count += 1;
+            removed += 1;
+        }
+        place = next;
+    }
+    removed
+}
+
+/// Keeps the places whose nodes hold a version.
+pub(crate) fn keep_full(nodes: &[Node], places: &mut Vec<Place>)
+    ensures { places.new.items ≡ filter (is_full nodes.now) places.old.items }
+{
+    places.retain(|place| match nodes.get(*place as usize) {
+        Some(node) => node.is_full(),
+        None => false,
+    });
+}
