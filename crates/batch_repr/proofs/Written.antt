@@ -1,13 +1,12 @@
 -- What is written spells its batch.
-use Rattle.std.proofs.Common.{◌≡◌, ℕ, zero, suc, ◌+◌, ◌*◌, ◌/◌, ◌%◌, ◌^◌, ◌<◌, ◌≤◌, List, [], ◌∷◌, ◌++◌, length, take, drop, refl, ap, ◌∙◌, arith, subst, inl, inr}
+use Rattle.std.proofs.Common.{◌≡◌, ℕ, zero, suc, ◌+◌, ◌*◌, ◌/◌, ◌%◌, ◌^◌, ◌<◌, ◌≤◌, List, [], ◌∷◌, ◌++◌, length, drop, refl, ap, ◌∙◌, arith, subst, inl, inr}
 use Rattle.std.specs.Prelude.{replicate}
-use Rattle.std.specs.Int.{w32, w64, to_le_bytes, from_le_bytes}
+use Rattle.std.specs.Int.{w32, w64, to_le_bytes}
 use Rattle.std.specs.List.{flat_map, AllByRecursion}
 use Rattle.std.proofs.Math.Nat.{pow-suc}
 use Rattle.std.proofs.lemmas.Bool.{lt-ltb, le-ltb, cases_lt}
 use Rattle.std.proofs.lemmas.List.{length-append, drop_at}
 use Rattle.std.proofs.lemmas.List.Elements.{recursion_from_All}
-use Rattle.std.proofs.lemmas.Nat.{from_le_bytes-to_le_bytes_8}
 use Rattle.wal_base.specs.declared.entry.Entry.{Entry}
 use Rattle.wal_base.specs.declared.entry.Entry.TheVariants.{Set, Delete, Note, RangeDelete}
 use Rattle.batch_repr.specs.declared.batch.Batch.{Batch}
@@ -101,17 +100,6 @@ written_spells batch fits within = record {
   size = omega (arith, fits.size, length-append (to_le_bytes w64 batch.first ++ to_le_bytes w32 (count_of batch.entries)) (written_entries batch.entries));
   numbers = within;
 }
-
--- ---- the header of a written batch
-
-pub header_stands : (bytes : List ℕ) (batch : Batch) (count : ℕ) → IsWritten bytes batch count → 12 ≤ length bytes
-unfolding written
-header_stands bytes batch count w = omega (arith, ap length w.written_is)
-
-pub first_stands : (bytes : List ℕ) (batch : Batch) (count : ℕ) → IsWritten bytes batch count → from_le_bytes w64 (take 8 bytes) ≡ batch.first
-unfolding written
-first_stands bytes batch count w = ap (λ (t : List ℕ). from_le_bytes w64 (take 8 t)) w.written_is
-    ∙ from_le_bytes-to_le_bytes_8 batch.first (omega (arith, w.numbers))
 
 -- ---- a draft
 

@@ -1,6 +1,6 @@
 //! Entries that are to be one batch.
 
-ghost use Rattle.std.specs.Prelude.{◌≡◌, ◌+◌, ◌<◌, ◌≤◌, [], ◌∷◌, ◌++◌, IfOk, OnOk, OnErr, MatchResult};
+ghost use Rattle.std.specs.Prelude.{◌≡◌, ◌+◌, ◌<◌, [], ◌∷◌, ◌++◌, IfOk, OnOk, OnErr, MatchResult};
 ghost use Rattle.wal_base.specs.declared.entry.Entry.TheVariants.{Set, Delete, Note, RangeDelete};
 ghost use Rattle.batch_repr.specs.Batches.{count_of};
 ghost use Rattle.batch_repr.specs.Limits.{IsWithinLimits};

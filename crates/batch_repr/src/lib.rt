@@ -30,7 +30,7 @@ pub use limits::{
 };
 pub use numbered::Numbered;
 pub use theorems::{bytes_have_one_reading, fits_exactly_where_not_refused, shortest_is_written};
-pub use unnumbered::Unnumbered;
+pub use unnumbered::{Unnumbered, UnnumberedBytes};
 pub use unwritten::Unwritten;
 
 #[cfg(test)]

@@ -6,18 +6,19 @@ ghost use Rattle.batch_repr.specs.Batches.{count_of, end_of};
 ghost use Rattle.batch_repr.specs.Spelling.{SpellsBatch};
 ghost use Rattle.batch_repr.specs.Written.{written};
 
-use crate::batch::Batch;
 use std::fmt;
 use std::marker::Model;
 use std::snapshot::Snapshot;
+use wal_base::Entries;
 
-/// A batch as it is written. Contracts see the batch that its bytes spell, of which only a snapshot without
-/// bytes is kept.
+/// A batch as it is written. Contracts see the batch that its bytes spell, of whose entries only a snapshot
+/// without bytes is kept.
 #[derive(Drop)]
 pub struct Numbered {
-    pub(crate) bytes: Vec<u8>,
+    pub(crate) first: u64,
     pub(crate) count: u32,
-    pub(crate) batch: Snapshot<Batch>,
+    pub(crate) bytes: Vec<u8>,
+    pub(crate) entries: Snapshot<Entries>,
 }
 
 impl Model for Numbered {
@@ -26,9 +27,10 @@ impl Model for Numbered {
 
     ghost Value = { Batch };
 
-    ghost view = { λ a. a.batch.value };
+    ghost view = { λ a. record { first = a.first; entries = a.entries.value } };
 
-    ghost invariant = { λ a. IsWritten a.bytes.items a.batch.value a.count };
+    ghost invariant = { λ a.
+        IsWritten a.bytes.items (record { first = a.first; entries = a.entries.value }) a.count };
 }
 
 impl Numbered {
@@ -36,10 +38,7 @@ impl Numbered {
     pub fn first(&self) -> u64
         ensures { result ≡ self.now.first }
     {
-        let Some((head, _)) = self.bytes.split_first_chunk::<8>() else {
-            unreachable!();
-        };
-        u64::from_le_bytes(*head)
+        self.first
     }
 
     /// How many numbers the batch takes: at least 1.

@@ -22,8 +22,9 @@ fn one_set_has_these_bytes_and_is_read_back(rt: HostRuntime) {
         (batch.count(), batch.size(), batch.entries().len()),
         (1, 17, 1)
     );
-    let (numbered, entries) = batch.number_keeping_entries(10);
-    assert_eq!(rt; entries.len(), 1);
+    let (bytes, entries) = batch.into_parts();
+    assert_eq!(rt; (bytes.count(), entries.len()), (1, 1));
+    let numbered = bytes.number(10);
     assert_eq!(rt;
         (numbered.first(), numbered.count(), numbered.end()),
         (10, 1, 11)

@@ -6,7 +6,6 @@ ghost use Rattle.batch_repr.specs.Batches.{count_of};
 ghost use Rattle.batch_repr.specs.Written.{written_len};
 ghost use Rattle.batch_repr.specs.Building.{FitsBatch};
 
-use crate::batch::Batch;
 use crate::numbered::Numbered;
 use crate::writing::put_header;
 use std::marker::Model;
@@ -58,33 +57,81 @@ impl Unnumbered {
         &self.entries
     }
 
+    /// Takes the batch apart: what is to be numbered and written to the log, and its entries, for who moves their bytes
+    /// elsewhere.
+    pub fn into_parts(self) -> (UnnumberedBytes, Entries)
+        ensures bytes { result.0 ≡ self }
+        ensures entries { result.1 ≡ self }
+    {
+        let Unnumbered {
+            bytes,
+            entries,
+            count,
+        } = self;
+        let text = UnnumberedBytes {
+            bytes,
+            entries: Snapshot::of(&entries),
+            count,
+        };
+        (text, entries)
+    }
+
+    /// Gives the batch its first number, and lets its entries go. It takes no memory.
+    pub fn number(self, first: u64) -> Numbered
+        requires { first + count_of self ≤ NUMBER_MAX }
+        ensures { result ≡ record { first = first; entries = self } }
+    {
+        let (bytes, _) = self.into_parts();
+        bytes.number(first)
+    }
+}
+
+/// The bytes of a batch that has no numbers yet, after a header that is not written. Contracts see the list of its
+/// entries, of which only a snapshot is kept.
+#[derive(Drop)]
+pub struct UnnumberedBytes {
+    bytes: Vec<u8>,
+    entries: Snapshot<Entries>,
+    count: u32,
+}
+
+impl Model for UnnumberedBytes {
+    ghost use Rattle.std.specs.Prelude.{List};
+    ghost use Rattle.wal_base.specs.declared.entry.Entry.{Entry};
+    ghost use Rattle.batch_repr.specs.Draft.{IsCountedDraft};
+
+    ghost Value = { List Entry };
+
+    ghost view = { λ a. a.entries.value };
+
+    ghost invariant = { λ a. IsCountedDraft a.bytes.items a.entries.value a.count };
+}
+
+impl UnnumberedBytes {
+    /// How many numbers the batch takes: at least 1.
+    pub fn count(&self) -> u32
+        ensures count { result ≡ count_of self.now }
+        ensures some { 0 < result }
+    {
+        self.count
+    }
+
     /// Gives the batch its first number, by writing it into the header. It takes no memory.
     pub fn number(self, first: u64) -> Numbered
         requires { first + count_of self ≤ NUMBER_MAX }
         ensures { result ≡ record { first = first; entries = self } }
     {
-        let (numbered, _) = self.number_keeping_entries(first);
-        numbered
-    }
-
-    /// Numbers the batch, and hands its entries over beside it, for who still reads them. It takes no memory.
-    pub fn number_keeping_entries(self, first: u64) -> (Numbered, Entries)
-        requires { first + count_of self ≤ NUMBER_MAX }
-        ensures numbered { result.0 ≡ record { first = first; entries = self } }
-        ensures entries { result.1 ≡ self }
-    {
-        let Unnumbered {
+        let UnnumberedBytes {
             mut bytes,
             entries,
             count,
         } = self;
         put_header(&mut bytes, first, count);
-        let batch = Batch { first, entries };
-        let numbered = Numbered {
-            bytes,
+        Numbered {
+            first,
             count,
-            batch: Snapshot::of(&batch),
-        };
-        (numbered, batch.entries)
+            bytes,
+            entries,
+        }
     }
 }

@@ -1,4 +1,5 @@
 pub mod Laws
+mod AsBefore
 mod EndsBefore
 mod Enters
 mod Enrols

@@ -19,12 +19,11 @@ use Rattle.commit_pipeline.proofs.EndsBefore.{StandsAt, stands_at}
 -- ---- the base, batch by batch
 
 -- where the batch of a turn stands in the base
-pub turn : (base items : List Batch) (next index : ℕ) (batch : Batch) → EndsBefore base next → items ≡ base → index < length items
-    → batch ≡ get_or items index batch → StandsAt (first_number next base) next base index batch
-turn base items next index batch ends same low is =
-    subst (StandsAt (first_number next base) next base index) (sym (is ∙ ap (λ (bs : List Batch). get_or bs index batch) same))
-    (stands_at (first_number next base) next base index batch ends.contiguous (omega (arith, ends.ends))
-    (omega (arith, low, ap (λ (bs : List Batch). length bs) same)))
+pub turn : (base : List Batch) (next index : ℕ) (batch : Batch) → EndsBefore base next → index < length base
+    → batch ≡ get_or base index batch → StandsAt (first_number next base) next base index batch
+turn base next index batch ends low is =
+    subst (StandsAt (first_number next base) next base index) (sym is)
+    (stands_at (first_number next base) next base index batch ends.contiguous (omega (arith, ends.ends)) low)
 
 -- The shards of the batches before it end where it begins.
 pub turn_reached : (base : List Batch) (next index : ℕ) (batch : Batch) (shards : List (List Version))
@@ -38,13 +37,12 @@ turn_reached base next index batch shards at are = record {
 }
 
 -- and with it they are the shards of one batch more
-pub turn_added : (base items : List Batch) (index : ℕ) (batch : Batch) (old new : List (List Version)) → items ≡ base → index < length items
-    → batch ≡ get_or items index batch → GainBatch batch old new → AreShardsOf old (take index base) → AreShardsOf new (take (index + 1) base)
-turn_added base items index batch old new same low is gains are = subst (AreShardsOf new) more (gains (take index base) are)
+pub turn_added : (base : List Batch) (index : ℕ) (batch : Batch) (old new : List (List Version)) → index < length base
+    → batch ≡ get_or base index batch → GainBatch batch old new → AreShardsOf old (take index base) → AreShardsOf new (take (index + 1) base)
+turn_added base index batch old new low is gains are = subst (AreShardsOf new) more (gains (take index base) are)
   where
     more : take index base ++ batch ∷ [] ≡ take (index + 1) base
-    more = ap (λ (b : Batch). take index base ++ b ∷ []) (is ∙ ap (λ (bs : List Batch). get_or bs index batch) same)
-        ∙ sym (take_more base index batch (omega (arith, low, ap (λ (bs : List Batch). length bs) same)))
+    more = ap (λ (b : Batch). take index base ++ b ∷ []) is ∙ sym (take_more base index batch low)
 
 -- ---- numbers
 

@@ -1,5 +1,5 @@
 -- What sessions have seen once they have met (docs/formats/ring.md, "Sessions beside one another").
-use Rattle.std.specs.Prelude.{◌≡◌, ℕ, ◌+◌, ◌≤◌, List, length, Option, None, Some, slice_get}
+use Rattle.std.specs.Prelude.{◌≡◌, ℕ, ◌+◌, ◌<◌, ◌≤◌, List, length, Option, None, Some, slice_get, slice_index_or}
 use Rattle.wal_base.specs.Prefixes.{IsPrefixOf}
 use Rattle.failover_writer.specs.declared.fault.DeadMark.{DeadMark}
 use Rattle.commit_pipeline.specs.declared.standing.Standing.{Standing}
@@ -28,6 +28,11 @@ pub record HaveMet (ss ss' : List Standing) : Type 0 where
   pub deaths : (i j : ℕ) (o s' : Standing) → slice_get ss i ≡ Some o → slice_get ss' j ≡ Some s' → KnowsDeath o → KnowsDeath s'
 
 -- ---- inside
+
+-- Each of them is as it was.
+pub record AreAsBefore (ss ss' : List Standing) : Type 0 where
+  pub all : length ss' ≡ length ss
+  pub each : (i : ℕ) (d : Standing) → i < length ss → slice_index_or ss' i d ≡ slice_index_or ss i d
 
 -- Each has seen all that any of them had seen.
 pub record ShareSeen (ss ss' : List Standing) : Type 0 where

@@ -13,7 +13,7 @@ use crate::desk::Desk;
 use crate::entering::enter;
 use crate::log_side::LogSide;
 use crate::name::PipeName;
-use batch_repr::{BATCHES_MAX, NUMBER_MAX, Unnumbered};
+use batch_repr::{BATCHES_MAX, NUMBER_MAX, UnnumberedBytes};
 use commit_queue::{PipeTable, ProducerSeat};
 use disk_face::Disk;
 use record_flow::SendPass;
@@ -26,13 +26,23 @@ use std::sync::ledger::{Book, Ledger, Share};
 #[derive(Drop)]
 pub(crate) enum Numbering {
     /// The seat holds the batch, with this first number and at this place.
-    Done { first: u64, index: u64 },
+    Done {
+        first: u64,
+        index: u64,
+    },
     /// The ring is full. The batch and its node come back.
-    Busy { batch: Unnumbered, node: RecordNode },
+    Busy {
+        batch: UnnumberedBytes,
+        node: RecordNode,
+    },
     /// As many batches are numbered as there may be, of which this is the end.
-    TooMany { next: u64 },
+    TooMany {
+        next: u64,
+    },
     /// The batch would end past the numbers, of which this one comes next.
-    Exhausted { next: u64 },
+    Exhausted {
+        next: u64,
+    },
 }
 
 /// The seat that numbers batches, the pass that sends them on their way to the journal, and the book of
@@ -75,7 +85,7 @@ impl<N: PipeName> CommitSide<N> {
         table: &PipeTable,
         log: &LogSide<D, N, M>,
         desk: &mut Desk<N, M>,
-        batch: Unnumbered,
+        batch: UnnumberedBytes,
         node: RecordNode,
         sync: bool,
     ) -> Numbering
@@ -125,7 +135,7 @@ impl<N: PipeName> CommitSide<N> {
         &mut self,
         table: &PipeTable,
         desk: &mut Desk<N, M>,
-        batch: Unnumbered,
+        batch: UnnumberedBytes,
         node: RecordNode,
     ) -> Numbering
         requires table { table_id_of table.now ≡ N.table }

@@ -31,6 +31,7 @@ mod parts;
 mod pipeline;
 mod reading;
 mod session;
+mod settling;
 mod standing;
 mod theorems;
 

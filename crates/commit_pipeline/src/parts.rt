@@ -23,7 +23,7 @@ use commit_queue::{FlushSeat, PipeTable, ProducerSeat, SessionSeats, Shards};
 use crossbeam_utils::CachePadded;
 use disk_face::Disk;
 use failover_writer::Journal;
-use memtable_shards::{SHARDS, Shard, split_entries};
+use memtable_shards::{SHARDS, Shard, split};
 use record_flow::{FlushPass, RecordFlow, SendPass};
 use std::alloc::Global;
 use std::marker::{Model, PhantomData};
@@ -75,20 +75,21 @@ impl Model for Parts {
 
 impl Parts {
     /// The parts of a pipeline with so many sessions. `base` are the batches before those of the
-    /// journal, which reads will see, and `next` is the number after them.
-    pub fn new(alloc: Global, base: &Batches, next: u64, sessions: usize) -> Result<Parts, NoMemory>
+    /// journal, which reads will see: the shards take their bytes over. `next` is the number after them.
+    pub fn new(alloc: Global, base: Batches, next: u64, sessions: usize) -> Result<Parts, NoMemory>
         requires sessions { (1 ≤ sessions) × (sessions ≤ SESSIONS_MAX) }
         requires within { next ≤ NUMBER_MAX }
-        requires base { EndsBefore base.now next }
-        ensures { IfOk result (λ parts. ArePartsOf base.now next sessions parts) }
+        requires base { EndsBefore base next }
+        ensures { IfOk result (λ parts. ArePartsOf base next sessions parts) }
     {
+        let seen = Snapshot::of(&base);
         let shards = load(alloc, base, next)?;
         let made = PipeTable::new(alloc, sessions as u32, next, shards)?;
         let (table, producer, flush, seats) = made;
         let (flow, sends, pops) = RecordFlow::new(alloc, next)?;
         Ok(Parts {
             alloc,
-            base: Snapshot::of(base),
+            base: seen,
             next,
             table,
             producer,
@@ -103,19 +104,23 @@ impl Parts {
     }
 }
 
-/// The versions of the batches, in eight shards.
-fn load(alloc: Global, base: &Batches, next: u64) -> Result<Shards, NoMemory>
-    requires base { EndsBefore base.now next }
+/// The versions of the batches, in eight shards, which take their bytes over.
+fn load(alloc: Global, base: Batches, next: u64) -> Result<Shards, NoMemory>
+    requires base { EndsBefore base next }
     requires within { next ≤ NUMBER_MAX }
     ensures eight { IfOk result (λ shards. length shards ≡ SHARDS) }
-    ensures loaded { IfOk result (λ shards. AreShardsOf shards base.now) }
+    ensures loaded { IfOk result (λ shards. AreShardsOf shards base) }
 {
     let mut shards = Vec::with_capacity(alloc, SHARDS)?;
     for _ in 0..SHARDS {
         shards.push(Shard::new(alloc)?)?;
     }
-    for batch in base.as_slice() {
+    for batch in base.into_vec() {
         apply(alloc, &mut shards, batch)?;
+    }
+    // Here it is done shard by shard, and no read has to.
+    for place in 0..SHARDS {
+        shards[place].settle()?;
     }
     let mut list = ListOf::with_capacity(alloc, SHARDS)?;
     for shard in shards {
@@ -125,13 +130,13 @@ fn load(alloc: Global, base: &Batches, next: u64) -> Result<Shards, NoMemory>
 }
 
 /// Adds the versions of a batch, whose first number is the next one.
-fn apply(alloc: Global, shards: &mut Vec<Shard>, batch: &Batch) -> Result<(), NoMemory>
-    requires some { 0 < count_of batch.now.entries }
-    requires within { batch.now.first + count_of batch.now.entries ≤ NUMBER_MAX }
-    requires reached { HaveReached batch.now.first shards.old.items }
-    ensures { OnOk result (GainBatch batch.now shards.old.items shards.new.items) }
+fn apply(alloc: Global, shards: &mut Vec<Shard>, batch: Batch) -> Result<(), NoMemory>
+    requires some { 0 < count_of batch.entries }
+    requires within { batch.first + count_of batch.entries ≤ NUMBER_MAX }
+    requires reached { HaveReached batch.first shards.old.items }
+    ensures { OnOk result (GainBatch batch shards.old.items shards.new.items) }
 {
-    let mut pieces = split_entries(alloc, &batch.entries)?;
+    let mut pieces = split(alloc, batch.entries)?;
     pieces.number(batch.first);
     while let Some((shard, piece)) = pieces.take() {
         shards[shard].apply(piece);

@@ -1,5 +1,6 @@
 //! The pipeline, and its commits.
 ghost use Rattle.std.specs.Prelude.{◌≡◌, ◌+◌, None, Err, true};
+ghost use Rattle.memtable_shards.specs.Pieces.{whole_pieces};
 ghost use Rattle.commit_queue.specs.Tables.{table_id_of};
 ghost use Rattle.commit_queue.specs.Calls.{HoldsUnapplied};
 ghost use Rattle.commit_queue.specs.Shown.{session_shown};
@@ -20,7 +21,7 @@ use crate::gate::{Gate, GatePoint};
 use crate::log_side::LogSide;
 use crate::name::PipeName;
 use crate::session::Session;
-use batch_repr::{BATCHES_MAX, Unnumbered};
+use batch_repr::{BATCHES_MAX, Unnumbered, UnnumberedBytes};
 use commit_queue::PipeTable;
 use crossbeam_utils::CachePadded;
 use disk_face::{Disk, Side, StallDisk};
@@ -65,9 +66,27 @@ impl<'a, D: Disk, G: Gate, N: PipeName, M: Ledger> Pipeline<'a, D, G, N, M> {
     ) -> Result<Committed, CommitFault>
         ensures { TellsCommit N.opening batch sync session.old result session.new }
     {
-        let count = batch.count();
-        let mut pieces = split(self.alloc, &batch)?;
+        let (bytes, entries) = batch.into_parts();
+        let pieces = split(self.alloc, entries)?;
         let node = RecordNode::empty(self.alloc)?;
+        self.commit_pieces(rt, session, bytes, pieces, node, sync)
+    }
+
+    /// Commits a batch that is cut into pieces, and whose record goes into this node.
+    fn commit_pieces<R: Wait>(
+        &self,
+        rt: &R,
+        session: &mut Session<N, M>,
+        batch: UnnumberedBytes,
+        mut pieces: Pieces,
+        node: RecordNode,
+        sync: bool,
+    ) -> Result<Committed, CommitFault>
+        requires pieces { pieces ≡ whole_pieces batch }
+        requires node { node ≡ None }
+        ensures { TellsCommit N.opening batch sync session.old result session.new }
+    {
+        let count = batch.count();
         let desk = &mut session.desk;
         let (first, index) = self.start(rt, desk, batch, node, sync)?;
         self.gate.pass(session.number, GatePoint::Numbered);
@@ -95,7 +114,7 @@ impl<'a, D: Disk, G: Gate, N: PipeName, M: Ledger> Pipeline<'a, D, G, N, M> {
         &self,
         rt: &R,
         desk: &mut Desk<N, M>,
-        batch: Unnumbered,
+        batch: UnnumberedBytes,
         node: RecordNode,
         sync: bool,
     ) -> Result<(u64, u64), CommitFault>
@@ -132,7 +151,7 @@ impl<'a, D: Disk, G: Gate, N: PipeName, M: Ledger> Pipeline<'a, D, G, N, M> {
         &self,
         rt: &R,
         desk: &mut Desk<N, M>,
-        batch: Unnumbered,
+        batch: UnnumberedBytes,
         node: RecordNode,
         sync: bool,
     ) -> Result<(u64, u64), Refusal>

@@ -96,7 +96,7 @@ fn run<D: Disk + Drop + Send, G: Gate + Sync, A: Act<G> + Sync, R: Threads + Wai
     requires next { journal.state.next ≡ NUMBER_FIRST }
 {
     let base = Batches::new(alloc);
-    let parts = Parts::new(alloc, &base, NUMBER_FIRST, sessions).expect(rt, "memory");
+    let parts = Parts::new(alloc, base, NUMBER_FIRST, sessions).expect(rt, "memory");
     with_table::<D, Brand, G, A, R>(rt, alloc, gate, parts, journal, act)
 }
 
@@ -376,7 +376,7 @@ fn play_out<D: StallDisk + Drop, P: Play, R: Wait + Abort>(
     requires within { journal.state.next ≤ NUMBER_MAX }
 {
     let base = Batches::new(alloc);
-    let parts = Parts::new(alloc, &base, journal.next(), sessions).expect(rt, "memory");
+    let parts = Parts::new(alloc, base, journal.next(), sessions).expect(rt, "memory");
     played_table::<D, Brand, P, R>(rt, alloc, parts, journal, play)
 }
 

@@ -91,7 +91,8 @@ fn next_batch(rt: &impl Abort, alloc: Global, next: u64) -> (Numbered, Pieces)
     if next > NUMBER_MAX || u64::from(batch.count()) > NUMBER_MAX - next {
         panic!(rt; "a number left");
     }
-    let mut pieces = split(alloc, &batch).expect(rt, "memory");
+    let (batch, entries) = batch.into_parts();
+    let mut pieces = split(alloc, entries).expect(rt, "memory");
     pieces.number(next);
     (batch.number(next), pieces)
 }

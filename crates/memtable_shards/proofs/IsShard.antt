@@ -1,15 +1,17 @@
 -- A shard's versions, as they are linked and moved into the index. What waits is seen twice.
-use Rattle.std.proofs.Common.{◌≡◌, ◌⊎◌, true, false, inl, inr, ℕ, ◌+◌, ◌<◌, ◌≤◌, List, [], ◌∷◌, ◌++◌, length, drop, take, set, refl, sym, ap, ◌∙◌, subst, arith}
-use Rattle.std.proofs.Common.{append_assoc, get_or, length-append}
+use Rattle.std.proofs.Common.{◌≡◌, ◌⊎◌, inl, inr, ◌+◌, ◌<◌, List, [], ◌∷◌, ◌++◌, length, drop, sym, ap, ◌∙◌, subst, arith}
+use Rattle.std.proofs.Common.{append_assoc, get_or}
 use Rattle.std.specs.Prelude.{Contains, ◌↔◌}
 use Rattle.std.proofs.lemmas.List.{append-nil}
 use Rattle.std.proofs.lemmas.List.Elements.{Contains-append_left, Contains-append_right, Contains-append_cases}
 use Rattle.wal_base.proofs.Laws.{within_head, within_tail, within_cases}
+use Rattle.arena_list.specs.Arena.{Arena, MakesRoom}
 use Rattle.arena_list.specs.Versions.{KeyVersion, AscendVersions}
 use Rattle.arena_list.proofs.Laws.{never_before_itself}
 use Rattle.range_cover.specs.declared.mark.RangeMark.{RangeMark}
 use Rattle.memtable_shards.specs.Versions.{Version, Gains, HaveOtherNumbers, IsSettled, key_versions}
 use Rattle.memtable_shards.specs.Parts.{settled_in, LacksNumber, HasOneMore, HaveOwnNumbers, MayWait, IsShard}
+use Rattle.memtable_shards.specs.Moving.{MovesFirst}
 use Rattle.memtable_shards.proofs.MayWait.{rest_waits}
 use Rattle.memtable_shards.proofs.Settling.{keys_seen}
 
@@ -131,80 +133,47 @@ moved_in old new wait rest version e adds v = (to, from)
 both : {A B C : Type 0} → A ↔ B → B ↔ C → A ↔ C
 both one two = (λ a. two.0 (one.0 a), λ c. one.1 (two.1 c))
 
--- the same list
-pub same_set : (xs ys zs : List Version) (v : Version) → xs ≡ ys → Contains ys v ↔ Contains zs v → Contains xs v ↔ Contains zs v
-same_set xs ys zs v e same = subst (λ (l : List Version). Contains l v ↔ Contains zs v) (sym e) same
+-- the same parts
+pub same_parts : (old waiting new rest was : List Version) (v : Version) → new ≡ old → rest ≡ waiting
+    → Contains (seen old waiting) v ↔ Contains was v → Contains (seen new rest) v ↔ Contains was v
+same_parts old waiting new rest was v same kept it =
+    subst (λ (l : List Version). Contains (seen l rest) v ↔ Contains was v) (sym same)
+    (subst (λ (l : List Version). Contains (seen old l) v ↔ Contains was v) (sym kept) it)
+
+-- room that is made changes no version
+pub room_same : (old new : Arena) → MakesRoom old new → new.versions ≡ old.versions
+room_same old new (inl same) = ap (λ (a : Arena). a.versions) same.1
+room_same old new (inr made) = ap (λ (a : Arena). a.versions) made.1
 
 -- a list whose first item was looked at
-first_waits : (waiting : List Version) (version : Version) → 0 < length waiting → version ≡ get_or waiting 0 version
+pub first_waits : (waiting : List Version) (version : Version) → 0 < length waiting → version ≡ get_or waiting 0 version
     → waiting ≡ version ∷ drop 1 waiting
 first_waits [] version some is = absurd (omega (arith, some))
 first_waits (v ∷ waiting) version some is = ap (λ (w : Version). w ∷ waiting) (sym is)
 
--- a list that has no first item
-pub none_waits : (waiting : List Version) → (0 < length waiting → false ≡ true) → waiting ≡ []
-none_waits [] none = refl
-none_waits (v ∷ waiting) none = let clash : false ≡ true = none (omega arith) in absurd cc
-
 -- the first one is not in the index
-pub first_absent : (index waiting : List Version) (version : Version) → 0 < length waiting → version ≡ get_or waiting 0 version
-    → IsShard index waiting → LacksNumber index version.number
-first_absent index waiting version some is shard v h =
-    shard.apart v version h (subst (λ (l : List Version). Contains l version) (sym (first_waits waiting version some is))
-    (within_head version (drop 1 waiting)))
+pub first_absent : (index waiting rest : List Version) (version : Version) → waiting ≡ version ∷ rest → IsShard index waiting
+    → LacksNumber index version.number
+first_absent index waiting rest version whole shard v h =
+    shard.apart v version h (subst (λ (l : List Version). Contains l version) (sym whole) (within_head version rest))
 
 -- the first one moves to the index
-pub one_settled : (was old new waiting rest : List Version) (version : Version) → 0 < length waiting → version ≡ get_or waiting 0 version
-    → rest ≡ drop 1 waiting → HasOneMore old version new → IsShard old waiting → ((v : Version) → Contains (seen old waiting) v ↔ Contains was v)
-    → IsShard new rest × ((v : Version) → Contains (seen new rest) v ↔ Contains was v)
+pub one_settled : (was old waiting new rest : List Version) → MovesFirst old waiting new rest → IsShard old waiting
+    → ((v : Version) → Contains (seen old waiting) v ↔ Contains was v) → IsShard new rest × ((v : Version) → Contains (seen new rest) v ↔ Contains was v)
 unfolding HaveOwnNumbers
-one_settled was old new waiting rest version some is off adds shard same = (
-  record { ready = rest_waits waiting rest version whole shard.ready; apart = apart },
-  λ v. both (moved_in old new waiting rest version whole adds v) (same v),
+one_settled was old waiting new rest moves shard same = (
+  record { ready = rest_waits waiting rest moves.version moves.first shard.ready; apart = apart },
+  λ v. both (moved_in old new waiting rest moves.version moves.first moves.added v) (same v),
 )
   where
-    whole : waiting ≡ version ∷ rest
-    whole = first_waits waiting version some is ∙ ap (λ (l : List Version). version ∷ l) (sym off)
+    version : Version
+    version = moves.version
 
     all : MayWait (version ∷ rest)
-    all = subst MayWait whole shard.ready
+    all = subst MayWait moves.first shard.ready
 
     apart : HaveOtherNumbers new rest
-    apart one other h k = elim ((adds one).0 h) [
-      | inl was ↦ shard.apart one other was (subst (λ (l : List Version). Contains l other) (sym whole) (within_tail version rest other k))
+    apart one other h k = elim ((moves.added one).0 h) [
+      | inl was ↦ shard.apart one other was (subst (λ (l : List Version). Contains l other) (sym moves.first) (within_tail version rest other k))
       | inr e ↦ (λ (clash : one.number ≡ other.number). all.apart.0 other k (sym clash ∙ ap (λ (v : Version). v.number) e))
     ]
-
--- the rest of versions whose first one was written
-rest_written : (waiting : List Version) (version : Version) → drop 1 (set waiting 0 version) ≡ drop 1 waiting
-rest_written [] version = refl
-rest_written (v ∷ waiting) version = refl
-
-pub rest_moves : (waiting rest : List Version) (version : Version) → rest ≡ drop 1 (set waiting 0 version) → rest ≡ drop 1 waiting
-rest_moves waiting rest version off = off ∙ rest_written waiting version
-
--- a first version that is as it was
-pub first_kept : (waiting : List Version) (version kept : Version) → 0 < length waiting → version ≡ get_or waiting 0 version → kept ≡ version
-    → set waiting 0 kept ≡ waiting
-first_kept [] version kept some is same = absurd (omega (arith, some))
-first_kept (v ∷ waiting) version kept some is same = ap (λ (w : Version). w ∷ waiting) (same ∙ is)
-
--- those that were moved, with one more, are not more than waited
-pub few_moved : (moved waiting one : List Version) (version : Version) (most : ℕ) → one ≡ take 1 (set waiting 0 version)
-    → length moved + length waiting ≤ most → length moved + length one ≤ most
-few_moved moved [] one version most off few = rw off few
-few_moved moved (v ∷ waiting) one version most off few = rw off (omega (arith, few))
-
-pub count_moved : (moved all waiting one rest : List Version) (version : Version) (most : ℕ) → 0 < length waiting
-    → one ≡ take 1 (set waiting 0 version) → rest ≡ drop 1 (set waiting 0 version) → all ≡ moved ++ one
-    → length moved + length waiting ≤ most → length all + length rest ≤ most
-count_moved moved all [] one rest version most some off on is few = absurd (omega (arith, some))
-count_moved moved all (v ∷ waiting) one rest version most some off on is few =
-    omega (
-      arith,
-      few,
-      ap (λ (l : List Version). length l) is,
-      length-append moved one,
-      ap (λ (l : List Version). length l) off,
-      ap (λ (l : List Version). length l) on,
-    )

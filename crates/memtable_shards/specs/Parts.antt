@@ -8,8 +8,8 @@ use Rattle.memtable_shards.specs.declared.sharding.TheConstants.{SHARDS}
 use Rattle.arena_list.specs.Versions.{KeyVersion}
 use Rattle.memtable_shards.specs.Versions.{Version}
 use Rattle.range_cover.specs.declared.mark.RangeMark.{RangeMark}
-use Rattle.memtable_shards.specs.declared.waiting.Target.{Target}
-use Rattle.memtable_shards.specs.declared.waiting.Target.TheVariants.{Key, Range}
+use Rattle.memtable_shards.specs.declared.waiting.Change.{Change}
+use Rattle.memtable_shards.specs.declared.waiting.Change.TheVariants.{Key, Range}
 use Rattle.memtable_shards.specs.Versions.{versions_from, of_shard, HaveOtherNumbers}
 
 -- the entry that left a key with a value, or with none
@@ -18,9 +18,9 @@ key_entry key None = Delete key
 key_entry key (Some value) = Set key value
 
 -- the entry of a version that waits
-abbrev pub entry_with : Target → Option (List ℕ) → Entry
-entry_with (Key key) value = key_entry key value
-entry_with (Range start end) value = RangeDelete start end
+abbrev pub entry_of : Change → Entry
+entry_of (Key key value) = key_entry key value
+entry_of (Range start end) = RangeDelete start end
 
 -- a version of a key, as the index holds it
 abbrev pub of_key : KeyVersion → Version

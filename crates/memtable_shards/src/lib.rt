@@ -9,6 +9,7 @@
 #![tactic(auto)]
 
 mod found;
+mod moving;
 mod part;
 mod pieces;
 mod shard;
@@ -17,7 +18,7 @@ mod theorems;
 mod waiting;
 
 pub use arena_list::{ArenaList, Found};
-pub use pieces::{PieceNode, Pieces, split, split_entries};
+pub use pieces::{PieceNode, Pieces, split};
 pub use shard::Shard;
 pub use sharding::{SHARDS, shard_index};
 pub use theorems::{

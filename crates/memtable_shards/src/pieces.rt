@@ -12,8 +12,7 @@ ghost use Rattle.memtable_shards.specs.Parts.{AreEmptyBetween, IsFirstWithAny};
 ghost use Rattle.memtable_shards.specs.Pieces.{whole_pieces, IsNextPiece, NoPieceIsLeft};
 
 use crate::sharding::{SHARDS, shard_index};
-use crate::waiting::{Target, WaitingVersion};
-use batch_repr::Unnumbered;
+use crate::waiting::{Change, WaitingVersion};
 use std::alloc::Global;
 use std::collections::LinkedList;
 use std::marker::Model;
@@ -136,22 +135,16 @@ fn number_nodes(mut nodes: LinkedList<WaitingVersion>, first: u64) -> LinkedList
     numbered
 }
 
-/// Cuts a batch's versions into pieces. Their bytes are shared with the batch, and not copied.
-pub fn split(alloc: Global, batch: &Unnumbered) -> Result<Pieces, NoMemory>
-    ensures { IfOk result (λ pieces. pieces ≡ whole_pieces batch.now) }
+/// Cuts the versions of entries into pieces, which take their bytes over.
+pub fn split(alloc: Global, entries: Entries) -> Result<Pieces, NoMemory>
+    ensures { IfOk result (λ pieces. pieces ≡ whole_pieces entries) }
 {
-    split_entries(alloc, batch.entries())
-}
-
-/// Cuts the versions of entries into pieces. Their bytes are shared with the entries, and not copied.
-pub fn split_entries(alloc: Global, entries: &Entries) -> Result<Pieces, NoMemory>
-    ensures { IfOk result (λ pieces. pieces ≡ whole_pieces entries.now) }
-{
+    let seen = Snapshot::of(&entries);
     Ok(Pieces {
-        entries: Snapshot::of(entries),
+        entries: seen,
         first: None,
         from: 0,
-        lists: sort_versions(alloc, entries.as_slice())?,
+        lists: sort_versions(alloc, entries)?,
     })
 }
 
@@ -163,30 +156,27 @@ fn empty_lists(alloc: Global) -> Lists
     array::from_fn(|_| LinkedList::new(alloc))
 }
 
-/// The version that an entry leaves under a number: none where it is a note.
-fn version_of(entry: &Entry, number: u64) -> Result<Option<WaitingVersion>, NoMemory>
-    ensures { IfOk result (λ version. option_to_list version ≡ versions_from number (entry.now ∷ [])) }
+/// The version that an entry leaves under a number, which takes its bytes over: none where it is a note.
+fn version_of(entry: Entry, number: u64) -> Option<WaitingVersion>
+    ensures { option_to_list result ≡ versions_from number (entry ∷ []) }
 {
     match entry {
-        Entry::Set { key, value } => Ok(Some(WaitingVersion {
-            target: Target::Key { key: key.share()? },
-            number,
-            value: Some(value.share()?),
-        })),
-        Entry::Delete { key } => Ok(Some(WaitingVersion {
-            target: Target::Key { key: key.share()? },
-            number,
-            value: None,
-        })),
-        Entry::Note { .. } => Ok(None),
-        Entry::RangeDelete { start, end } => Ok(Some(WaitingVersion {
-            target: Target::Range {
-                start: start.share()?,
-                end: end.share()?,
+        Entry::Set { key, value } => Some(WaitingVersion {
+            change: Change::Key {
+                key,
+                value: Some(value),
             },
             number,
-            value: None,
-        })),
+        }),
+        Entry::Delete { key } => Some(WaitingVersion {
+            change: Change::Key { key, value: None },
+            number,
+        }),
+        Entry::Note { .. } => None,
+        Entry::RangeDelete { start, end } => Some(WaitingVersion {
+            change: Change::Range { start, end },
+            number,
+        }),
     }
 }
 
@@ -196,7 +186,7 @@ fn add_version(lists: &mut Lists, version: WaitingVersion) -> Result<(), NoMemor
     ensures eight { length lists.new ≡ SHARDS }
     ensures added { OnOk result (AddsByShard version lists.old lists.new) }
 {
-    let Target::Key { key } = &version.target else {
+    let Change::Key { key, .. } = &version.change else {
         return add_to_all(lists, &version);
     };
     let shard = shard_index(key.as_slice());
@@ -218,14 +208,14 @@ fn add_to_all(lists: &mut Lists, version: &WaitingVersion) -> Result<(), NoMemor
 }
 
 /// The versions of the entries, numbered from 0 on, by their shards.
-fn sort_versions(alloc: Global, entries: &[Entry]) -> Result<Lists, NoMemory>
+fn sort_versions(alloc: Global, entries: Entries) -> Result<Lists, NoMemory>
     ensures eight { IfOk result (λ lists. length lists ≡ SHARDS) }
-    ensures own { IfOk result (λ lists. AreByShard (versions_from 0 entries.now) lists) }
+    ensures own { IfOk result (λ lists. AreByShard (versions_from 0 entries) lists) }
 {
     let mut lists = empty_lists(alloc);
     let mut number = 0;
-    for entry in entries {
-        if let Some(version) = version_of(entry, number)? {
+    for entry in entries.into_vec() {
+        if let Some(version) = version_of(entry, number) {
             add_version(&mut lists, version)?;
             number += 1;
         }

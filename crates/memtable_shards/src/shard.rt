@@ -1,21 +1,22 @@
 //! One shard.
 
-ghost use Rattle.std.specs.Prelude.{◌≡◌, [], map, IfOk, OnOk, OnErr};
-ghost use Rattle.arena_list.specs.Versions.{version_with, Adds, HoldsVersion, AreSomeOf};
+ghost use Rattle.std.specs.Prelude.{◌≡◌, [], map, IfOk, OnOk};
+ghost use Rattle.arena_list.specs.Versions.{AreSomeOf};
 ghost use Rattle.memtable_shards.specs.Newest.{FindsNewest};
-ghost use Rattle.memtable_shards.specs.Parts.{of_range, settled_in, HasOneMore, LacksNumber};
+ghost use Rattle.memtable_shards.specs.Parts.{of_range, settled_in};
 ghost use Rattle.memtable_shards.specs.Versions.{Gains, HasSameVersions, HaveOtherNumbers, IsSettled, key_versions};
 
 use crate::found::newer_of;
+use crate::moving::settle_first;
 use crate::part::find_waiting;
 use crate::pieces::PieceNode;
-use crate::waiting::{Target, WaitingVersion};
+use crate::waiting::WaitingVersion;
 use arena_list::{ArenaList, Found};
-use range_cover::{RangeCover, RangeMark};
+use range_cover::RangeCover;
 use std::alloc::Global;
 use std::collections::LinkedList;
 use std::marker::Model;
-use wal_base::{Blob, NoMemory};
+use wal_base::NoMemory;
 
 /// The versions of a shard. Contracts see the list of them. Its order says one thing alone: it is that of a walk
 /// exactly where nothing waits, since what waits stands in it twice.
@@ -38,52 +39,6 @@ impl Model for Shard {
     ghost view = { λ a. settled_in a.index.versions a.ranges ++ a.waiting ++ a.waiting };
 
     ghost invariant = { λ a. IsShard (settled_in a.index.versions a.ranges) a.waiting };
-}
-
-/// Adds a version of a key to an index, and takes its value over. The key is shared. After an error all is as it was.
-fn put_key(
-    index: &mut ArenaList,
-    key: &Blob,
-    number: u64,
-    value: &mut Option<Blob>,
-) -> Result<(), NoMemory>
-    requires absent { HoldsVersion index.old.versions key.now number → ⊥ }
-    ensures added { OnOk result (Adds index.old.versions (version_with key.now number value.old) index.new.versions) }
-    ensures same { OnErr result (index.new ≡ index.old) }
-    ensures kept { OnErr result (value.new ≡ value.old) }
-{
-    let key = key.share()?;
-    let taken = value.take();
-    match index.insert(key, number, taken) {
-        Ok(()) => Ok(()),
-        Err((_, back)) => {
-            *value = back;
-            Err(NoMemory)
-        }
-    }
-}
-
-/// Puts a version where it is to stand, in the index or beside it, and takes its value over. After an error all is as it
-/// was.
-fn put(
-    index: &mut ArenaList,
-    ranges: &mut RangeCover,
-    version: &mut WaitingVersion,
-) -> Result<(), NoMemory>
-    requires absent { LacksNumber (settled_in index.old.versions ranges.old) version.old.number }
-    ensures added { OnOk result (HasOneMore (settled_in index.old.versions ranges.old) version.old (settled_in index.new.versions ranges.new)) }
-    ensures same { OnErr result (settled_in index.new.versions ranges.new ≡ settled_in index.old.versions ranges.old) }
-    ensures kept { OnErr result (version.new ≡ version.old) }
-{
-    let number = version.number;
-    match &version.target {
-        Target::Key { key } => put_key(index, key, number, &mut version.value),
-        Target::Range { start, end } => ranges.add(RangeMark {
-            start: start.share()?,
-            end: end.share()?,
-            number,
-        }),
-    }
 }
 
 /// What is found of a key in range deletes.
@@ -131,24 +86,13 @@ impl Shard {
         }
     }
 
-    /// Moves what was applied into the index, and range deletes beside it. The versions are the same afterwards, on `Err` too, where the rest goes on
-    /// waiting.
+    /// Moves what was applied into the index, and range deletes beside it. The versions are the same afterwards, on
+    /// `Err` too, where the rest goes on waiting.
     pub fn settle(&mut self) -> Result<(), NoMemory>
         ensures same { HasSameVersions self.old self.new }
         ensures settled { OnOk result (IsSettled self.new) }
     {
-        // What was moved is let go after all: each count of who shares bytes waits for all that was written before.
-        let mut moved = LinkedList::new(*self.waiting.allocator());
-        while let Some(version) = self.waiting.front_mut() {
-            put(&mut self.index, &mut self.ranges, version)?;
-            let Ok(rest) = self.waiting.split_off(1) else {
-                unreachable!();
-            };
-            let Ok(()) = moved.append(&mut self.waiting) else {
-                unreachable!();
-            };
-            self.waiting = rest;
-        }
+        while settle_first(&mut self.index, &mut self.ranges, &mut self.waiting)? {}
         // That the index ascends is told by `walk`.
         let _walk = self.index.walk();
         Ok(())

@@ -1,7 +1,7 @@
 ghost use Rattle.std.specs.Prelude.{◌≡◌, ◌<◌, [], length};
 ghost use Rattle.memtable_shards.specs.Parts.{AreByShard};
 
-use crate::{Found, SHARDS, Shard, shard_index, split, split_entries};
+use crate::{Found, SHARDS, Shard, shard_index, split};
 use arena_list::ArenaList;
 use batch_repr::{BatchBuilder, BuildFault, Unnumbered};
 use std::alloc::Global;
@@ -55,11 +55,12 @@ impl Rig {
     }
 
     /// Gives the shards the next batch.
-    fn add(&mut self, rt: &impl Abort, batch: &Unnumbered) {
+    fn add(&mut self, rt: &impl Abort, batch: Unnumbered) {
         let first = self.next;
         let count = u64::from(batch.count());
         assert!(rt; first < 1_000_000 && count < 1_000_000);
-        let mut pieces = split(self.alloc, batch).expect(rt, "memory");
+        let (_, entries) = batch.into_parts();
+        let mut pieces = split(self.alloc, entries).expect(rt, "memory");
         pieces.number(first);
         while let Some((at, node)) = pieces.take() {
             self.shards[at].apply(node);
@@ -117,7 +118,7 @@ fn batch_of(rt: &impl Abort, alloc: Global, changes: &[Change<'_>]) -> Unnumbere
 /// Gives the shards a batch of these entries.
 fn give(rt: &impl Abort, rig: &mut Rig, changes: &[Change<'_>]) {
     let batch = batch_of(rt, rig.alloc, changes);
-    rig.add(rt, &batch);
+    rig.add(rt, batch);
 }
 
 const FIRST: [Change<'static>; 4] = [
@@ -276,8 +277,8 @@ fn a_range_that_runs_backwards_deletes_nothing(rt: HostRuntime) {
 #[test]
 fn a_range_has_a_piece_for_each_shard(rt: HostRuntime) {
     let alloc = rt.alloc();
-    let batch = batch_of(&rt, alloc, &RANGE);
-    let mut pieces = split(alloc, &batch).expect(&rt, "memory");
+    let (_, entries) = batch_of(&rt, alloc, &RANGE).into_parts();
+    let mut pieces = split(alloc, entries).expect(&rt, "memory");
     pieces.number(13);
     for shard in 0..SHARDS {
         let (at, _) = pieces.take().expect(&rt, "a piece");
@@ -306,11 +307,11 @@ fn what_is_applied_is_kept_where_settling_finds_no_memory(rt: HostRuntime) {
 }
 
 #[test]
-fn entries_are_cut_as_their_batch_is(rt: HostRuntime) {
+fn entries_of_no_batch_are_cut_too(rt: HostRuntime) {
     let mut entries = Entries::new(rt.alloc());
     let key = Blob::copy_of(rt.alloc(), b"a").expect(&rt, "memory");
     entries.push(Entry::Delete { key }).expect(&rt, "memory");
-    let mut pieces = split_entries(rt.alloc(), &entries).expect(&rt, "memory");
+    let mut pieces = split(rt.alloc(), entries).expect(&rt, "memory");
     pieces.number(20);
     let (at, _) = pieces.take().expect(&rt, "a piece");
     assert_eq!(&rt; at, 1);

@@ -9,39 +9,48 @@ use range_cover::is_within;
 use std::marker::Model;
 use wal_base::{Blob, NoMemory};
 
-/// What a version is about: one key, or the keys of a range.
+/// What a batch changed: it left one key with a value or with none, or a range of keys without values. A note changes
+/// nothing.
 #[derive(Drop)]
-pub(crate) enum Target {
-    Key { key: Blob },
+pub(crate) enum Change {
+    Key { key: Blob, value: Option<Blob> },
     Range { start: Blob, end: Blob },
 }
 
-/// What a Set or a Delete left its key with, a value or none; or a range that a RangeDelete left without values. A note
-/// leaves no version.
+/// A change, and its number.
 #[derive(Drop)]
 pub(crate) struct WaitingVersion {
-    pub(crate) target: Target,
+    pub(crate) change: Change,
     pub(crate) number: u64,
-    pub(crate) value: Option<Blob>,
 }
 
 impl Model for WaitingVersion {
     ghost use Rattle.memtable_shards.specs.Versions.{Version};
-    ghost use Rattle.memtable_shards.specs.Parts.{entry_with};
+    ghost use Rattle.memtable_shards.specs.Parts.{entry_of};
 
     ghost Value = { Version };
 
-    ghost view = { λ a. record { entry = entry_with a.target a.value; number = a.number } };
+    ghost view = { λ a. record { entry = entry_of a.change; number = a.number } };
 }
 
-impl Target {
+impl Change {
     /// The same, whose bytes are shared and not copied.
-    fn share(&self) -> Result<Target, NoMemory>
-        ensures { IfOk result (λ target. target ≡ self.now) }
+    fn share(&self) -> Result<Change, NoMemory>
+        ensures { IfOk result (λ change. change ≡ self.now) }
     {
         match self {
-            Target::Key { key } => Ok(Target::Key { key: key.share()? }),
-            Target::Range { start, end } => Ok(Target::Range {
+            Change::Key { key, value: None } => Ok(Change::Key {
+                key: key.share()?,
+                value: None,
+            }),
+            Change::Key {
+                key,
+                value: Some(bytes),
+            } => Ok(Change::Key {
+                key: key.share()?,
+                value: Some(bytes.share()?),
+            }),
+            Change::Range { start, end } => Ok(Change::Range {
                 start: start.share()?,
                 end: end.share()?,
             }),
@@ -54,9 +63,9 @@ impl WaitingVersion {
     pub(crate) fn is_about(&self, key: &[u8]) -> bool
         ensures { result ≡ is_about key.now self.now.entry }
     {
-        match &self.target {
-            Target::Key { key: own } => own.as_slice() == key,
-            Target::Range { start, end } => is_within(start.as_slice(), end.as_slice(), key),
+        match &self.change {
+            Change::Key { key: own, .. } => own.as_slice() == key,
+            Change::Range { start, end } => is_within(start.as_slice(), end.as_slice(), key),
         }
     }
 
@@ -65,12 +74,15 @@ impl WaitingVersion {
         ensures { told result ≡ Some (told_of self.now) }
     {
         let seq = self.number;
-        match (&self.target, &self.value) {
-            (Target::Key { .. }, Some(bytes)) => Found::Value {
+        match &self.change {
+            Change::Key {
+                value: Some(bytes),
+                ..
+            } => Found::Value {
                 seq,
                 bytes: bytes.as_slice(),
             },
-            _ => Found::Gone { seq },
+            Change::Key { value: None, .. } | Change::Range { .. } => Found::Gone { seq },
         }
     }
 
@@ -78,14 +90,9 @@ impl WaitingVersion {
     pub(crate) fn share(&self) -> Result<WaitingVersion, NoMemory>
         ensures { IfOk result (λ version. version ≡ self.now) }
     {
-        let value = match &self.value {
-            None => None,
-            Some(bytes) => Some(bytes.share()?),
-        };
         Ok(WaitingVersion {
-            target: self.target.share()?,
+            change: self.change.share()?,
             number: self.number,
-            value,
         })
     }
 }

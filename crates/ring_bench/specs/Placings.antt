@@ -15,7 +15,7 @@ IsVacant v = HoldsNothing v × (v.pieces ≡ [])
 -- The session's seat holds a batch exactly if it adopted one. It is admitted, and none of its pieces is applied.
 abbrev pub IsPlaced : Placing → View → Type 0
 IsPlaced (Adopted pieces) v = HoldsAdmitted v × HoldsUnapplied v pieces × (v.seat.turn ≡ None)
-IsPlaced (Full batch) v = IsVacant v
+IsPlaced Full v = IsVacant v
 IsPlaced Over v = IsVacant v
 
 -- A session's seat of this table that holds no batch and has no turn.

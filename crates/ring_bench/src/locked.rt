@@ -7,7 +7,7 @@ ghost use Rattle.commit_queue.specs.Seats.{producer_table, producer_view, sessio
 ghost use Rattle.ring_bench.specs.Placings.{IsVacant, IsPlaced};
 
 use crate::ring_name::RingName;
-use batch_repr::{BATCHES_MAX, NUMBER_MAX, Unnumbered};
+use batch_repr::{BATCHES_MAX, NUMBER_MAX, UnnumberedBytes};
 use commit_queue::{PipeTable, ProducerSeat, SessionSeat};
 use memtable_shards::Pieces;
 use std::marker::PhantomData;
@@ -19,7 +19,7 @@ pub(crate) enum Placing {
     /// The session's seat holds it, and none of these pieces is applied.
     Adopted { pieces: Pieces },
     /// The ring is full.
-    Full { batch: Unnumbered },
+    Full,
     /// All batches of the run are placed.
     Over,
 }
@@ -45,7 +45,7 @@ impl<N: RingName> Locked<N> {
         rt: &R,
         table: &PipeTable,
         seat: &mut SessionSeat,
-        batch: Unnumbered,
+        batch: UnnumberedBytes,
         mut pieces: Pieces,
     ) -> Placing
         requires table { table_id_of table.now ≡ N.table }
@@ -63,7 +63,7 @@ impl<N: RingName> Locked<N> {
             return Placing::Over;
         }
         if !table.slot_free(&mut self.producer) {
-            return Placing::Full { batch };
+            return Placing::Full;
         }
         pieces.number(self.next);
         let numbered = batch.number(self.next);

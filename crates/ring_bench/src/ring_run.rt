@@ -104,7 +104,6 @@ fn seated<N: RingName>(alloc: Global, seats: SessionSeats) -> Result<Vec<Worker<
             alloc,
             seat,
             key,
-            ready: None,
             starved: false,
             name: PhantomData,
         })?;

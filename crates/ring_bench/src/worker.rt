@@ -32,8 +32,6 @@ pub(crate) struct Worker<N: RingName> {
     pub(crate) seat: SessionSeat,
     /// The key of its next batch.
     pub(crate) key: u8,
-    /// A batch that was made and found the ring full.
-    pub(crate) ready: Option<Unnumbered>,
     /// It ran out of memory and stopped.
     pub(crate) starved: bool,
     pub(crate) name: PhantomData<N>,
@@ -56,13 +54,10 @@ impl<N: RingName> Worker<N> {
         }
     }
 
-    /// Places a batch if a slot is free, and publishes. Answers whether the run goes on.
+    /// Places a batch if a slot is free, and else lets it go, and publishes. Answers whether the run goes on.
     fn turn<R: Wait>(&mut self, rt: &R, ring: &Ring<N>) -> Result<bool, NoMemory> {
-        let batch = match self.ready.take() {
-            Some(batch) => batch,
-            None => self.make()?,
-        };
-        let pieces = split(self.alloc, &batch)?;
+        let (batch, entries) = self.make()?.into_parts();
+        let pieces = split(self.alloc, entries)?;
         let placing = ring
             .lock
             .lock(rt)
@@ -74,10 +69,7 @@ impl<N: RingName> Worker<N> {
                 gate.apply_all(rt, &mut self.seat, pieces);
                 ring.table.mark(&mut self.seat);
             }
-            Placing::Full { batch } => {
-                self.ready = Some(batch);
-                full = true;
-            }
+            Placing::Full => full = true,
             Placing::Over => return Ok(false),
         }
         if !self.publish(&ring.table, TRIES) && full {

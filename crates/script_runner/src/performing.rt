@@ -135,6 +135,7 @@ fn perform_load<
         return Err(pipe.into_journal());
     };
     let mut readers = Readers::new(pipe, sessions);
+    readers.settle(rt);
     let Ok(live) = count_live(rt, alloc, &mut readers) else {
         return Err(readers.into_journal());
     };

@@ -113,14 +113,12 @@ fn run_over<D: StallDisk + Send, G: Gate + Sync, R: Threads + Wait + Sync>(
     ensures ran { IfOk result.outcome (RunsOver D.tells D.view base work journal result.journal) }
 {
     let sessions = work.sessions() as usize;
-    let Ok(parts) = Parts::new(alloc, &base, journal.next(), sessions) else {
+    let Ok(parts) = Parts::new(alloc, base, journal.next(), sessions) else {
         return Course {
             outcome: Err(NoMemory),
             journal,
         };
     };
-    // The shards have their entries.
-    drop(base);
     over_table::<D, G, Brand, R>(rt, alloc, journal, parts, work, gate)
 }
 

@@ -11,6 +11,7 @@ use std::marker::Model;
 use std::snapshot::Snapshot;
 use std::sync::Wait;
 use std::sync::ledger::Ledger;
+use std::thread::Threads;
 use wal_base::NoMemory;
 
 /// Sessions that have met for the last time. Contracts see them as they were then, and as they are.
@@ -82,5 +83,20 @@ impl<'a, D: Disk, G: Gate, N: PipeName, M: Ledger> Readers<'a, D, G, N, M> {
             met: _,
         } = self;
         pipe.into_journal()
+    }
+}
+
+impl<
+    'a,
+    D: Disk + Send,
+    G: Gate + Sync,
+    N: PipeName + Send + Sync,
+    M: Ledger + Send + Sync,
+> Readers<'a, D, G, N, M> {
+    /// The sessions settle the shards beside one another, so that no read has to. Nothing of it is seen.
+    pub fn settle<R: Threads + Sync>(&mut self, rt: &R)
+        ensures { self.new ≡ self.old }
+    {
+        self.pipe.settle(rt, self.sessions.as_mut_slice());
     }
 }

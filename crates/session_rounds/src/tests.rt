@@ -130,7 +130,7 @@ fn played<D: StallDisk + Drop + Send, R: Threads + Wait + Abort + Sync>(
     requires next { journal.state.next ≡ NUMBER_FIRST }
 {
     let base = Batches::new(alloc);
-    let parts = Parts::new(alloc, &base, NUMBER_FIRST, row.sessions as usize).expect(rt, "memory");
+    let parts = Parts::new(alloc, base, NUMBER_FIRST, row.sessions as usize).expect(rt, "memory");
     with_table::<D, Brand, R>(rt, alloc, parts, journal, row)
 }
 

@@ -13,6 +13,7 @@
 mod applying;
 mod gate;
 mod reading;
+mod settling;
 
 pub use applying::PieceBusy;
 pub use gate::ShardGate;

@@ -9,7 +9,7 @@ ghost use Rattle.commit_queue.specs.Seats.{session_table, session_view};
 ghost use Rattle.shard_gate.specs.Gates.{gate_table};
 
 use crate::{PieceBusy, ReadBusy, ShardGate};
-use batch_repr::{BATCHES_MAX, BatchBuilder, NUMBER_MAX, Unnumbered};
+use batch_repr::{BATCHES_MAX, BatchBuilder, NUMBER_MAX, UnnumberedBytes};
 use commit_queue::{PipeTable, ProducerSeat, Published, SessionSeat, Shards};
 use memtable_shards::{Pieces, SHARDS, Shard, shard_index, split};
 use std::alloc::Global;
@@ -53,7 +53,7 @@ fn eight(rt: &impl Abort, alloc: Global) -> Shards
 /// A batch of one entry, not numbered yet, with its pieces.
 #[derive(Drop)]
 struct Ready {
-    batch: Unnumbered,
+    batch: UnnumberedBytes,
     pieces: Pieces,
     ghost whole: { pieces ≡ whole_pieces batch },
 }
@@ -71,7 +71,8 @@ fn one_entry(rt: &impl Abort, alloc: Global, key: &[u8], value: Option<&[u8]>) -
     let Ok(batch) = builder.finish() else {
         panic!(rt; "a batch of one entry");
     };
-    let pieces = split(alloc, &batch).expect(rt, "memory");
+    let (batch, entries) = batch.into_parts();
+    let pieces = split(alloc, entries).expect(rt, "memory");
     Ready { batch, pieces }
 }
 

@@ -40,8 +40,8 @@ fn batch_of(rt: &impl Abort, alloc: Global, changes: &[Change]) -> Batch {
     let Ok(batch) = builder.finish() else {
         panic!(rt; "a batch");
     };
-    let (numbered, entries) = batch.number_keeping_entries(10);
-    let first = numbered.first();
+    let (bytes, entries) = batch.into_parts();
+    let first = bytes.number(10).first();
     assert!(rt; added.is_ok());
     Batch { first, entries }
 }

@@ -184,7 +184,7 @@ fn run_sessions<D: Disk + Drop + Send, R: Threads + Wait + Sync>(
         return Err(SessionsError::NoMemory(NoMemory));
     };
     // What was found is what the sessions see before they commit.
-    let parts = Parts::new(alloc, &found.batches, found.next, SESSIONS)?;
+    let parts = Parts::new(alloc, found.batches, found.next, SESSIONS)?;
     with_table::<D, Brand, R>(rt, alloc, journal, parts)
 }
 

@@ -22,8 +22,9 @@ fn commit_unwritten<D: Disk, G: Gate, N: PipeName, M: Ledger, R: Wait + Abort>(
     session: &mut Session<N, M>,
 ) -> u64 {
     let batch = one_set(rt, alloc, 0, 0);
+    let (batch, entries) = batch.into_parts();
     let count = batch.count();
-    let mut pieces = split(alloc, &batch).expect(rt, "memory");
+    let mut pieces = split(alloc, entries).expect(rt, "memory");
     let node = RecordNode::empty(alloc).expect(rt, "memory");
     let desk = &mut session.desk;
     if let Some(_) = pipe.log.refuses(rt, &pipe.table, desk) {

@@ -142,8 +142,9 @@ impl<N: PipeName, M: Ledger> Idle<N, M> {
         let Idle { mut desk } = self;
         let (key, value) = entry_at(place);
         let batch = one_set(rt, alloc, key, value);
+        let (batch, entries) = batch.into_parts();
         let count = batch.count();
-        let mut pieces = split(alloc, &batch).expect(rt, "memory");
+        let mut pieces = split(alloc, entries).expect(rt, "memory");
         let node = RecordNode::empty(alloc).expect(rt, "memory");
         let sync = is_synced(place);
         match pipe.take_number(rt, &mut desk, batch, node, sync) {

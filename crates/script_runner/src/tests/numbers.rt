@@ -47,7 +47,7 @@ fn told_over<D: StallDisk + Drop + Send, R: Threads + Wait + Sync>(
     requires sessions { NamesItsSessions script }
 {
     let base = ListOf::new(alloc);
-    let parts = Parts::new(alloc, &base, journal.next(), script.sessions as usize)?;
+    let parts = Parts::new(alloc, base, journal.next(), script.sessions as usize)?;
     with_table::<D, Brand, R>(rt, alloc, journal, parts, Work::Script(script))
 }
 

@@ -10,7 +10,7 @@ use Rattle.commit_pipeline.proofs.parts.apply.Goals as goal
 
 pub loop-shard-init : goal.loop-shard-init
 loop-shard-init c batches are =
-    let batch = c.args.batch.now in
+    let batch = c.args.batch in
     let numbered : record (whole_pieces batch.entries) { first = Some batch.first } ≡ c.number.new.self =
     ap (λ (p : PiecesLeft). record p { first = Some batch.first }) (sym c.in_ok-pieces.ensures) ∙ sym c.number.ensures in
     subst (AreShardsAmid c.args.shards.now.items batches batch) numbered (pieces_begin c.args.shards.now.items batches batch are)
@@ -31,14 +31,14 @@ apply-requires c =
     let amid = c.loop-shard.invariant r.batches r.are in
     let next = c.in-Some.ensures.next in
     record {
-      apart = next_is_new r.start c.loop-shard.shards.items r.batches c.args.batch.now c.loop-shard.pieces c.in-Some.shard c.in-Some.piece c.index_mut.result.now
-          (contiguous_push r.start r.batches c.args.batch.now r.contiguous (sym r.ends) c.requires.some) amid next
+      apart = next_is_new r.start c.loop-shard.shards.items r.batches c.args.batch c.loop-shard.pieces c.in-Some.shard c.in-Some.piece c.index_mut.result.now
+          (contiguous_push r.start r.batches c.args.batch r.contiguous (sym r.ends) c.requires.some) amid next
           (slice_get_read c.loop-shard.shards.items SHARDS c.in-Some.shard c.index_mut.result.now (sym amid.eight) next.within c.index_mut.ensures.value);
     }
 
 pub loop-shard-preserved : goal.loop-shard-preserved
 loop-shard-preserved c batches are =
-    let batch = c.args.batch.now in
+    let batch = c.args.batch in
     let shards = c.loop-shard.shards.items in
     let next = c.in-Some.ensures.next in
     let amid = c.loop-shard.invariant batches are in
@@ -48,4 +48,4 @@ loop-shard-preserved c batches are =
 
 pub returns : goal.returns
 returns c batches are =
-    pieces_end c.loop-shard.shards.items batches c.args.batch.now c.loop-shard.pieces (c.loop-shard.invariant batches are) c.in_default.ensures.none
+    pieces_end c.loop-shard.shards.items batches c.args.batch c.loop-shard.pieces (c.loop-shard.invariant batches are) c.in_default.ensures.none

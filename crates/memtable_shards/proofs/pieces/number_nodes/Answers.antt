@@ -1,7 +1,7 @@
 -- The first node is numbered, taken off, and linked behind the others.
 use Rattle.std.proofs.Common.{◌≡◌, ◌++◌, ℕ, ◌+◌, List, true, false, refl, ap, ◌∙◌, arith}
 use Rattle.memtable_shards.specs.Versions.{Version}
-use Rattle.memtable_shards.specs.Parts.{counted_from, entry_with}
+use Rattle.memtable_shards.specs.Parts.{counted_from, entry_of}
 use Rattle.memtable_shards.proofs.Counting.{moved, number_fits, number_more, fewer_left, all_numbered, few_numbered}
 use Rattle.memtable_shards.proofs.pieces.number_nodes.Goals as goal
 
@@ -32,7 +32,7 @@ loop-version-smaller c = fewer_left c.loop-version.nodes c.in-Ok.rest _ (c.in-So
 pub loop-version-preserved : goal.loop-version-preserved
 loop-version-preserved c =
     let version : Version = c.in-Some.version.now in
-    let new : record { entry = entry_with c.version.inside.target c.version.inside.value; number = c.version.inside.number + c.args.first } ≡ moved c.args.first version =
+    let new : record { entry = entry_of c.version.inside.change; number = c.version.inside.number + c.args.first } ≡ moved c.args.first version =
     ap (λ (v : Version). record { entry = v.entry; number = v.number + c.args.first }) c.version.view_is
     ∙ ap (λ (n : ℕ). record { entry = version.entry; number = n }) (omega arith) in
     number_more c.args.first c.loop-version.numbered c.loop-version.nodes (counted_from c.args.first c.args.nodes) c.split_off.new.self c.append.new.self

@@ -7,5 +7,5 @@ use Rattle.memtable_shards.specs.Parts.{AreByShard}
 use Rattle.memtable_shards.proofs.pieces.sort_versions.Given as goal
 
 abbrev pub invariant-loop-entry : goal.invariant-loop-entry
-invariant-loop-entry l = (length l.lists ≡ SHARDS) × (l.number ≡ count_of (take l.entry-index l.entries)) × AreByShard
-    (versions_from 0 (take l.entry-index l.entries)) l.lists
+invariant-loop-entry l = (length l.lists ≡ SHARDS) × (l.number ≡ count_of (take (length l.yielded) l.fn.entries)) × AreByShard
+    (versions_from 0 (take (length l.yielded) l.fn.entries)) l.lists

@@ -11,12 +11,12 @@ use Rattle.commit_pipeline.proofs.tests.on_the_way.commit_unwritten.Goals as goa
 
 pub publish-requires-clause-end : goal.publish-requires-clause-end
 publish-requires-clause-end g c =
-    numbered_end c.one_set-batch.result c.in-Ok.first c.from.result c.in-Ok.index (session_view c.refuses.new.desk.seat)
+    numbered_end c.into_parts-batch.result.0 c.in-Ok.first c.from.result c.in-Ok.index (session_view c.refuses.new.desk.seat)
     (session_view c.take_number.new.desk.seat) c.in-Ok.ensures.taken (c.from.ensures ∙ c.count-count.ensures.count)
 
 pub invariant_of-session : goal.invariant_of-session
 invariant_of-session g c =
-    let batch = c.one_set-batch.result in
+    let batch = c.into_parts-batch.result.0 in
     let d = c.session.inside.desk in
     let d1 = c.refuses.new.desk in
     let d2 = c.take_number.new.desk in

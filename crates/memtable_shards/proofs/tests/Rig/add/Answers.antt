@@ -10,10 +10,11 @@ use Rattle.memtable_shards.proofs.tests.Rig.add.Goals as goal
 
 pub loop-at-init : goal.loop-at-init
 loop-at-init g c =
-    let batch : Batch = record { first = c.self.inside.next; entries = c.args.batch.now } in
+    let batch : Batch = record { first = c.self.inside.next; entries = c.args.batch } in
     let batches : List Batch = c.self.invariant.0 in
-    let whole : record (whole_pieces c.args.batch.now) { first = Some c.self.inside.next } ≡ c.number.new.self =
-    sym (c.number.ensures ∙ ap (λ (p : PiecesLeft). record p { first = Some c.self.inside.next }) (rw c.expect-pieces.ensures at c.split.ensures)) in (
+    let whole : record (whole_pieces c.args.batch) { first = Some c.self.inside.next } ≡ c.number.new.self =
+    sym (c.number.ensures ∙ ap (λ (p : PiecesLeft). record p { first = Some c.self.inside.next }) (rw c.expect-pieces.ensures at c.split.ensures
+    ∙ ap whole_pieces c.into_parts-entries.ensures.entries)) in (
       batches,
       row_more 10 batches batch c.self.invariant.1 c.self.invariant.2 (omega (arith, c.count.ensures.some, c.count.ensures.count)),
       subst (AreShardsAmid c.self.inside.shards.items batches batch) whole (pieces_begin c.self.inside.shards.items batches batch c.self.invariant.3),
@@ -23,7 +24,7 @@ pub apply-requires : goal.apply-requires
 apply-requires g c = record {
   apart =
       next_is_new 10 c.loop-at.self-inside.shards.items c.loop-at.invariant.0
-      (record { first = c.self.inside.next; entries = c.args.batch.now }) c.loop-at.pieces c.in-Some.at c.in-Some.node c.index_mut.result.now
+      (record { first = c.self.inside.next; entries = c.args.batch }) c.loop-at.pieces c.in-Some.at c.in-Some.node c.index_mut.result.now
       c.loop-at.invariant.1 c.loop-at.invariant.2
       c.in-Some.ensures.next (shard_at c.loop-at.self-inside.shards.items c.in-Some.at c.index_mut.result.now c.index_mut.ensures.value
       (omega (arith, c.in-Some.ensures.next.within, c.loop-at.invariant.2.eight)));
@@ -31,7 +32,7 @@ apply-requires g c = record {
 
 pub loop-at-preserved : goal.loop-at-preserved
 loop-at-preserved g c =
-    let batch : Batch = record { first = c.self.inside.next; entries = c.args.batch.now } in
+    let batch : Batch = record { first = c.self.inside.next; entries = c.args.batch } in
     let batches : List Batch = c.loop-at.invariant.0 in
     let shards : List (List Version) = c.loop-at.self-inside.shards.items in (
       batches,
@@ -45,7 +46,7 @@ loop-at-preserved g c =
 
 pub invariant_of-self : goal.invariant_of-self
 invariant_of-self g c =
-    let batch : Batch = record { first = c.self.inside.next; entries = c.args.batch.now } in
+    let batch : Batch = record { first = c.self.inside.next; entries = c.args.batch } in
     let batches : List Batch = c.loop-at.invariant.0 in (
       batches ++ batch ∷ [],
       c.loop-at.invariant.1,

@@ -13,7 +13,7 @@ invariant_of-result g c =
     let taken = c.in-Ok.ensures.taken in
     let holds : HoldsUnapplied (session_view c.take_number.new.desk.seat) c.number.new.self = record {
       index = c.in-Ok.index;
-      batch = record { first = c.in-Ok.first; entries = c.one_set-batch.result };
+      batch = record { first = c.in-Ok.first; entries = c.into_parts-batch.result.0 };
       holds = taken.held;
       at = taken.at;
       entries = search rules;

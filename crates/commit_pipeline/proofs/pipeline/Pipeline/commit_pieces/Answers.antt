@@ -12,8 +12,8 @@ use Rattle.commit_pipeline.specs.Commits.{CommitsWell, TellsCommit}
 use Rattle.commit_pipeline.specs.Waits.{deaths_waited}
 use Rattle.commit_pipeline.proofs.PublishesHeld.{numbered_end}
 use Rattle.commit_pipeline.proofs.TellsCommit.{HasPublished, HasWaited, has_published, has_not_waited, session_refused, session_commits, answers_refused, answers_committed, answers_unsynced}
-use Rattle.commit_pipeline.proofs.pipeline.Pipeline.commit.Goals.{then-sync+in_ok-wait_acked, else-sync}
-use Rattle.commit_pipeline.proofs.pipeline.Pipeline.commit.Goals as goal
+use Rattle.commit_pipeline.proofs.pipeline.Pipeline.commit_pieces.Goals.{then-sync+in_ok-wait_acked, else-sync}
+use Rattle.commit_pipeline.proofs.pipeline.Pipeline.commit_pieces.Goals as goal
 
 -- ---- it was refused
 
@@ -26,11 +26,11 @@ invariant_of-session g c =
 pub returns-in_err-first : goal.returns-in_err-first
 returns-in_err-first g c =
     let told : CommitFault = c.in_err-first.field-0.0 in
-    let answers : c.from_residual-in_err-first.result ≡ Err told = search rules in
+    let answers : c.from_residual.result ≡ Err told = search rules in
     let d = c.session.inside.desk in
     let d' = c.start.new.desk in
     let new : Standing = standing (session_shown d'.seat) d'.dead.amount d'.told.amount in
-    subst (λ (s : Standing). TellsCommit g.N.PipeName.opening c.args.batch c.args.sync s c.from_residual-in_err-first.result new) c.session.view_is
+    subst (λ (s : Standing). TellsCommit g.N.PipeName.opening c.args.batch c.args.sync s c.from_residual.result new) c.session.view_is
     (subst (λ (r : Result Committed CommitFault). TellsCommit g.N.PipeName.opening c.args.batch c.args.sync
     (standing (session_shown d.seat) d.dead.amount d.told.amount) r new) (sym answers)
     (answers_refused g.N.PipeName.opening c.args.batch c.args.sync (session_view d.seat) (session_view d'.seat) d.dead.amount d'.dead.amount d.told.amount
