@@ -1,11 +1,13 @@
 """The scripts of bench/sessions/run, in the program's language. Each function returns one as bytes.
 
-Each session sets a key of its own to values of 32 digits. In a round the sessions take turns.
+Each session sets a key of its own to values of 32 digits, but where keys are read. In a round the sessions take turns.
 """
 
 import itertools
+import random
 
 SESSIONS = 64
+KEYS = 2_000
 
 
 def commit(session, wait, number):
@@ -33,6 +35,16 @@ def beside(sessions, turns, syncs):
     text = [commit(sessions, b"sync", it) for it in range(syncs)]
     for turn in range(turns):
         text += [commit(it, b"nosync", turn) for it in range(sessions)]
+    return b"".join(text)
+
+
+def reads(sessions, count, rounds):
+    """A round in which each of some keys is set, and then rounds of reads of one of them by chance."""
+    chance = random.Random(4)
+    text = [b"commit %d nosync set k%04d %032d\n" % (it % sessions, it, it) for it in range(KEYS)]
+    for _ in range(rounds):
+        text.append(b"round\n")
+        text += [b"get %d k%04d\n" % (it % sessions, chance.randrange(KEYS)) for it in range(count // rounds)]
     return b"".join(text)
 
 

@@ -81,6 +81,13 @@ def committing_beside():
     return Case(f"{title} with {syncs} syncs or without it, on this disk", True, works, "without")
 
 
+def reading(sessions):
+    rounds, count = 20, part(384_000)
+    work = work_of("", scripts.reads(sessions, count, rounds))
+    title = f"{count} reads of {scripts.KEYS} keys by {sessions} sessions in {rounds} rounds"
+    return Case(f"{title}, on a memory file system", False, [work])
+
+
 def loading():
     work = Work("", part(200_000))
     title = f"load {SEED} {work.batches}, which has 4 sessions, on a memory file system"
@@ -106,6 +113,7 @@ CASES = {
     "synced": lambda: [committing(16, 100, 10, True), committing(64, 50, 10, True)],
     "unsynced": lambda: [committing(4, 1_250, 20, False), committing(64, 78, 20, False)],
     "beside": lambda: [committing_beside()],
+    "reads": lambda: [reading(1), reading(4), reading(64)],
     "load": lambda: [loading()],
     "empty": lambda: [meeting()],
     "rounds": lambda: [committing_once()],

@@ -15,7 +15,7 @@ use Rattle.commit_pipeline.specs.Openings.{Opening}
 use Rattle.commit_pipeline.specs.declared.standing.Standing.{Standing}
 use Rattle.commit_pipeline.specs.Standings.{Idles}
 use Rattle.commit_pipeline.specs.Commits.{TellsRead}
-use Rattle.session_rounds.specs.declared.answers.Answer.{Answer}
+use Rattle.session_script.specs.Legal.{Replied}
 use Rattle.session_rounds.specs.Players.{ReadersView, FirstReads}
 use Rattle.script_runner.specs.declared.performing.Told.{Told}
 use Rattle.script_runner.specs.Works.{CountsLive, KeepsCount}
@@ -155,7 +155,7 @@ all_counted opening old new index live all so = record {
 }
 
 -- What it counts is the number of live keys after all batches, where it had seen just these.
-pub keeps_count : (opening : Opening) (told : Told) (own : List (List Answer)) (old new : ReadersView) → old.met ≡ old.now
+pub keeps_count : (opening : Opening) (told : Told) (own : List (List Replied)) (old new : ReadersView) → old.met ≡ old.now
     → CountsLive opening told.live old new → KeepsCount opening told own new
 keeps_count opening told own old new same counts batches seen within =
     let all : counts.first.seen ≡ batches =

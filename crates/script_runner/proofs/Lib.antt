@@ -1,4 +1,3 @@
-mod Transcribes
 mod RoundsSoFar
 mod CountsKeys
 mod AllowsStalls

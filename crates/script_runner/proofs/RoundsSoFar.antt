@@ -1,18 +1,17 @@
--- The rounds so far with their answers, and those that are left.
+-- The rounds so far with what was said, and those that are left.
 use Rattle.std.proofs.Common.{◌≡◌, ◌∙◌, ◌||◌, ℕ, Bool, List, [], ◌∷◌, ◌++◌, length, refl, sym, ap, subst, append_assoc}
 use Rattle.std.proofs.lemmas.List.{append-nil}
 use Rattle.session_script.specs.Script.{LinesAreOfSome, NameSessions}
 use Rattle.session_script.specs.declared.script.Round.{Round}
+use Rattle.session_script.specs.Theorems.{limit_told}
 use Rattle.commit_pipeline.specs.Openings.{Opening}
 use Rattle.commit_pipeline.specs.declared.standing.Standing.{Standing}
-use Rattle.session_rounds.specs.declared.answers.Answer.{Answer}
-use Rattle.session_rounds.specs.Players.{AllowsPolls, PlayMore}
-use Rattle.session_rounds.proofs.Laws.{none_more, more_then}
-use Rattle.script_runner.specs.declared.transcript.Transcript.{Transcript}
-use Rattle.script_runner.specs.Transcripts.{any_round_limited, NotesAnswers, IsSilentTranscript}
-use Rattle.script_runner.specs.Rounds.{AllowsStalls, PlayNoted}
+use Rattle.session_rounds.specs.declared.transcript.Transcript.{Transcript}
+use Rattle.session_rounds.specs.Transcripts.{IsSilentTranscript}
+use Rattle.session_rounds.specs.Players.{AllowsPolls, PlayNoted}
+use Rattle.session_rounds.proofs.Laws.{none_noted, noted_then}
+use Rattle.script_runner.specs.Rounds.{AllowsStalls}
 use Rattle.script_runner.specs.Works.{AnswersLoad}
-use Rattle.script_runner.proofs.Transcribes.{rounds_none, rounds_push}
 
 pub record RoundsSoFar (opening : Opening) (ss : List Standing) (all rest : List Round) (mid : List Standing) (before after : Transcript)
     : Type 0 where
@@ -27,7 +26,7 @@ no_round_yet opening ss all transcript named = record {
   front = [];
   is = refl;
   named = named;
-  so = record { own = []; plays = none_more opening ss; notes = rounds_none transcript };
+  so = none_noted opening ss transcript;
 }
 
 -- what the next round may stall, and those after it
@@ -44,19 +43,15 @@ module _ (opening : Opening) (ss : List Standing) (all old_rest rest : List Roun
       subst (λ (n : ℕ). LinesAreOfSome n round.lines) (sym so.so.plays.all) named.0
 
   -- it is played
-  pub round_more : (own : List Answer) (met : List Standing) (after : Transcript) → PlayMore opening (round ∷ []) (own ∷ []) mid met
-      → NotesAnswers own between after → RoundsSoFar opening ss all rest met before after
-  round_more own met after plays notes =
+  pub round_more : (met : List Standing) (after : Transcript) → PlayNoted opening (round ∷ []) mid met between after
+      → RoundsSoFar opening ss all rest met before after
+  round_more met after noted =
       let named : NameSessions (length ss) (round ∷ rest) = subst (NameSessions (length ss)) e so.named in
       record {
         front = so.front ++ round ∷ [];
         is = append_assoc so.front (round ∷ []) rest ∙ ap (λ (l : List Round). so.front ++ l) (sym e) ∙ so.is;
         named = named.1;
-        so = record {
-          own = so.so.own ++ own ∷ [];
-          plays = more_then opening so.front (round ∷ []) so.so.own (own ∷ []) ss mid met so.so.plays plays;
-          notes = rounds_push so.so.own own before between after so.so.notes notes;
-        };
+        so = noted_then opening so.front (round ∷ []) ss mid met before between after so.so noted;
       }
 
 pub all_played : (opening : Opening) (ss : List Standing) (all rest : List Round) (mid : List Standing) (before after : Transcript)
@@ -73,5 +68,5 @@ all_loaded opening ss all rest mid before after so silent none =
     record {
       own = ran.own;
       plays = ran.plays;
-      limited_is = ran.notes.limited ∙ ap (λ (b : Bool). b || any_round_limited ran.own) silent.limited;
+      limited_is = ran.notes.limited ∙ ap (λ (b : Bool). b || limit_told ran.own) silent.limited;
     }

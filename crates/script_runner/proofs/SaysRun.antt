@@ -18,7 +18,6 @@ use Rattle.script_runner.specs.declared.work.Work.{Work}
 use Rattle.script_runner.specs.declared.work.Work.TheVariants as works
 use Rattle.script_runner.specs.Works.{work_rounds, halts, Keeps, PerformsWork}
 use Rattle.script_runner.specs.Runs.{TellsWork, SaysRun, EndsJournal}
-use Rattle.script_runner.proofs.Transcribes.{rounds_said, limits_said}
 
 more_acked : (batches : List Batch) (low high : ℕ) (replies : List (List Replied)) → low ≤ high → AllByRecursion (SyncedAreAmong batches low) replies
     → AllByRecursion (SyncedAreAmong batches high) replies
@@ -39,8 +38,8 @@ module _ {Disk : Type 0} (tells : Bool) (view : Disk → DiskView) (opening : Op
   played : ArePlayedLegally opening (work_rounds work) done.own readers.met batches left.state
   played = ends.legally (work_rounds work) done.own (done.plays.after [] [] begun)
 
-  tells_work : (work' : Work) → Keeps opening work' told done.own readers → TellsWork work' (opening.base ++ batches) played.replies told
-  tells_work (works.Script script) kept = kept ∙ rounds_said done.own played.replies played.answers_are
+  tells_work : (work' : Work) → Keeps opening work' told done.own readers → TellsWork work' (opening.base ++ batches) done.own told
+  tells_work (works.Script script) kept = kept
   tells_work (works.Load load) kept = kept batches played.seen ends.within
 
   pub says_run : acked left.state ≤ acked new.state → EndsJournal view (halts work) visible count left new end
@@ -48,13 +47,13 @@ module _ {Disk : Type 0} (tells : Bool) (view : Disk → DiskView) (opening : Op
   says_run acked_on ended =
       let legal = played.legal end.died (λ dead. ended.tells.died_is ∙ is_marked new.state.dead (ended.dies dead)) in
       record {
-        replies = played.replies;
+        replies = done.own;
         answers = record {
           legal = legal;
-          synced = more_acked batches (acked left.state) end.acked played.replies (omega (arith, acked_on, ended.tells.acked_is)) played.synced;
+          synced = more_acked batches (acked left.state) end.acked done.own (omega (arith, acked_on, ended.tells.acked_is)) played.synced;
           lasting = played.lasting;
-          exact = limited_exactly (first_of opening) opening.base end.died (work_rounds work) batches played.replies legal;
-          limited = done.limited ∙ limits_said done.own played.replies played.answers_are;
+          exact = limited_exactly (first_of opening) opening.base end.died (work_rounds work) batches done.own legal;
+          limited = done.limited;
           visible = ended.visible_is ∙ ends.visible_is;
           count = ended.batches_are ∙ ends.count_is;
         };

@@ -1,4 +1,3 @@
-pub mod Transcripts
 pub mod Rounds
 pub mod Works
 pub mod Runs

@@ -9,12 +9,12 @@ use Rattle.session_script.specs.Load.{live_keys}
 use Rattle.commit_pipeline.specs.Openings.{Opening}
 use Rattle.commit_pipeline.specs.declared.standing.Standing.{Standing}
 use Rattle.commit_pipeline.specs.Standings.{Idles}
-use Rattle.session_rounds.specs.declared.answers.Answer.{Answer}
+use Rattle.session_script.specs.Legal.{Replied, replies_text}
+use Rattle.session_script.specs.Theorems.{limit_told}
 use Rattle.session_rounds.specs.Players.{PlayMore, ReadersView}
 use Rattle.script_runner.specs.declared.work.Work.{Work}
 use Rattle.script_runner.specs.declared.work.Work.TheVariants as works
 use Rattle.script_runner.specs.declared.performing.Told.{Told}
-use Rattle.script_runner.specs.Transcripts.{any_round_limited, rounds_text}
 
 -- the rounds of some work
 abbrev pub work_rounds : Work → List Round
@@ -40,9 +40,9 @@ NamesItsOwn (works.Load load) = NameSessions LOAD_SESSIONS load
 
 -- The rounds of a load were played, and a reply told a limit or none did.
 pub record AnswersLoad (opening : Opening) (rounds : List Round) (ss ss' : List Standing) (limited : Bool) : Type 0 where
-  pub own : List (List Answer)
+  pub own : List (List Replied)
   pub plays : PlayMore opening rounds own ss ss'
-  pub limited_is : limited ≡ any_round_limited own
+  pub limited_is : limited ≡ limit_told own
 
 -- The first session has counted so many live keys of a load: those of the store with what it has seen, where it has seen no more
 -- meanwhile. The others are as they were.
@@ -56,26 +56,26 @@ pub record CountsLive (opening : Opening) (live : ℕ) (old new : ReadersView) :
   pub idles : Idles first first'
   pub counts : first'.seen ≡ first.seen → live ≡ live_keys (opening.base ++ first.seen)
 
--- The text of the answers is kept.
-abbrev pub KeepsReplies : Told → List (List Answer) → ReadersView → Type 0
-KeepsReplies told own readers = told.text ≡ rounds_text own
+-- The text of the replies is kept.
+abbrev pub KeepsReplies : Told → List (List Replied) → ReadersView → Type 0
+KeepsReplies told own readers = told.text ≡ replies_text own
 
 -- The number of live keys is kept: that after all batches, where the sessions had seen just these when they met for the last time, and
 -- see no others.
-abbrev pub KeepsCount : Opening → Told → List (List Answer) → ReadersView → Type 0
+abbrev pub KeepsCount : Opening → Told → List (List Replied) → ReadersView → Type 0
 KeepsCount opening told own readers = (batches : List Batch) → ((s : Standing) → Contains readers.met s → s.seen ≡ batches)
     → ((s : Standing) → Contains readers.now s → IsPrefixOf s.seen batches) → told.live ≡ live_keys (opening.base ++ batches)
 
 -- The rounds were played, the sessions only read since, and what is told of them is kept so.
-pub record Performs (opening : Opening) (rounds : List Round) (keeps : Told → List (List Answer) → ReadersView → Type 0) (ss : List Standing)
+pub record Performs (opening : Opening) (rounds : List Round) (keeps : Told → List (List Replied) → ReadersView → Type 0) (ss : List Standing)
     (readers : ReadersView) (told : Told) : Type 0 where
-  pub own : List (List Answer)
+  pub own : List (List Replied)
   pub plays : PlayMore opening rounds own ss readers.met
-  pub limited : told.limited ≡ any_round_limited own
+  pub limited : told.limited ≡ limit_told own
   pub kept : keeps told own readers
 
--- What is kept of what some work tells: of a script the text of the answers, of a load the number of its live keys.
-abbrev pub Keeps : Opening → Work → Told → List (List Answer) → ReadersView → Type 0
+-- What is kept of what some work tells: of a script the text of the replies, of a load the number of its live keys.
+abbrev pub Keeps : Opening → Work → Told → List (List Replied) → ReadersView → Type 0
 Keeps opening (works.Script script) told own readers = KeepsReplies told own readers
 Keeps opening (works.Load load) told own readers = KeepsCount opening told own readers
 

@@ -15,7 +15,6 @@ mod rounds;
 mod run;
 #[cfg(test)]
 mod tests;
-mod transcript;
 mod work;
 
 pub use performing::Told;

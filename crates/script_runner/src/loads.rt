@@ -4,10 +4,9 @@ ghost use Rattle.std.specs.Prelude.{◌≡◌, ◌+◌, ◌≤◌, length, IfOk}
 ghost use Rattle.session_script.specs.Script.{NameSessions};
 ghost use Rattle.script_runner.specs.Works.{AnswersLoad, CountsLive};
 
-use crate::transcript::Transcript;
 use commit_pipeline::{Gate, PipeName, Pipeline, Sessions};
 use disk_face::{Disk, StallDisk};
-use session_rounds::{Players, Readers};
+use session_rounds::{Players, Readers, Transcript};
 use session_script::{LOAD_KEYS, Load, load_key};
 use std::alloc::Global;
 use std::sync::Wait;
@@ -74,9 +73,7 @@ fn run_load<
 {
     let mut transcript = Transcript::silent();
     while let Some(round) = load.next_round() {
-        let (ended, answers) = players.play_load_round(round)?;
-        players = ended;
-        transcript.note_all(answers)?;
+        players = players.play_load_round(round, &mut transcript)?;
     }
     Ok((players, transcript.limited))
 }

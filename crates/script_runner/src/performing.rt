@@ -8,12 +8,11 @@ ghost use Rattle.script_runner.specs.Works.{work_rounds, Performs, KeepsReplies,
 
 use crate::loads::{count_live, play_load};
 use crate::rounds::play_script;
-use crate::transcript::Transcript;
 use crate::work::Work;
 use commit_pipeline::{Gate, PipeName, Pipeline, Sessions};
 use disk_face::StallDisk;
 use failover_writer::Journal;
-use session_rounds::Readers;
+use session_rounds::{Readers, Transcript};
 use session_script::{Load, Rounds};
 use std::alloc::Global;
 use std::sync::Wait;

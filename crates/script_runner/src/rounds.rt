@@ -2,12 +2,12 @@
 
 ghost use Rattle.std.specs.Prelude.{◌≡◌, ◌+◌, length, IfOk};
 ghost use Rattle.session_script.specs.Script.{NameSessions};
-ghost use Rattle.script_runner.specs.Rounds.{AllowsStalls, PlayNoted};
+ghost use Rattle.session_rounds.specs.Players.{PlayNoted};
+ghost use Rattle.script_runner.specs.Rounds.{AllowsStalls};
 
-use crate::transcript::Transcript;
 use commit_pipeline::{Gate, PipeName, Pipeline, Sessions};
 use disk_face::StallDisk;
-use session_rounds::Players;
+use session_rounds::{Players, Transcript};
 use session_script::Rounds;
 use std::alloc::Global;
 use std::collections::VecDeque;
@@ -81,9 +81,7 @@ fn run_rounds<
 {
     let mut left = VecDeque::from(rounds.into_vec());
     while let Some(round) = left.pop_front() {
-        let (ended, answers) = players.play_round(round)?;
-        players = ended;
-        transcript.note_all(answers)?;
+        players = players.play_round(round, transcript)?;
     }
     Ok(players)
 }

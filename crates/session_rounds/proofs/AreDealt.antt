@@ -10,22 +10,23 @@ use Rattle.session_script.specs.declared.script.Line.{Line}
 use Rattle.session_script.specs.Legal.{is_of, lines_of_session}
 use Rattle.commit_pipeline.specs.declared.standing.Standing.{Standing}
 use Rattle.session_rounds.specs.declared.course.Course.{Course}
+use Rattle.session_rounds.specs.declared.transcript.Transcript.{Transcript}
 use Rattle.session_rounds.specs.Turns.{turn_with, beginning, with_line, CountsLines, AreDealt}
 
 -- The turns as they begin are those of no line.
-beginning_at : (ss : List Standing) (i : ℕ) (s : Standing) → slice_get ss i ≡ Some s → slice_get (map beginning ss) i ≡ Some (turn_with s [])
-beginning_at [] i s e = absurd cc
-beginning_at (x ∷ ss) zero s e = let is : x ≡ s = cc in ap (λ (t : Standing). Some (beginning t)) is
-beginning_at (x ∷ ss) (suc i) s e = beginning_at ss i s e
+beginning_at : (told : Transcript) (ss : List Standing) (i : ℕ) (s : Standing) → slice_get ss i ≡ Some s → slice_get (map (beginning told) ss) i ≡ Some (turn_with told s [])
+beginning_at told [] i s e = absurd cc
+beginning_at told (x ∷ ss) zero s e = let is : x ≡ s = cc in ap (λ (t : Standing). Some (beginning told t)) is
+beginning_at told (x ∷ ss) (suc i) s e = beginning_at told ss i s e
 
 -- There are as many of them.
-length_beginning : (ss : List Standing) → length (map beginning ss) ≡ length ss
-length_beginning [] = refl
-length_beginning (s ∷ ss) = ap suc (length_beginning ss)
+length_beginning : (told : Transcript) (ss : List Standing) → length (map (beginning told) ss) ≡ length ss
+length_beginning told [] = refl
+length_beginning told (s ∷ ss) = ap suc (length_beginning told ss)
 
 -- So no line is dealt.
-no_line : (ss : List Standing) → AreDealt ss [] (map beginning ss)
-no_line ss = record { all = length_beginning ss; each = beginning_at ss }
+no_line : (told : Transcript) (ss : List Standing) → AreDealt told ss [] (map (beginning told) ss)
+no_line told ss = record { all = length_beginning told ss; each = beginning_at told ss }
 
 -- ---- a line more
 
@@ -55,32 +56,32 @@ own_line : (i : ℕ) (line : Line) (lines : List Line) (b : Bool) → is_of i li
 own_line i line lines b e = ap (λ (c : Bool). cond c (line ∷ lines_of_session i lines) (lines_of_session i lines)) e
 
 -- The line comes before those of its session, and the others keep theirs.
-line_more : (ss : List Standing) (line : Line) (lines : List Line) (ts : List Course) (t : Course) → AreDealt ss lines ts
-    → slice_get ts line.session ≡ Some t → AreDealt ss (line ∷ lines) (slice_set ts line.session (with_line line t))
-line_more ss line lines ts t dealt there = record {
+line_more : (told : Transcript) (ss : List Standing) (line : Line) (lines : List Line) (ts : List Course) (t : Course) → AreDealt told ss lines ts
+    → slice_get ts line.session ≡ Some t → AreDealt told ss (line ∷ lines) (slice_set ts line.session (with_line line t))
+line_more told ss line lines ts t dealt there = record {
   all = length-set ts line.session (with_line line t) ∙ dealt.all;
   each = λ i s e. elim (same_or line.session i) [
     | inl same ↦
-        let was : slice_get ts line.session ≡ Some (turn_with s (lines_of_session i lines)) = ap (slice_get ts) same ∙ dealt.each i s e in
-        let is : t ≡ turn_with s (lines_of_session i lines) = cc in
+        let was : slice_get ts line.session ≡ Some (turn_with told s (lines_of_session i lines)) = ap (slice_get ts) same ∙ dealt.each i s e in
+        let is : t ≡ turn_with told s (lines_of_session i lines) = cc in
         ap (slice_get (slice_set ts line.session (with_line line t))) (sym same)
         ∙ get_set_same ts line.session t (with_line line t) there
         ∙ ap (λ (u : Course). Some (with_line line u)) is
-        ∙ ap (λ (l : List Line). Some (turn_with s l)) (sym (own_line i line lines true (eq-eqb line.session i same)))
+        ∙ ap (λ (l : List Line). Some (turn_with told s l)) (sym (own_line i line lines true (eq-eqb line.session i same)))
     | inr apart ↦
         get_set_apart ts line.session i (with_line line t) apart ∙ dealt.each i s e
-        ∙ ap (λ (l : List Line). Some (turn_with s l)) (sym (own_line i line lines false (ne_eqb line.session i apart)))
+        ∙ ap (λ (l : List Line). Some (turn_with told s l)) (sym (own_line i line lines false (ne_eqb line.session i apart)))
   ];
 }
 
 -- ---- all lines
 
 -- The last lines are dealt, and these are left.
-pub record DealtSoFar (ss : List Standing) (all left : List Line) (ts : List Course) : Type 0 where
+pub record DealtSoFar (told : Transcript) (ss : List Standing) (all left : List Line) (ts : List Course) : Type 0 where
   pub rest : List Line
   pub is : left ++ rest ≡ all
   pub named : LinesAreOfSome (length ss) left
-  pub dealt : AreDealt ss rest ts
+  pub dealt : AreDealt told ss rest ts
 
 -- Lines before a last one are of some sessions where all are.
 all_but_last : (n : ℕ) (lines : List Line) (line : Line) → LinesAreOfSome n (lines ++ line ∷ []) → LinesAreOfSome n lines
@@ -93,32 +94,32 @@ last_of_all n [] line all = all.0
 last_of_all n (l ∷ lines) line all = last_of_all n lines line all.1
 
 -- At first none is dealt.
-pub none_dealt : (ss : List Standing) (all : List Line) → LinesAreOfSome (length ss) all → DealtSoFar ss all all (map beginning ss)
-none_dealt ss all named = record { rest = []; is = append-nil all; named = named; dealt = no_line ss }
+pub none_dealt : (told : Transcript) (ss : List Standing) (all : List Line) → LinesAreOfSome (length ss) all → DealtSoFar told ss all all (map (beginning told) ss)
+none_dealt told ss all named = record { rest = []; is = append-nil all; named = named; dealt = no_line told ss }
 
 -- The last one that is left is of one of them.
-pub next_is_of_some : (ss : List Standing) (all old new : List Line) (line : Line) (ts : List Course) → DealtSoFar ss all old ts
+pub next_is_of_some : (told : Transcript) (ss : List Standing) (all old new : List Line) (line : Line) (ts : List Course) → DealtSoFar told ss all old ts
     → old ≡ new ++ line ∷ [] → line.session < length ts
-next_is_of_some ss all old new line ts so taken =
+next_is_of_some told ss all old new line ts so taken =
     subst (λ (n : ℕ). line.session < n) (sym so.dealt.all)
     (last_of_all (length ss) new line (subst (LinesAreOfSome (length ss)) taken so.named))
 
 -- One more is dealt.
-pub one_more : (ss : List Standing) (all old new : List Line) (line : Line) (ts : List Course) (t t' : Course) → DealtSoFar ss all old ts
+pub one_more : (told : Transcript) (ss : List Standing) (all old new : List Line) (line : Line) (ts : List Course) (t t' : Course) → DealtSoFar told ss all old ts
     → old ≡ new ++ line ∷ [] → slice_get ts line.session ≡ Some t → t' ≡ with_line line t
-    → DealtSoFar ss all new (slice_set ts line.session t')
-one_more ss all old new line ts t t' so taken there is = record {
+    → DealtSoFar told ss all new (slice_set ts line.session t')
+one_more told ss all old new line ts t t' so taken there is = record {
   rest = line ∷ so.rest;
   is = sym (append_assoc new (line ∷ []) so.rest) ∙ ap (λ (l : List Line). l ++ so.rest) (sym taken) ∙ so.is;
   named = all_but_last (length ss) new line (subst (LinesAreOfSome (length ss)) taken so.named);
-  dealt = subst (λ (u : Course). AreDealt ss (line ∷ so.rest) (slice_set ts line.session u)) (sym is)
-      (line_more ss line so.rest ts t so.dealt there);
+  dealt = subst (λ (u : Course). AreDealt told ss (line ∷ so.rest) (slice_set ts line.session u)) (sym is)
+      (line_more told ss line so.rest ts t so.dealt there);
 }
 
 -- All are dealt where none is left.
-pub all_dealt : (ss : List Standing) (all left : List Line) (ts : List Course) → DealtSoFar ss all left ts → left ≡ [] → AreDealt ss all ts
-all_dealt ss all left ts so none =
-    subst (λ (l : List Line). AreDealt ss l ts) (ap (λ (l : List Line). l ++ so.rest) (sym none) ∙ so.is) so.dealt
+pub all_dealt : (told : Transcript) (ss : List Standing) (all left : List Line) (ts : List Course) → DealtSoFar told ss all left ts → left ≡ [] → AreDealt told ss all ts
+all_dealt told ss all left ts so none =
+    subst (λ (l : List Line). AreDealt told ss l ts) (ap (λ (l : List Line). l ++ so.rest) (sym none) ∙ so.is) so.dealt
 
 -- ---- lines that are still to be made
 
@@ -141,17 +142,17 @@ front_or_behind (z ∷ xs) y zero x e = inl e
 front_or_behind (z ∷ xs) y (suc i) x e = elim (front_or_behind xs y i x e) [ inl front ↦ inl front | inr behind ↦ inr (ap suc behind.0, behind.1) ]
 
 -- One session more has its lines.
-pub one_shared : (ss : List Standing) (lines own : List Line) (ts : List Course) (n : ℕ) (s : Standing) (t : Course) → AreDealt ss lines ts
-    → n ≡ length ts → own ≡ lines_of_session n lines → t ≡ turn_with s own → AreDealt (ss ++ s ∷ []) lines (ts ++ t ∷ [])
-one_shared ss lines own ts n s t dealt count its is = record {
+pub one_shared : (told : Transcript) (ss : List Standing) (lines own : List Line) (ts : List Course) (n : ℕ) (s : Standing) (t : Course) → AreDealt told ss lines ts
+    → n ≡ length ts → own ≡ lines_of_session n lines → t ≡ turn_with told s own → AreDealt told (ss ++ s ∷ []) lines (ts ++ t ∷ [])
+one_shared told ss lines own ts n s t dealt count its is = record {
   all = omega (arith, length-append ss (s ∷ []), length-append ts (t ∷ []), dealt.all);
   each = λ i x e. elim (front_or_behind ss s i x e) [
-    | inl front ↦ get_in_front ts (t ∷ []) i (turn_with x (lines_of_session i lines)) (dealt.each i x front)
+    | inl front ↦ get_in_front ts (t ∷ []) i (turn_with told x (lines_of_session i lines)) (dealt.each i x front)
     | inr behind ↦
         let here : i ≡ length ts = behind.0 ∙ sym dealt.all in
         ap (slice_get (ts ++ t ∷ [])) here ∙ get_behind ts t
-        ∙ ap (λ (u : Course). Some u) (is ∙ ap (turn_with s) (its ∙ ap (λ (m : ℕ). lines_of_session m lines) (count ∙ sym here))
-        ∙ ap (λ (y : Standing). turn_with y (lines_of_session i lines)) behind.1)
+        ∙ ap (λ (u : Course). Some u) (is ∙ ap (turn_with told s) (its ∙ ap (λ (m : ℕ). lines_of_session m lines) (count ∙ sym here))
+        ∙ ap (λ (y : Standing). turn_with told y (lines_of_session i lines)) behind.1)
   ];
 }
 

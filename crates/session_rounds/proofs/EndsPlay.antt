@@ -10,7 +10,7 @@ use Rattle.commit_pipeline.specs.declared.standing.Standing.{Standing}
 use Rattle.commit_pipeline.specs.Parts.{AreNew}
 use Rattle.commit_pipeline.specs.Meeting.{StayOn}
 use Rattle.commit_pipeline.specs.Ending.{Finishes}
-use Rattle.session_rounds.specs.declared.answers.Answer.{Answer}
+use Rattle.session_script.specs.Legal.{Replied}
 use Rattle.session_rounds.specs.Players.{HavePlayed, ArePlayedLegally, EndsPlay}
 use Rattle.session_rounds.proofs.AreLegal.{played_legally, visible_at_end}
 use Rattle.session_rounds.proofs.IsSeen.{played_seen}
@@ -18,20 +18,18 @@ use Rattle.session_rounds.proofs.DeathLasts.{deaths_lasting}
 
 module _ (tells : Bool) (opening : Opening) (batches : List Batch) (met now : List Standing) (state : State) (v : DiskView) (visible count : ℕ)
     (stay : StayOn met now) (ends : Finishes tells opening batches now state v visible count) where
-  legally : (rounds : List Round) (answers : List (List Answer)) → HavePlayed opening rounds answers met
-      → ArePlayedLegally opening rounds answers met batches state
-  legally rounds answers had =
+  legally : (rounds : List Round) (replies : List (List Replied)) → HavePlayed opening rounds replies met
+      → ArePlayedLegally opening rounds replies met batches state
+  legally rounds replies had =
       let new : AreNew (length had.first) had.first = record { all = refl; each = had.new.each } in
       let named : NameSessions (length had.first) rounds = subst (λ (n : ℕ). NameSessions n rounds) (sym had.new.all) had.named in
-      let seen = played_seen tells opening rounds had.replies had.first met now batches state v visible count new named had.plays stay ends in
+      let seen = played_seen tells opening rounds replies had.first met now batches state v visible count new named had.plays stay ends in
       record {
-        replies = had.replies;
-        answers_are = had.answers_are;
-        legal = λ died dies. (played_legally tells opening rounds had.replies had.first met batches state v visible count died new named had.plays
+        legal = λ died dies. (played_legally tells opening rounds replies had.first met batches state v visible count died new named had.plays
             seen.finishes dies).0;
-        synced = (played_legally tells opening rounds had.replies had.first met batches state v visible count true new named had.plays
+        synced = (played_legally tells opening rounds replies had.first met batches state v visible count true new named had.plays
             seen.finishes (λ dead. refl)).1;
-        lasting = deaths_lasting opening rounds had.replies had.first met named had.plays;
+        lasting = deaths_lasting opening rounds replies had.first met named had.plays;
         seen = seen.seen;
       }
 

@@ -11,6 +11,7 @@ mod IsLegalRound
 mod AreLegal
 mod IsSeen
 mod DeathLasts
+mod Noted
 mod PlaysTurn
 mod AreDealt
 mod Played

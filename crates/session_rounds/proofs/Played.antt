@@ -1,9 +1,9 @@
 -- Session by session the lines of a round have their replies.
 use Rattle.std.specs.Prelude.{◌≡◌, ◌⊎◌, ℕ, zero, suc, ◌+◌, ◌<◌, ◌≤◌, Bool, true, false, cond, List, [], ◌∷◌, ◌++◌, length, map, Some, Result, Ok, Err, IfOk, OnOk, take, drop, slice_get, slice_index_or}
 use Rattle.std.specs.Global.{Vec}
-use Rattle.std.specs.List.{AllByRecursion, flat_map}
+use Rattle.std.specs.List.{AllByRecursion}
 use Rattle.std.proofs.Common.{inl, inr, refl, sym, ap, ◌∙◌, subst, arith, ne_eqb}
-use Rattle.std.proofs.lemmas.List.{append-nil, map-append, length-map}
+use Rattle.std.proofs.lemmas.List.{append-nil, length-map}
 use Rattle.std.proofs.lemmas.List.Elements.{filter-append}
 use Rattle.std.proofs.lemmas.Option.{slice_get_within, get_or_from_slice_get}
 use Rattle.std.proofs.lemmas.Bool.{eq-eqb}
@@ -13,11 +13,13 @@ use Rattle.session_script.specs.declared.script.Line.{Line}
 use Rattle.session_script.specs.Legal.{Replied, is_of, lines_of_session, replies_of_session, AreBySession}
 use Rattle.commit_pipeline.specs.Openings.{Opening}
 use Rattle.commit_pipeline.specs.declared.standing.Standing.{Standing}
-use Rattle.session_rounds.specs.declared.answers.Answer.{Answer}
 use Rattle.session_rounds.specs.declared.course.Course.{Course}
+use Rattle.session_rounds.specs.declared.transcript.Transcript.{Transcript}
 use Rattle.session_rounds.specs.Acts.{DoesLines}
-use Rattle.session_rounds.specs.Playing.{answers_of, AnswersPlayed}
-use Rattle.session_rounds.specs.Turns.{turn_with, session_of, answers_in, AreDealt, PlaysTurn, PlayAll, NoneStarved, PlaysTurns}
+use Rattle.session_rounds.specs.Playing.{RoundPlayed}
+use Rattle.session_rounds.specs.Transcripts.{blank_of, with_told, NotesReplies}
+use Rattle.session_rounds.specs.Turns.{turn_with, session_of, join_all, AreDealt, PlaysTurn, PlayAll, NoneStarved, PlaysTurns}
+use Rattle.session_rounds.proofs.Noted.{none_noted, replies_then, joined_noted, blank_same}
 
 -- Of two numbers the one is below the other, or not.
 below_or : (a b : ℕ) → (a < b) ⊎ (b ≤ a)
@@ -82,14 +84,14 @@ own_before low k (r ∷ own) more le all order =
 
 -- ---- the turns of the sessions from one on
 
--- Each turn has the lines of its session, no answer yet, and has done them.
-record TurnsDone (opening : Opening) (k : ℕ) (lines : List Line) (ts ts' : List Course) : Type 0 where
+-- Each turn has the lines of its session, nothing was said but this, and it has done them.
+record TurnsDone (opening : Opening) (told : Transcript) (k : ℕ) (lines : List Line) (ts ts' : List Course) : Type 0 where
   all : length ts' ≡ length ts
-  dealt : (i : ℕ) (t : Course) → slice_get ts i ≡ Some t → (t.lines ≡ lines_of_session (k + i) lines) × (t.answers ≡ [])
+  dealt : (i : ℕ) (t : Course) → slice_get ts i ≡ Some t → (t.lines ≡ lines_of_session (k + i) lines) × (t.told ≡ told)
   done : (i : ℕ) (t t' : Course) → slice_get ts i ≡ Some t → slice_get ts' i ≡ Some t' → PlaysTurn opening t t'
 
--- Their replies, one session's after another's.
-record RepliesFrom (opening : Opening) (k : ℕ) (lines : List Line) (ts ts' : List Course) : Type 0 where
+-- Their replies, one session's after another's, which are added to a transcript.
+record RepliesFrom (opening : Opening) (old : Transcript) (k : ℕ) (lines : List Line) (ts ts' : List Course) : Type 0 where
   replies : List Replied
   order : AreBySession k replies
   before : (session : ℕ) → session < k → replies_of_session session replies ≡ []
@@ -97,12 +99,12 @@ record RepliesFrom (opening : Opening) (k : ℕ) (lines : List Line) (ts ts' : L
   same : (session : ℕ) → k ≤ session → session < k + length ts → map (λ (r : Replied). r.line) (replies_of_session session replies) ≡ lines_of_session session lines
   does : (i : ℕ) (t t' : Course) → slice_get ts i ≡ Some t → slice_get ts' i ≡ Some t'
       → DoesLines opening t.session (replies_of_session (k + i) replies) t'.session
-  answers_are : flat_map answers_in ts' ≡ answers_of replies
+  notes : NotesReplies replies old (join_all old ts')
 
 -- So it is of the turns after the first.
-later_turns : (opening : Opening) (k : ℕ) (lines : List Line) (t t' : Course) (ts ts' : List Course)
-    → TurnsDone opening k lines (t ∷ ts) (t' ∷ ts') → TurnsDone opening (suc k) lines ts ts'
-later_turns opening k lines t t' ts ts' so = record {
+later_turns : (opening : Opening) (told : Transcript) (k : ℕ) (lines : List Line) (t t' : Course) (ts ts' : List Course)
+    → TurnsDone opening told k lines (t ∷ ts) (t' ∷ ts') → TurnsDone opening told (suc k) lines ts ts'
+later_turns opening told k lines t t' ts ts' so = record {
   all = omega (arith, so.all);
   dealt = λ i u e. (
     (so.dealt (suc i) u e).0 ∙ ap (λ (n : ℕ). lines_of_session n lines) (omega arith),
@@ -112,22 +114,22 @@ later_turns opening k lines t t' ts ts' so = record {
 }
 
 -- No turn has no reply.
-no_turns : (opening : Opening) (k : ℕ) (lines : List Line) → RepliesFrom opening k lines [] []
-unfolding AreBySession
-no_turns opening k lines = record {
+no_turns : (opening : Opening) (old : Transcript) (k : ℕ) (lines : List Line) → RepliesFrom opening old k lines [] []
+unfolding AreBySession join_all
+no_turns opening old k lines = record {
   replies = [];
   order = record {};
   before = λ session is. refl;
   past = λ session is. refl;
   same = λ session from to. absurd (omega (arith, from, to));
   does = λ i t t' e e'. absurd cc;
-  answers_are = refl;
+  notes = none_noted old;
 }
 
 -- One turn comes before those of the later sessions.
-module _ (opening : Opening) (k : ℕ) (lines : List Line) (t t' : Course) (ts ts' : List Course)
-    (lines_is : t.lines ≡ lines_of_session k lines) (fresh : t.answers ≡ []) (one : PlaysTurn opening t t')
-    (rest : RepliesFrom opening (suc k) lines ts ts') where
+module _ (opening : Opening) (old : Transcript) (k : ℕ) (lines : List Line) (t t' : Course) (ts ts' : List Course)
+    (lines_is : t.lines ≡ lines_of_session k lines) (fresh : t.told ≡ blank_of old) (one : PlaysTurn opening t t')
+    (rest : RepliesFrom opening (with_told old t'.told) (suc k) lines ts ts') where
   own_are : map (λ (r : Replied). r.line) one.replies ≡ lines_of_session k lines
   own_are = one.lines_are ∙ lines_is
 
@@ -174,7 +176,11 @@ module _ (opening : Opening) (k : ℕ) (lines : List Line) (t t' : Course) (ts t
       (subst (λ (l : List Replied). DoesLines opening u.session l u'.session) (sym (there (suc k + i) (λ same. omega (arith, same))))
       (rest.does i u u' e e'))
 
-  one_turn_more : RepliesFrom opening k lines (t ∷ ts) (t' ∷ ts')
+  own_noted : NotesReplies one.replies old (with_told old t'.told)
+  own_noted = joined_noted one.replies old t'.told (subst (λ (told : Transcript). NotesReplies one.replies told t'.told) fresh one.notes)
+
+  one_turn_more : RepliesFrom opening old k lines (t ∷ ts) (t' ∷ ts')
+  unfolding join_all
   one_turn_more = record {
     replies = one.replies ++ rest.replies;
     order = own_before k k one.replies rest.replies (omega arith) own_of rest.order;
@@ -182,22 +188,25 @@ module _ (opening : Opening) (k : ℕ) (lines : List Line) (t t' : Course) (ts t
     past = λ session is. there session (λ same. omega (arith, same, is)) ∙ rest.past session (omega (arith, is));
     same = same_from;
     does = does_from;
-    answers_are = ap (λ (l : List Answer). l ++ flat_map answers_in ts') (one.answers_are ∙ ap (λ (l : List Answer). l ++ answers_of one.replies) fresh)
-        ∙ ap (λ (l : List Answer). answers_of one.replies ++ l) rest.answers_are
-        ∙ sym (map-append (λ (r : Replied). record { session = r.line.session; said = r.said }) one.replies rest.replies);
+    notes = replies_then one.replies rest.replies old (with_told old t'.told) (join_all (with_told old t'.told) ts') own_noted rest.notes;
   }
 
 -- All turns from a session on have their replies.
-turns_reply : (opening : Opening) (k : ℕ) (lines : List Line) (ts ts' : List Course) → TurnsDone opening k lines ts ts'
-    → RepliesFrom opening k lines ts ts'
-turns_reply opening k lines [] [] so = no_turns opening k lines
-turns_reply opening k lines [] (t' ∷ ts') so = absurd (omega (arith, so.all))
-turns_reply opening k lines (t ∷ ts) [] so = absurd (omega (arith, so.all))
-turns_reply opening k lines (t ∷ ts) (t' ∷ ts') so =
+turns_reply : (opening : Opening) (told old : Transcript) (k : ℕ) (lines : List Line) (ts ts' : List Course) → told ≡ blank_of old
+    → TurnsDone opening told k lines ts ts' → RepliesFrom opening old k lines ts ts'
+turns_reply opening told old k lines [] [] blank so = no_turns opening old k lines
+turns_reply opening told old k lines [] (t' ∷ ts') blank so = absurd (omega (arith, so.all))
+turns_reply opening told old k lines (t ∷ ts) [] blank so = absurd (omega (arith, so.all))
+turns_reply opening told old k lines (t ∷ ts) (t' ∷ ts') blank so =
     let dealt = so.dealt 0 t refl in
     let at : k + 0 ≡ k = omega arith in
-    one_turn_more opening k lines t t' ts ts' (dealt.0 ∙ ap (λ (n : ℕ). lines_of_session n lines) at) dealt.1 (so.done 0 t t' refl refl)
-    (turns_reply opening (suc k) lines ts ts' (later_turns opening k lines t t' ts ts' so))
+    let its : t.lines ≡ lines_of_session k lines = dealt.0 ∙ ap (λ (n : ℕ). lines_of_session n lines) at in
+    let fresh : t.told ≡ blank_of old = dealt.1 ∙ blank in
+    let one : PlaysTurn opening t t' = so.done 0 t t' refl refl in
+    let noted = joined_noted one.replies old t'.told (subst (λ (u : Transcript). NotesReplies one.replies u t'.told) fresh one.notes) in
+    one_turn_more opening old k lines t t' ts ts' its fresh one
+    (turns_reply opening told (with_told old t'.told) (suc k) lines ts ts' (blank ∙ sym (blank_same one.replies old (with_told old t'.told) noted))
+    (later_turns opening told k lines t t' ts ts' so))
 
 -- ---- all sessions
 
@@ -220,16 +229,16 @@ none_starved_at (x ∷ ts) zero t none e = let is : x ≡ t = cc in ap (λ (u : 
 none_starved_at (x ∷ ts) (suc i) t none e = none_starved_at ts i t none.1 e
 
 -- The turns that were dealt and played are done.
-turns_done : (opening : Opening) (lines : List Line) (ss : List Standing) (ts ts' : List Course) → AreDealt ss lines ts
-    → PlayAll opening ts ts' → NoneStarved ts' → TurnsDone opening 0 lines ts ts'
-turns_done opening lines ss ts ts' dealt plays none = record {
+turns_done : (opening : Opening) (told : Transcript) (lines : List Line) (ss : List Standing) (ts ts' : List Course) → AreDealt told ss lines ts
+    → PlayAll opening ts ts' → NoneStarved ts' → TurnsDone opening told 0 lines ts ts'
+turns_done opening told lines ss ts ts' dealt plays none = record {
   all = plays.all;
   dealt = λ i t e.
       let s = found_at ss i (subst (λ (n : ℕ). i < n) dealt.all (slice_get_within ts i t e)) in
-      let was : Some t ≡ Some (turn_with s.0 (lines_of_session i lines)) = sym e ∙ dealt.each i s.0 s.1 in
-      let is : t ≡ turn_with s.0 (lines_of_session i lines) = cc in
+      let was : Some t ≡ Some (turn_with told s.0 (lines_of_session i lines)) = sym e ∙ dealt.each i s.0 s.1 in
+      let is : t ≡ turn_with told s.0 (lines_of_session i lines) = cc in
       let at : i ≡ 0 + i = omega arith in
-      (ap (λ (u : Course). u.lines) is ∙ ap (λ (n : ℕ). lines_of_session n lines) at, ap (λ (u : Course). u.answers) is);
+      (ap (λ (u : Course). u.lines) is ∙ ap (λ (n : ℕ). lines_of_session n lines) at, ap (λ (u : Course). u.told) is);
   done = λ i t t' e e'.
       let is : slice_index_or ts i t' ≡ t = get_or_from_slice_get ts i t t' e in
       let is' : slice_index_or ts' i t' ≡ t' = get_or_from_slice_get ts' i t' t' e' in
@@ -240,11 +249,13 @@ turns_done opening lines ss ts ts' dealt plays none = record {
 }
 
 -- So the round is answered.
-round_played : (opening : Opening) (lines : List Line) (ss : List Standing) (ts ts' : List Course) → LinesAreOfSome (length ss) lines
-    → AreDealt ss lines ts → PlayAll opening ts ts' → NoneStarved ts'
-    → AnswersPlayed opening lines ss (map session_of ts') (flat_map answers_in ts')
-round_played opening lines ss ts ts' named dealt plays none =
-    let from : RepliesFrom opening 0 lines ts ts' = turns_reply opening 0 lines ts ts' (turns_done opening lines ss ts ts' dealt plays none) in record {
+round_played : (opening : Opening) (old : Transcript) (lines : List Line) (ss : List Standing) (ts ts' : List Course)
+    → LinesAreOfSome (length ss) lines → AreDealt (blank_of old) ss lines ts → PlayAll opening ts ts' → NoneStarved ts'
+    → RoundPlayed opening lines ss (map session_of ts') old (join_all old ts')
+round_played opening old lines ss ts ts' named dealt plays none =
+    let told = blank_of old in
+    let from : RepliesFrom opening old 0 lines ts ts' = turns_reply opening told old 0 lines ts ts' refl
+    (turns_done opening told lines ss ts ts' dealt plays none) in record {
       replies = from.replies;
       plays = record {
         all = length-map ts' session_of ∙ plays.all ∙ dealt.all;
@@ -262,31 +273,42 @@ round_played opening lines ss ts ts' named dealt plays none =
             let at : 0 + i ≡ i = omega arith in
             subst (λ (n : ℕ). DoesLines opening s (replies_of_session n from.replies) s') at
             (subst (λ (x : Standing). DoesLines opening s (replies_of_session (0 + i) from.replies) x) after.2
-            (from.does i (turn_with s (lines_of_session i lines)) after.0 (dealt.each i s e) after.1));
+            (from.does i (turn_with told s (lines_of_session i lines)) after.0 (dealt.each i s e) after.1));
       };
-      answers_are = from.answers_are;
+      notes = from.notes;
     }
 
+-- No turn is joined, and one more after others.
+pub none_joined : (old : Transcript) → old ≡ join_all old []
+unfolding join_all
+none_joined old = refl
+
+pub one_joined : (old : Transcript) (ts : List Course) (t : Course) → join_all old (ts ++ t ∷ []) ≡ with_told (join_all old ts) t.told
+unfolding join_all
+one_joined old [] t = refl
+one_joined old (u ∷ ts) t = one_joined (with_told old u.told) ts t
+
 -- Turns are played, where none of them ran out of memory.
-pub turns_played : {E : Type 0} (opening : Opening) (ts ts' : List Course) (ended : Result (Vec Standing × List Answer) E)
-    → PlayAll opening ts ts' → IfOk ended (λ e. e.0.items ≡ map session_of ts') → IfOk ended (λ e. e.1 ≡ flat_map answers_in ts')
-    → OnOk ended (NoneStarved ts') → IfOk ended (λ e. PlaysTurns opening ts e.0.items e.1)
-turns_played opening ts ts' (Ok e) plays sessions answers none = record {
+pub turns_played : {E : Type 0} (opening : Opening) (ts ts' : List Course) (old new : Transcript) (ended : Result (Vec Standing) E)
+    → PlayAll opening ts ts' → IfOk ended (λ e. e.items ≡ map session_of ts') → OnOk ended (new ≡ join_all old ts')
+    → OnOk ended (NoneStarved ts') → IfOk ended (λ e. PlaysTurns opening ts e.items old new)
+turns_played opening ts ts' old new (Ok e) plays sessions told none = record {
   ended = ts';
   plays = plays;
   none = none;
   sessions_are = sessions;
-  answers_are = answers;
+  told_is = told;
 }
-turns_played opening ts ts' (Err e) plays sessions answers none = tt
+turns_played opening ts ts' old new (Err e) plays sessions told none = tt
 
 -- A round is answered, where turns with its lines are.
-pub round_ended : (opening : Opening) (lines : List Line) (ss ss' : List Standing) (ts : List Course) (answers : List Answer)
-    → LinesAreOfSome (length ss) lines → AreDealt ss lines ts → PlaysTurns opening ts ss' answers → AnswersPlayed opening lines ss ss' answers
-round_ended opening lines ss ss' ts answers named dealt plays =
-    subst (λ (s' : List Standing). AnswersPlayed opening lines ss s' answers) (sym plays.sessions_are)
-    (subst (λ (a : List Answer). AnswersPlayed opening lines ss (map session_of plays.ended) a) (sym plays.answers_are)
-    (round_played opening lines ss ts plays.ended named dealt plays.plays plays.none))
+pub round_ended : (opening : Opening) (lines : List Line) (ss ss' : List Standing) (ts : List Course) (old new : Transcript)
+    → LinesAreOfSome (length ss) lines → AreDealt (blank_of old) ss lines ts → PlaysTurns opening ts ss' old new
+    → RoundPlayed opening lines ss ss' old new
+round_ended opening lines ss ss' ts old new named dealt plays =
+    subst (λ (s' : List Standing). RoundPlayed opening lines ss s' old new) (sym plays.sessions_are)
+    (subst (λ (told : Transcript). RoundPlayed opening lines ss (map session_of plays.ended) old told) (sym plays.told_is)
+    (round_played opening old lines ss ts plays.ended named dealt plays.plays plays.none))
 
 -- What is lent whole and comes back is all that there is.
 pub wrote_back : {A : Type 0} (count : ℕ) (new items : List A) → count ≡ length items → length new ≡ length items

@@ -1,4 +1,5 @@
 pub mod Acts
+pub mod Transcripts
 pub mod Playing
 pub mod Turns
 pub mod Legality

@@ -1,5 +1,5 @@
 -- What the players of rounds have done, and what their end tells (docs/formats/program.md, "The run of a script").
-use Rattle.std.specs.Prelude.{◌≡◌, ◌≢◌, ◌⊎◌, ◌++◌, ℕ, Bool, List, [], ◌∷◌, length, map, None, Contains, IsTrue}
+use Rattle.std.specs.Prelude.{◌≡◌, ◌≢◌, ◌⊎◌, ◌++◌, ℕ, Bool, List, [], ◌∷◌, length, None, Contains, IsTrue}
 use Rattle.std.specs.List.{AllByRecursion}
 use Rattle.wal_base.specs.Prefixes.{IsPrefixOf}
 use Rattle.batch_repr.specs.declared.batch.Batch.{Batch}
@@ -17,8 +17,9 @@ use Rattle.commit_pipeline.specs.declared.standing.Standing.{Standing}
 use Rattle.commit_pipeline.specs.declared.fault.Reply.{Reply}
 use Rattle.commit_pipeline.specs.Parts.{AreNew}
 use Rattle.commit_pipeline.specs.Commits.{TellsRead}
-use Rattle.session_rounds.specs.declared.answers.Answer.{Answer}
-use Rattle.session_rounds.specs.Playing.{PlaysRounds, answers_of}
+use Rattle.session_rounds.specs.declared.transcript.Transcript.{Transcript}
+use Rattle.session_rounds.specs.Playing.{PlaysRounds}
+use Rattle.session_rounds.specs.Transcripts.{NotesRounds}
 use Rattle.session_rounds.specs.Legality.{SyncedAreAmong}
 
 -- There is no stall, or the opening allows some.
@@ -27,20 +28,24 @@ AllowsPolls opening stalls = (stalls ≡ []) ⊎ IsTrue opening.start.may_stall
 
 -- ---- while rounds are played
 
--- New sessions have played these rounds over a pipeline, with these answers, and have met after each.
-pub record HavePlayed (opening : Opening) (rounds : List Round) (answers : List (List Answer)) (ss : List Standing) : Type 0 where
+-- New sessions have played these rounds over a pipeline, with these replies, and have met after each.
+pub record HavePlayed (opening : Opening) (rounds : List Round) (replies : List (List Replied)) (ss : List Standing) : Type 0 where
   pub first : List Standing
-  pub replies : List (List Replied)
   pub new : AreNew (length ss) first
   pub named : NameSessions (length ss) rounds
   pub plays : PlaysRounds opening first rounds replies ss
-  pub answers_are : answers ≡ map answers_of replies
 
--- Whatever rounds they had played, they have played these after them, with these answers. They are as many as before.
-pub record PlayMore (opening : Opening) (more : List Round) (own : List (List Answer)) (ss ss' : List Standing) : Type 0 where
+-- Whatever rounds they had played, they have played these after them, with these replies. They are as many as before.
+pub record PlayMore (opening : Opening) (more : List Round) (own : List (List Replied)) (ss ss' : List Standing) : Type 0 where
   pub all : length ss' ≡ length ss
-  pub after : (rounds : List Round) (answers : List (List Answer)) → HavePlayed opening rounds answers ss
-      → HavePlayed opening (rounds ++ more) (answers ++ own) ss'
+  pub after : (rounds : List Round) (replies : List (List Replied)) → HavePlayed opening rounds replies ss
+      → HavePlayed opening (rounds ++ more) (replies ++ own) ss'
+
+-- Rounds are played, one after another, and what is said is added to the transcript.
+pub record PlayNoted (opening : Opening) (more : List Round) (ss ss' : List Standing) (old new : Transcript) : Type 0 where
+  pub own : List (List Replied)
+  pub plays : PlayMore opening more own ss ss'
+  pub notes : NotesRounds own old new
 
 -- ---- after the last round
 
@@ -61,10 +66,8 @@ pub record FirstReads (opening : Opening) (key : List ℕ) (reply : Reply) (old 
 
 -- What was played is legal for these batches, each of them that is answered synced is acked, a journal that died stays dead, and all
 -- of them were seen by each session when they had met for the last time.
-pub record ArePlayedLegally (opening : Opening) (rounds : List Round) (answers : List (List Answer)) (met : List Standing)
+pub record ArePlayedLegally (opening : Opening) (rounds : List Round) (replies : List (List Replied)) (met : List Standing)
     (batches : List Batch) (state : State) : Type 0 where
-  pub replies : List (List Replied)
-  pub answers_are : answers ≡ map answers_of replies
   pub legal : (died : Bool) → (state.dead ≢ None → IsTrue died) → AreLegal (first_of opening) opening.base died rounds batches replies
   pub synced : AllByRecursion (SyncedAreAmong batches (acked state)) replies
   pub lasting : DeathLasts replies
@@ -74,8 +77,8 @@ pub record ArePlayedLegally (opening : Opening) (rounds : List Round) (answers :
 pub record EndsPlay (tells : Bool) (opening : Opening) (readers : ReadersView) (batches : List Batch) (state : State) (v : DiskView)
     (visible count : ℕ) : Type 0 where
   pub keeps : JournalOutcome tells opening.start batches state v
-  pub legally : (rounds : List Round) (answers : List (List Answer)) → HavePlayed opening rounds answers readers.met
-      → ArePlayedLegally opening rounds answers readers.met batches state
+  pub legally : (rounds : List Round) (replies : List (List Replied)) → HavePlayed opening rounds replies readers.met
+      → ArePlayedLegally opening rounds replies readers.met batches state
   pub within : (s : Standing) → Contains readers.now s → IsPrefixOf s.seen batches
   pub visible_is : visible ≡ end_after (first_of opening) (opening.base ++ batches)
   pub count_is : count ≡ length batches

@@ -1,13 +1,14 @@
 -- How rounds are played by sessions beside one another (docs/formats/program.md, "The run of a script").
-use Rattle.std.specs.Prelude.{◌≡◌, ℕ, List, [], ◌∷◌, length, map, Some, slice_get}
+use Rattle.std.specs.Prelude.{◌≡◌, ℕ, List, [], ◌∷◌, length, Some, slice_get}
 use Rattle.session_script.specs.declared.script.Line.{Line}
 use Rattle.session_script.specs.declared.script.Round.{Round}
 use Rattle.session_script.specs.Legal.{Replied, RepliesTo, replies_of_session}
 use Rattle.commit_pipeline.specs.Openings.{Opening}
 use Rattle.commit_pipeline.specs.declared.standing.Standing.{Standing}
 use Rattle.commit_pipeline.specs.Meeting.{HaveMet}
-use Rattle.session_rounds.specs.declared.answers.Answer.{Answer}
+use Rattle.session_rounds.specs.declared.transcript.Transcript.{Transcript}
 use Rattle.session_rounds.specs.Acts.{DoesLines}
+use Rattle.session_rounds.specs.Transcripts.{NotesReplies}
 
 -- Each session has done its lines of a round, which are answered by these replies.
 pub record PlaysRound (opening : Opening) (lines : List Line) (ss : List Standing) (replies : List Replied) (ss' : List Standing)
@@ -25,12 +26,8 @@ PlaysRounds opening ss (round ∷ rounds) [] ss' = ⊥
 PlaysRounds opening ss (round ∷ rounds) (replies ∷ more) ss' =
     (mid met : List Standing) × PlaysRound opening round.lines ss replies mid × HaveMet mid met × PlaysRounds opening met rounds more ss'
 
--- what is said of the lines, each time with the number of its session
-abbrev pub answers_of : List Replied → List Answer
-answers_of replies = map (λ (r : Replied). record { session = r.line.session; said = r.said }) replies
-
--- The sessions have played a round, and these are the answers.
-pub record AnswersPlayed (opening : Opening) (lines : List Line) (ss ss' : List Standing) (answers : List Answer) : Type 0 where
+-- The sessions have played a round, and what was said is added to the transcript.
+pub record RoundPlayed (opening : Opening) (lines : List Line) (ss ss' : List Standing) (old new : Transcript) : Type 0 where
   pub replies : List Replied
   pub plays : PlaysRound opening lines ss replies ss'
-  pub answers_are : answers ≡ answers_of replies
+  pub notes : NotesReplies replies old new

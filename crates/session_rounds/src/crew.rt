@@ -35,6 +35,8 @@ pub(crate) struct Crew<'s, 'a, E, D: Disk, G: Gate, N: PipeName, M: Ledger, R> {
     pub(crate) pipe: &'s Pipeline<'a, D, G, N, M>,
     /// The others, while they have nothing to play.
     pub(crate) idle: Vec<Hand<N, M>>,
+    /// How many lines were played since the shards were settled.
+    pub(crate) unsettled: usize,
 }
 
 impl<
@@ -52,6 +54,7 @@ impl<
         ensures { IfOk result (λ ended. PlayAll N.opening turns.items ended.items) }
     {
         let sharing = sharing_of(turns.as_slice());
+        self.unsettled = self.unsettled.saturating_add(sharing.lines);
         let (busy, own) = self.share_out(turns, sharing)?;
         let own = play_part(self.rt, self.alloc, self.pipe, own);
         self.gather_parts(busy, own, sharing.asks_for_sync)

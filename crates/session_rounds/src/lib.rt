@@ -9,7 +9,6 @@
 //! answered synced is acked, and that a journal that died stays dead.
 #![tactic(auto)]
 
-mod answers;
 mod course;
 mod crew;
 mod handing;
@@ -18,12 +17,13 @@ mod parts;
 mod players;
 mod playing;
 mod readers;
+mod transcript;
 mod turns;
 
-pub use answers::{Answer, Answers};
 pub use course::Course;
 pub use players::Players;
 pub use readers::Readers;
+pub use transcript::Transcript;
 
 #[cfg(test)]
 mod tests;

@@ -41,6 +41,8 @@ pub(crate) struct Sharing {
     pub(crate) working: usize,
     /// So many of these are in a part.
     pub(crate) size: usize,
+    /// So many lines they have together.
+    pub(crate) lines: usize,
     /// Whether one of them asks for a sync. Then those whose batches wait for it are to share it, so each is played by a thread
     /// of its own, however late that begins.
     pub(crate) asks_for_sync: bool,
@@ -70,6 +72,7 @@ pub(crate) fn sharing_of<N: PipeName, M: Ledger>(turns: &[Turn<N, M>]) -> Sharin
     Sharing {
         working,
         size,
+        lines,
         asks_for_sync,
     }
 }

@@ -3,10 +3,10 @@
 ghost use Rattle.std.specs.Prelude.{◌≡◌, ◌+◌, [], ◌∷◌, length, IfOk};
 ghost use Rattle.session_script.specs.Script.{LinesAreOfSome};
 ghost use Rattle.commit_pipeline.specs.Meeting.{HaveMet};
-ghost use Rattle.session_rounds.specs.Players.{AllowsPolls, PlayMore};
+ghost use Rattle.session_rounds.specs.Players.{AllowsPolls, PlayNoted};
 
-use crate::answers::Answers;
 use crate::crew::Crew;
+use crate::transcript::Transcript;
 use commit_pipeline::{Gate, PipeName, Pipeline, Sessions};
 use core::scope::Scope;
 use disk_face::{Disk, StallDisk};
@@ -17,6 +17,10 @@ use std::sync::Wait;
 use std::sync::ledger::Ledger;
 use std::thread::Threads;
 use wal_base::NoMemory;
+
+/// So many lines are played at most before the shards are settled: what their batches change takes memory twice over until then. Each
+/// settling begins with nodes of the index that are in no cache, so fewer lines would make it slower.
+const UNSETTLED_MAX: usize = 32_768;
 
 /// The sessions of a pipeline, which nobody else has: so they meet after each round. They play on threads of a scope, which are
 /// started as rounds first need them, and end with the players. Contracts see what each session has seen.
@@ -58,6 +62,7 @@ impl<'s, 'a, E, D: Disk, G: Gate, N: PipeName, M: Ledger, R> Players<'s, 'a, E, 
             alloc,
             pipe,
             idle: Vec::new(alloc),
+            unsettled: 0,
         };
         Players { crew, sessions }
     }
@@ -75,26 +80,6 @@ impl<'s, 'a, E, D: Disk, G: Gate, N: PipeName, M: Ledger, R> Players<'s, 'a, E, 
     }
 }
 
-impl<'s, 'a, E, D: Disk, G: Gate, N: PipeName, M: Ledger, R: Wait> Players<
-    's,
-    'a,
-    E,
-    D,
-    G,
-    N,
-    M,
-    R,
-> {
-    /// All sessions meet.
-    fn meet(self) -> Result<Players<'s, 'a, E, D, G, N, M, R>, NoMemory>
-        ensures { IfOk result (λ met. HaveMet self.entry met) }
-    {
-        let Players { crew, mut sessions } = self;
-        crew.pipe.meet(crew.rt, &mut sessions)?;
-        Ok(Players { crew, sessions })
-    }
-}
-
 impl<
     's,
     'a,
@@ -105,37 +90,63 @@ impl<
     M: Ledger + Send + Sync,
     R: Threads + Wait + Sync,
 > Players<'s, 'a, E, D, G, N, M, R> {
+    /// All sessions meet, and settle the shards where it is time.
+    fn meet(self) -> Result<Players<'s, 'a, E, D, G, N, M, R>, NoMemory>
+        ensures { IfOk result (λ met. HaveMet self.entry met) }
+    {
+        let Players { crew, mut sessions } = self;
+        crew.pipe.meet(crew.rt, &mut sessions)?;
+        Ok(Players { crew, sessions }.settled_in_time())
+    }
+
+    /// The sessions settle the shards, where so many lines were played since they last did. Nothing of it is seen.
+    fn settled_in_time(self) -> Players<'s, 'a, E, D, G, N, M, R>
+        ensures { result ≡ self.entry }
+    {
+        let mut players = self;
+        if players.crew.unsettled >= UNSETTLED_MAX {
+            players.crew.unsettled = 0;
+            players
+                .crew
+                .pipe
+                .settle(players.crew.rt, players.sessions.as_mut_slice());
+        }
+        players
+    }
+
     /// Plays a round: its stalls first, in their order, and then the lines of its sessions beside one another, after which all
-    /// sessions meet. The answers stand session by session. Where memory runs out the sessions that still can end the round, and
-    /// `Err` is answered.
+    /// sessions meet. What is said to the lines is added to the transcript, session by session. Where memory runs out the sessions
+    /// that still can end the round, and `Err` is answered.
     pub fn play_round(
         self,
         round: Round,
-    ) -> Result<(Players<'s, 'a, E, D, G, N, M, R>, Answers), NoMemory>
+        transcript: &mut Transcript,
+    ) -> Result<Players<'s, 'a, E, D, G, N, M, R>, NoMemory>
         requires named { LinesAreOfSome (length self) round.lines }
         requires may { AllowsPolls N.opening round.stalls }
-        ensures { IfOk result (λ played. PlayMore N.opening (round ∷ []) (played.1 ∷ []) self.entry played.0) }
+        ensures { IfOk result
+            (λ ended. PlayNoted N.opening (round ∷ []) self.entry ended transcript.old transcript.new) }
     {
         let Players { mut crew, sessions } = self;
         let Round { stalls, lines } = round;
         leave_polls(crew.rt, crew.pipe, stalls);
-        let (sessions, answers) = crew.play_lines(sessions, lines)?;
-        let players = Players { crew, sessions }.meet()?;
-        Ok((players, answers))
+        let sessions = crew.play_lines(sessions, lines, transcript)?;
+        Players { crew, sessions }.meet()
     }
 
     /// Plays a round of a load in the same way. It stalls nothing, and each session makes its lines itself.
     pub fn play_load_round(
         self,
         round: LoadRound,
-    ) -> Result<(Players<'s, 'a, E, D, G, N, M, R>, Answers), NoMemory>
+        transcript: &mut Transcript,
+    ) -> Result<Players<'s, 'a, E, D, G, N, M, R>, NoMemory>
         requires named { LinesAreOfSome (length self) round.lines }
-        ensures { IfOk result (λ played. PlayMore N.opening (round ∷ []) (played.1 ∷ []) self.entry played.0) }
+        ensures { IfOk result
+            (λ ended. PlayNoted N.opening (round ∷ []) self.entry ended transcript.old transcript.new) }
     {
         let Players { mut crew, sessions } = self;
-        let (sessions, answers) = crew.play_load_lines(sessions, round)?;
-        let players = Players { crew, sessions }.meet()?;
-        Ok((players, answers))
+        let sessions = crew.play_load_lines(sessions, round, transcript)?;
+        Players { crew, sessions }.meet()
     }
 }
 

@@ -1,13 +1,13 @@
 //! A round, played by the sessions beside one another.
 
-ghost use Rattle.std.specs.Prelude.{◌≡◌, ◌++◌, length, map, IfOk, OnOk};
-ghost use Rattle.std.specs.List.{flat_map};
+ghost use Rattle.std.specs.Prelude.{◌≡◌, length, map, IfOk, OnOk};
 ghost use Rattle.session_script.specs.Script.{LinesAreOfSome};
-ghost use Rattle.session_rounds.specs.Playing.{AnswersPlayed};
-ghost use Rattle.session_rounds.specs.Turns.{beginning, session_of, answers_in, CountsLines, AreDealt, NoneStarved, PlaysTurns};
+ghost use Rattle.session_rounds.specs.Playing.{RoundPlayed};
+ghost use Rattle.session_rounds.specs.Transcripts.{blank_of};
+ghost use Rattle.session_rounds.specs.Turns.{beginning, session_of, join_all, CountsLines, AreDealt, NoneStarved, PlaysTurns};
 
-use crate::answers::Answers;
 use crate::crew::Crew;
+use crate::transcript::Transcript;
 use crate::turns::Turn;
 use commit_pipeline::{Gate, PipeName, Sessions};
 use disk_face::Disk;
@@ -29,18 +29,20 @@ impl<
     R: Threads + Wait + Sync,
 > Crew<'s, 'a, E, D, G, N, M, R> {
     /// Plays the lines of a round: each session that has some does them in their order, beside the others. A session without a line
-    /// costs no thread. The answers stand session by session. A session that runs out of memory stops, the others go on, and then
-    /// `Err` is answered.
+    /// costs no thread. What is said is added to the transcript, session by session. A session that runs out of memory stops, the
+    /// others go on, and then `Err` is answered.
     pub(crate) fn play_lines(
         &mut self,
         sessions: Sessions<N, M>,
         lines: Lines,
-    ) -> Result<(Sessions<N, M>, Answers), NoMemory>
+        transcript: &mut Transcript,
+    ) -> Result<Sessions<N, M>, NoMemory>
         requires { LinesAreOfSome (length sessions.items) lines }
-        ensures { IfOk result (λ played. AnswersPlayed N.opening lines sessions.items played.0.items played.1) }
+        ensures { IfOk result
+            (λ ended. RoundPlayed N.opening lines sessions.items ended.items transcript.old transcript.new) }
     {
-        let turns = deal(self.alloc, sessions, lines)?;
-        self.play_turns(turns)
+        let turns = deal(self.alloc, sessions, lines, transcript)?;
+        self.play_turns(turns, transcript)
     }
 
     /// Plays the lines of a round of a load in the same way. Each session makes its lines itself, before it does the first one.
@@ -48,35 +50,42 @@ impl<
         &mut self,
         sessions: Sessions<N, M>,
         round: LoadRound,
-    ) -> Result<(Sessions<N, M>, Answers), NoMemory>
+        transcript: &mut Transcript,
+    ) -> Result<Sessions<N, M>, NoMemory>
         requires { LinesAreOfSome (length sessions.items) round.lines }
         ensures { IfOk result
-            (λ played. AnswersPlayed N.opening round.lines sessions.items played.0.items played.1) }
+            (λ ended. RoundPlayed N.opening round.lines sessions.items ended.items transcript.old transcript.new) }
     {
-        let turns = share(self.alloc, sessions, &round)?;
-        self.play_turns(turns)
+        let turns = share(self.alloc, sessions, &round, transcript)?;
+        self.play_turns(turns, transcript)
     }
 
-    /// Plays turns beside one another.
-    fn play_turns(&mut self, turns: Vec<Turn<N, M>>) -> Result<(Sessions<N, M>, Answers), NoMemory>
-        ensures { IfOk result (λ played. PlaysTurns N.opening turns.items played.0.items played.1) }
+    /// Plays turns beside one another. What is said is added to the transcript, turn by turn.
+    fn play_turns(
+        &mut self,
+        turns: Vec<Turn<N, M>>,
+        transcript: &mut Transcript,
+    ) -> Result<Sessions<N, M>, NoMemory>
+        ensures { IfOk result
+            (λ ended. PlaysTurns N.opening turns.items ended.items transcript.old transcript.new) }
     {
         let ended = self.play_all(turns)?;
-        gather(self.alloc, ended)
+        gather(self.alloc, ended, transcript)
     }
 }
 
-/// Gives each session its lines, in their order.
+/// Gives each session its lines, in their order. Their transcripts keep lines where this one does.
 pub(crate) fn deal<N: PipeName, M: Ledger>(
     alloc: Global,
     sessions: Sessions<N, M>,
     lines: Lines,
+    transcript: &Transcript,
 ) -> Result<Vec<Turn<N, M>>, NoMemory>
     requires { LinesAreOfSome (length sessions.items) lines }
-    ensures { IfOk result (λ turns. AreDealt sessions.items lines turns.items) }
+    ensures { IfOk result (λ turns. AreDealt (blank_of transcript.now) sessions.items lines turns.items) }
 {
     let rooms = count_lines(alloc, sessions.len(), lines.as_slice())?;
-    let mut turns = begin_all(alloc, sessions, rooms.as_slice())?;
+    let mut turns = begin_all(alloc, sessions, rooms.as_slice(), transcript)?;
     let mut left = lines;
     while let Some(line) = left.pop() {
         let session = line.session as usize;
@@ -106,13 +115,15 @@ fn begin_all<N: PipeName, M: Ledger>(
     alloc: Global,
     sessions: Sessions<N, M>,
     rooms: &[usize],
+    transcript: &Transcript,
 ) -> Result<Vec<Turn<N, M>>, NoMemory>
-    ensures { IfOk result (λ turns. turns.items ≡ map beginning sessions.items) }
+    ensures { IfOk result (λ turns. turns.items ≡ map (beginning (blank_of transcript.now)) sessions.items) }
 {
     let mut turns = Vec::with_capacity(alloc, sessions.len())?;
     for session in sessions {
         let room = rooms.get(turns.len()).copied().unwrap_or(0);
-        turns.push(Turn::of(alloc, session, room)?)?;
+        let told = transcript.blank(alloc, room)?;
+        turns.push(Turn::of(alloc, session, room, told)?)?;
     }
     Ok(turns)
 }
@@ -122,42 +133,35 @@ pub(crate) fn share<N: PipeName, M: Ledger>(
     alloc: Global,
     sessions: Sessions<N, M>,
     round: &LoadRound,
+    transcript: &Transcript,
 ) -> Result<Vec<Turn<N, M>>, NoMemory>
-    ensures { IfOk result (λ turns. AreDealt sessions.items round.now.lines turns.items) }
+    ensures { IfOk result
+        (λ turns. AreDealt (blank_of transcript.now) sessions.items round.now.lines turns.items) }
 {
     let mut turns = Vec::with_capacity(alloc, sessions.len())?;
     for session in sessions {
         let own = round.lines_of(turns.len());
-        turns.push(Turn::to_make(alloc, session, own)?)?;
+        let told = transcript.blank(alloc, own.len())?;
+        turns.push(Turn::to_make(alloc, session, own, told))?;
     }
     Ok(turns)
 }
 
-/// Takes the sessions and their answers out of their turns, unless one ran out of memory.
+/// Takes the sessions out of their turns, and adds what was said to them to the transcript, unless one ran out of memory.
 pub(crate) fn gather<N: PipeName, M: Ledger>(
     alloc: Global,
     turns: Vec<Turn<N, M>>,
-) -> Result<(Sessions<N, M>, Answers), NoMemory>
-    ensures sessions { IfOk result (λ ended. ended.0.items ≡ map session_of turns.items) }
-    ensures answers { IfOk result (λ ended. ended.1 ≡ flat_map answers_in turns.items) }
+    transcript: &mut Transcript,
+) -> Result<Sessions<N, M>, NoMemory>
+    ensures sessions { IfOk result (λ ended. ended.items ≡ map session_of turns.items) }
+    ensures told { OnOk result (transcript.new ≡ join_all transcript.old turns.items) }
     ensures whole { OnOk result (NoneStarved turns.items) }
 {
     let mut sessions = Vec::with_capacity(alloc, turns.len())?;
-    let mut all = Answers::new(alloc);
     for turn in turns {
-        let (session, answers) = turn.into_answers()?;
+        let (session, told) = turn.into_told()?;
         sessions.push(session)?;
-        append(&mut all, answers)?;
+        transcript.join(told)?;
     }
-    Ok((sessions, all))
-}
-
-/// Adds answers after others.
-fn append(all: &mut Answers, more: Answers) -> Result<(), NoMemory>
-    ensures { OnOk result (all.new ≡ all.old ++ more) }
-{
-    for answer in more.into_vec() {
-        all.push(answer).map_err(|_| NoMemory)?;
-    }
-    Ok(())
+    Ok(sessions)
 }

@@ -5,13 +5,13 @@ ghost use Rattle.session_script.specs.Script.{LinesAreOfSome};
 ghost use Rattle.commit_pipeline.specs.Openings.{opening_on};
 ghost use Rattle.failover_writer.specs.State.{len};
 
-use crate::{Answer, Answers, Players, Readers};
+use crate::{Players, Readers, Transcript};
 use batch_repr::{Batches, NUMBER_FIRST, Unwritten};
 use commit_pipeline::{Finished, Gate, NoGate, Parts, PipeName, Pipeline, Sessions};
 use disk_face::{Disk, StallDisk};
 use failover_writer::Journal;
 use mem_disk::MemDisk;
-use session_script::{Act, LOAD_SESSIONS, Line, Lines, Load, LoadRound, Round, Said, Stalls};
+use session_script::{Act, LOAD_SESSIONS, Line, Lines, Load, LoadRound, Round, Stalls};
 use std::alloc::Global;
 use std::marker::Brand;
 use std::process::Abort;
@@ -21,19 +21,20 @@ use std::thread;
 use std::thread::Threads;
 use wal_base::{Blob, Entries, Entry};
 
-/// The bytes of one number.
-fn byte(rt: &impl Abort, alloc: Global, number: u8) -> Blob {
-    Blob::copy_of(alloc, &[number]).expect(rt, "memory")
+/// The key of a session.
+fn key_of(rt: &impl Abort, alloc: Global, session: u32) -> Blob {
+    let key = format!(in alloc; "k{session}").expect(rt, "memory");
+    Blob::copy_of(alloc, key.as_bytes()).expect(rt, "memory")
 }
 
-/// A line that sets the session's own key to a value of one byte, synced at odd sessions.
-fn set_line(rt: &impl Abort, alloc: Global, session: u32, value: u8) -> Line
+/// A line that sets the session's own key to 7, synced at odd sessions.
+fn set_line(rt: &impl Abort, alloc: Global, session: u32) -> Line
     ensures { result.session ≡ session }
 {
     let mut entries = Entries::new(alloc);
     let entry = Entry::Set {
-        key: byte(rt, alloc, (session % 256) as u8),
-        value: byte(rt, alloc, value),
+        key: key_of(rt, alloc, session),
+        value: Blob::copy_of(alloc, b"7").expect(rt, "memory"),
     };
     assert!(rt; entries.push(entry).is_ok());
     let batch = Unwritten::of(entries).expect(rt, "a batch of one entry");
@@ -48,7 +49,7 @@ fn set_line(rt: &impl Abort, alloc: Global, session: u32, value: u8) -> Line
 fn get_line(rt: &impl Abort, alloc: Global, session: u32) -> Line
     ensures { result.session ≡ session }
 {
-    let key = byte(rt, alloc, (session % 256) as u8);
+    let key = key_of(rt, alloc, session);
     Line {
         session,
         act: Act::Get { key },
@@ -96,7 +97,7 @@ fn lines_of(rt: &impl Abort, alloc: Global, row: Row) -> Lines
 {
     let mut lines = Lines::new(alloc);
     for k in 0..row.count {
-        let line = set_line(rt, alloc, row.first + (row.count - 1 - k), 7);
+        let line = set_line(rt, alloc, row.first + (row.count - 1 - k));
         assert!(rt; lines.push(line).is_ok());
     }
     for place in 0..row.count {
@@ -123,7 +124,7 @@ fn played<D: StallDisk + Drop + Send, R: Threads + Wait + Abort + Sync>(
     alloc: Global,
     journal: Journal<D>,
     row: Row,
-) -> (Answers, u64)
+) -> (Transcript, u64)
     requires sessions { (1 ≤ row.sessions) × (row.sessions ≤ SESSIONS_MAX) }
     requires row { row.first + row.count ≤ row.sessions }
     requires empty { len journal.state ≡ 0 }
@@ -139,7 +140,7 @@ fn with_table<
     D: StallDisk + Drop + Send,
     N: PipeName + Send + Sync,
     R: Threads + Wait + Abort + Sync,
->(rt: &R, alloc: Global, parts: Parts, journal: Journal<D>, row: Row) -> (Answers, u64)
+>(rt: &R, alloc: Global, parts: Parts, journal: Journal<D>, row: Row) -> (Transcript, u64)
     requires opening { N.opening ≡ opening_on D.view parts.base journal N.opening.start.may_stall }
     requires table { parts.table ≡ N.table }
     requires queue { parts.queue ≡ N.queue }
@@ -157,7 +158,7 @@ fn with_names<
     N: PipeName + Send + Sync,
     M: Ledger + Send + Sync,
     R: Threads + Wait + Abort + Sync,
->(rt: &R, alloc: Global, parts: Parts, journal: Journal<D>, row: Row) -> (Answers, u64)
+>(rt: &R, alloc: Global, parts: Parts, journal: Journal<D>, row: Row) -> (Transcript, u64)
     requires opening { N.opening ≡ opening_on D.view parts.base journal N.opening.start.may_stall }
     requires table { parts.table ≡ N.table }
     requires queue { parts.queue ≡ N.queue }
@@ -171,11 +172,11 @@ fn with_names<
     let Ok((pipe, sessions)) = made else {
         panic!(rt; "memory");
     };
-    let (answers, sessions) = on_threads(rt, alloc, &pipe, sessions, row);
-    (answers, ended(rt, Readers::new(pipe, sessions)))
+    let (transcript, sessions) = on_threads(rt, alloc, &pipe, sessions, row);
+    (transcript, ended(rt, Readers::new(pipe, sessions)))
 }
 
-/// Plays the rounds of a row on the threads of a scope. The answers are those of the last one.
+/// Plays the rounds of a row on the threads of a scope. The transcript is that of the last one.
 fn on_threads<
     D: StallDisk + Drop + Send,
     N: PipeName + Send + Sync,
@@ -187,7 +188,7 @@ fn on_threads<
     pipe: &Pipeline<'_, D, NoGate, N, M>,
     sessions: Sessions<N, M>,
     row: Row,
-) -> (Answers, Sessions<N, M>)
+) -> (Transcript, Sessions<N, M>)
     requires all { (length sessions.items ≡ N.parts) × (length sessions.items + length sessions.items ≡ M.parts) }
     requires row { (row.first + row.count ≤ row.sessions) × (row.sessions ≡ length sessions.items) }
     ensures all { (length result.1.items ≡ N.parts) × (length result.1.items + length result.1.items ≡ M.parts) }
@@ -195,14 +196,14 @@ fn on_threads<
     thread::scope(
         thread::scope_env(),
         rt,
-        move |scope| -> (Answers, Sessions<N, M>)
+        move |scope| -> (Transcript, Sessions<N, M>)
             requires all { (length sessions.items ≡ N.parts) × (length sessions.items + length sessions.items ≡ M.parts) }
             requires row { (row.first + row.count ≤ row.sessions) × (row.sessions ≡ length sessions.items) }
             ensures { (length result.1.items ≡ N.parts) × (length result.1.items + length result.1.items ≡ M.parts) }
         {
             let players = Players::new(rt, alloc, scope, pipe, sessions);
-            let (players, answers) = play_row(rt, alloc, players, row);
-            (answers, players.end_rounds())
+            let (players, transcript) = play_row(rt, alloc, players, row);
+            (transcript, players.end_rounds())
         },
     )
 }
@@ -221,24 +222,25 @@ fn play_row<
     alloc: Global,
     players: Players<'s, 'a, E, D, NoGate, N, M, R>,
     row: Row,
-) -> (Players<'s, 'a, E, D, NoGate, N, M, R>, Answers)
+) -> (Players<'s, 'a, E, D, NoGate, N, M, R>, Transcript)
     requires { (row.first + row.count ≤ row.sessions) × (row.sessions ≡ length players) }
 {
+    let mut transcript = Transcript::new(alloc).expect(rt, "memory");
     if let Some(round) = load_of(row) {
-        let Ok(played) = players.play_load_round(round) else {
+        let Ok(players) = players.play_load_round(round, &mut transcript) else {
             panic!(rt; "memory");
         };
-        return played;
+        return (players, transcript);
     }
     let round = round_of(rt, alloc, row);
-    let Ok((players, _)) = players.play_round(round) else {
+    let Ok(players) = players.play_round(round, &mut Transcript::silent()) else {
         panic!(rt; "memory");
     };
     let again = round_of(rt, alloc, row);
-    let Ok(played) = players.play_round(again) else {
+    let Ok(players) = players.play_round(again, &mut transcript) else {
         panic!(rt; "memory");
     };
-    played
+    (players, transcript)
 }
 
 /// The round of a row.
@@ -272,48 +274,47 @@ fn ended<D: Disk + Drop, G: Gate, N: PipeName, M: Ledger, R: Wait + Abort>(
     batches
 }
 
-/// Whether it is the reply to the commit of the session's one entry.
-fn has_committed(answer: &Answer, session: u32) -> bool {
-    match &answer.said {
-        Said::Committed {
-            first: _,
-            count,
-            synced,
-        } => answer.session == session && *count == 1 && *synced == (session % 2 == 1),
-        _ => false,
-    }
+/// Whether a line tells a session that so many entries were committed, synced or not.
+fn has_committed(
+    rt: &impl Abort,
+    alloc: Global,
+    line: &[u8],
+    session: u32,
+    count: u32,
+    synced: bool,
+) -> bool {
+    let front = format!(in alloc; "s{session} commit ").expect(rt, "memory");
+    let word = if synced { " synced" } else { "" };
+    let back = format!(in alloc; " {count}{word}").expect(rt, "memory");
+    line.starts_with(front.as_bytes()) && line.ends_with(back.as_bytes())
 }
 
-/// Whether it is the reply to the read of what the session has set.
-fn has_read(answer: &Answer, session: u32) -> bool {
-    match &answer.said {
-        Said::Got {
-            key: _,
-            value: Some(value),
-            visible: _,
-        } => answer.session == session && value.as_slice() == [7u8].as_slice(),
-        _ => false,
-    }
+/// Whether a line tells a session what it has set.
+fn has_read(rt: &impl Abort, alloc: Global, line: &[u8], session: u32) -> bool {
+    let front = format!(in alloc; "s{session} get k{session} = 7 @").expect(rt, "memory");
+    line.starts_with(front.as_bytes())
 }
 
-/// Plays a round twice over, and asserts of the second time that the answers stand session by session.
+/// Plays a round twice over, and asserts of the second time that the lines stand session by session.
 fn plays<R: Threads + Wait + Abort + Sync>(rt: &R, alloc: Global, row: Row)
     requires sessions { (1 ≤ row.sessions) × (row.sessions ≤ SESSIONS_MAX) }
     requires row { row.first + row.count ≤ row.sessions }
 {
     let journal = new_journal(rt, alloc);
-    let (answers, batches) = played(rt, alloc, journal, row);
+    let (transcript, batches) = played(rt, alloc, journal, row);
     assert_eq!(rt; batches, 2 * u64::from(row.count));
-    let mut left = answers.as_slice().iter();
+    assert!(rt; !transcript.limited);
+    let text = transcript.text.expect(rt, "a text");
+    let mut left = text.as_slice().split(|byte| *byte == b'\n');
     for k in 0..row.count {
         let session = row.first + k;
-        assert!(rt;
-            left.next()
-                .is_some_and(|answer| has_committed(answer, session))
-        );
-        assert!(rt; left.next().is_some_and(|answer| has_read(answer, session)));
+        let line = left.next().expect(rt, "the reply to a commit");
+        assert!(rt; has_committed(rt, alloc, line, session, 1, session % 2 == 1));
+        let line = left.next().expect(rt, "the reply to a read");
+        assert!(rt; has_read(rt, alloc, line, session));
     }
-    assert!(rt; left.next().is_none());
+    let rest = left.next().expect(rt, "the end");
+    assert!(rt; rest.is_empty() && left.next().is_none());
 }
 
 #[test]
@@ -330,21 +331,6 @@ fn sessions_without_a_line_answer_nothing(rt: HostRuntime) {
     plays(&rt, rt.alloc(), chosen(64, 40, 3));
 }
 
-/// Whether it is the reply to the commit of this batch of a load.
-fn has_loaded(answer: &Answer, index: u32) -> bool {
-    match &answer.said {
-        Said::Committed {
-            first: _,
-            count,
-            synced,
-        } => {
-            let entries = if index % 8 == 7 { 2 } else { 1 };
-            answer.session == index % 4 && *count == entries && *synced == (index % 16 == 15)
-        }
-        _ => false,
-    }
-}
-
 /// Plays the first round of a load, and asserts that its batches are answered session by session.
 fn plays_load<R: Threads + Wait + Abort + Sync>(rt: &R, alloc: Global, batches: u32) {
     let row = Row {
@@ -354,17 +340,21 @@ fn plays_load<R: Threads + Wait + Abort + Sync>(rt: &R, alloc: Global, batches: 
         batches,
     };
     let journal = new_journal(rt, alloc);
-    let (answers, committed) = played(rt, alloc, journal, row);
+    let (transcript, committed) = played(rt, alloc, journal, row);
     assert_eq!(rt; committed, u64::from(batches));
-    let mut left = answers.as_slice().iter();
+    let text = transcript.text.expect(rt, "a text");
+    let mut left = text.as_slice().split(|byte| *byte == b'\n');
     for session in 0..4u32 {
         for index in 0..batches {
             if index % 4 == session {
-                assert!(rt; left.next().is_some_and(|answer| has_loaded(answer, index)));
+                let entries = if index % 8 == 7 { 2 } else { 1 };
+                let line = left.next().expect(rt, "the reply to a commit");
+                assert!(rt; has_committed(rt, alloc, line, session, entries, index % 16 == 15));
             }
         }
     }
-    assert!(rt; left.next().is_none());
+    let rest = left.next().expect(rt, "the end");
+    assert!(rt; rest.is_empty() && left.next().is_none());
 }
 
 #[test]

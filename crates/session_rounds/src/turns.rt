@@ -5,7 +5,7 @@ ghost use Rattle.session_script.specs.declared.script.Act.TheVariants.{Commit};
 ghost use Rattle.session_rounds.specs.Acts.{Does};
 ghost use Rattle.session_rounds.specs.Turns.{has_line, beginning, turn_with, with_line, PlaysTurn};
 
-use crate::answers::{Answer, Answers};
+use crate::transcript::Transcript;
 use batch_repr::Unnumbered;
 use commit_pipeline::{CommitFault, Gate, PipeName, Pipeline, Session};
 use disk_face::Disk;
@@ -17,7 +17,7 @@ use std::sync::Wait;
 use std::sync::ledger::Ledger;
 use wal_base::NoMemory;
 
-/// A session with its lines of a round and their answers.
+/// A session with its lines of a round and what was said to them.
 #[derive(Drop)]
 pub(crate) struct Turn<N: PipeName, M: Ledger> {
     session: Session<N, M>,
@@ -25,7 +25,7 @@ pub(crate) struct Turn<N: PipeName, M: Ledger> {
     lines: VecDeque<Line>,
     /// Those after them, which the turn makes itself.
     unmade: LoadLines,
-    answers: Answers,
+    told: Transcript,
     starved: bool,
 }
 
@@ -38,44 +38,46 @@ impl<N: PipeName, M: Ledger> Model for Turn<N, M> {
     ghost view = { λ t. record {
       session = t.session;
       lines = t.lines.items ++ t.unmade;
-      answers = t.answers;
+      told = t.told;
       starved = t.starved;
     } };
 }
 
 impl<N: PipeName, M: Ledger> Turn<N, M> {
-    /// A session with no line, and room for so many and their answers.
+    /// A session with no line, and room for so many. What is said to them is added to the transcript.
     pub(crate) fn of(
         alloc: Global,
         session: Session<N, M>,
         room: usize,
+        told: Transcript,
     ) -> Result<Turn<N, M>, NoMemory>
-        ensures { IfOk result (λ turn. turn ≡ beginning session) }
+        ensures { IfOk result (λ turn. turn ≡ beginning told session) }
     {
         Ok(Turn {
             session,
             lines: VecDeque::with_capacity(alloc, room)?,
             unmade: LoadLines::none(),
-            answers: Answers::with_capacity(alloc, room)?,
+            told,
             starved: false,
         })
     }
 
-    /// A session with lines that it makes itself, and room for their answers.
+    /// A session with lines that it makes itself. What is said to them is added to the transcript.
     pub(crate) fn to_make(
         alloc: Global,
         session: Session<N, M>,
         unmade: LoadLines,
-    ) -> Result<Turn<N, M>, NoMemory>
-        ensures { IfOk result (λ turn. turn ≡ turn_with session unmade) }
+        told: Transcript,
+    ) -> Turn<N, M>
+        ensures { result ≡ turn_with told session unmade }
     {
-        Ok(Turn {
+        Turn {
             session,
             lines: VecDeque::new(alloc),
-            answers: Answers::with_capacity(alloc, unmade.len())?,
             unmade,
+            told,
             starved: false,
-        })
+        }
     }
 
     /// Adds a line before those that it has.
@@ -133,11 +135,7 @@ impl<N: PipeName, M: Ledger> Turn<N, M> {
         while let Some(line) = self.next_line(alloc)? {
             let number = line.session;
             let said = answer(rt, alloc, pipe, &mut self.session, line.act)?;
-            let answered = Answer {
-                session: number,
-                said,
-            };
-            self.answers.push(answered).map_err(|_| NoMemory)?;
+            self.told.note(number, said)?;
         }
         Ok(())
     }
@@ -153,23 +151,23 @@ impl<N: PipeName, M: Ledger> Turn<N, M> {
         Ok(self.lines.pop_front())
     }
 
-    /// Its session and the answers, unless it ran out of memory.
-    pub(crate) fn into_answers(self) -> Result<(Session<N, M>, Answers), NoMemory>
+    /// Its session and what was said, unless it ran out of memory.
+    pub(crate) fn into_told(self) -> Result<(Session<N, M>, Transcript), NoMemory>
         ensures session { IfOk result (λ ended. ended.0 ≡ self.session) }
-        ensures answers { IfOk result (λ ended. ended.1 ≡ self.answers) }
+        ensures told { IfOk result (λ ended. ended.1 ≡ self.told) }
         ensures whole { OnOk result (self.starved ≡ false) }
     {
         let Turn {
             session,
             lines: _,
             unmade: _,
-            answers,
+            told,
             starved,
         } = self;
         if starved {
             return Err(NoMemory);
         }
-        Ok((session, answers))
+        Ok((session, told))
     }
 }
 

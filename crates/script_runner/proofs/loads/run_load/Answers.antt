@@ -14,4 +14,4 @@ pub loop-round-preserved : goal.loop-round-preserved
 loop-round-preserved g c =
     round_more g.N.PipeName.opening c.args.players c.args.load c.loop-round.load c.next_round.new.self c.in-Some.round
     c.loop-round.players c.silent-transcript.result c.loop-round.transcript c.loop-round.invariant c.in-Some.ensures.some
-    c.in_ok-ended.answers c.in_ok-ended.ended c.note_all.new.self c.in_ok-ended.ensures c.in_ok-note_all.ensures
+    c.in_ok-players.players c.play_load_round.new.transcript c.in_ok-players.ensures

@@ -35,7 +35,7 @@ loop-round-preserved g c =
     record {
       so = round_more g.N.PipeName.opening c.args.players c.args.rounds c.loop-round.left.items c.pop_front.new.self.items c.in-Some.round
           c.loop-round.players c.args.transcript.now c.loop-round.transcript c.loop-round.invariant.so c.in-Some.ensures.items
-          c.in_ok-ended.answers c.in_ok-ended.ended c.note_all.new.self c.in_ok-ended.ensures c.in_ok-note_all.ensures;
+          c.in_ok-players.players c.play_round.new.transcript c.in_ok-players.ensures;
       may = next.1;
     }
 

@@ -4,5 +4,5 @@ use Rattle.session_rounds.proofs.crew.Crew.play_turns.Goals as goal
 
 pub returns : goal.returns
 returns g c =
-    turns_played g.N.PipeName.opening c.args.turns.items c.in_ok-ended.ended.items c.gather.result c.in_ok-ended.ensures
-    c.gather.ensures.sessions c.gather.ensures.answers c.gather.ensures.whole
+    turns_played g.N.PipeName.opening c.args.turns.items c.in_ok-ended.ended.items c.args.transcript.now c.gather.new.transcript c.gather.result
+    c.in_ok-ended.ensures c.gather.ensures.sessions c.gather.ensures.told c.gather.ensures.whole
