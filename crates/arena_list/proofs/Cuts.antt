@@ -1,5 +1,5 @@
 -- A level that is cut where a search stops, and what stands there.
-use Rattle.std.proofs.Common.{◌≡◌, ◌≢◌, ◌⊎◌, inl, inr, ℕ, ◌+◌, ◌<◌, ◌≤◌, List, [], ◌∷◌, ◌++◌, length, Contains, Some, Ordering, Less, Equal, nat_cmp, refl, sym, ap, ◌∙◌, subst, arith, append_assoc}
+use Rattle.std.proofs.Common.{◌≡◌, ◌≢◌, ◌⊎◌, inl, inr, ℕ, ◌+◌, ◌-◌, ◌<◌, ◌≤◌, List, [], ◌∷◌, ◌++◌, length, Contains, Some, Ordering, Less, Equal, nat_cmp, refl, sym, ap, ◌∙◌, subst, arith, append_assoc, slice_index}
 use Rattle.std.specs.Ordering.{ordering_then}
 use Rattle.std.specs.Cmp.Lexicographic.{slice_cmp}
 use Rattle.std.proofs.lemmas.Bool.{cases_lt}
@@ -11,10 +11,10 @@ use Rattle.arena_list.specs.Versions.{KeyVersion, GoesBefore, Precedes, IsAt, Ho
 use Rattle.arena_list.specs.Newest.{HasNoneOfKey, IsNewestOf}
 use Rattle.arena_list.specs.Chains.{LeadsAlong, path, last_of}
 use Rattle.arena_list.specs.Nodes.{version_at, next_on, places_on, versions_on, AscendPlaces, IsLevel, IsLinked}
-use Rattle.arena_list.specs.Steps.{IsCut, MayGoOn, MayStop}
+use Rattle.arena_list.specs.Steps.{IsCut, MayGoOn, MayStop, AreCutsTo, AreLastsFor}
 use Rattle.arena_list.proofs.Chains.{split_at, follows_rest, follows_after, not_the_end, path_of, last_cases}
-use Rattle.arena_list.proofs.Orders.{before_along, before_cases, same_key_before, keys_tied}
-use Rattle.arena_list.proofs.Levels.{mapped, unmapped, ascend_across, ascend_back}
+use Rattle.arena_list.proofs.Orders.{before_along, before_cases, never_before_itself, same_key_before, keys_tied}
+use Rattle.arena_list.proofs.Levels.{mapped, unmapped, ascend_across, ascend_back, within_lowest, within_lower}
 
 -- ---- along a level
 
@@ -183,6 +183,29 @@ cut_last nodes level key number last cut = elim (last_cases 0 cut.before) [
       (Contains-append_left cut.before cut.after last (subst (Contains cut.before) (sym cut.ends) there)))
 ]
 
+-- it is there
+pub cut_within : (nodes : List Node) (linked : IsLinked nodes) (level : ℕ) (less : level < LEVELS) (key : List ℕ) (number last : ℕ) → 0 < length nodes
+    → IsCut nodes level key number last → last < length nodes
+cut_within nodes linked level less key number last some cut = elim (cut_last nodes level key number last cut) [
+  | inl head ↦ omega (arith, head, some)
+  | inr held ↦ ((linked.levels level less).held last held).0
+]
+
+-- what a search tells for a level is the head or holds a version, too, whether it went there or not
+pub told_last : (nodes : List Node) (key : List ℕ) (number height : ℕ) (lasts : List ℕ) → AreCutsTo nodes key number height lasts → (level : ℕ) → level < LEVELS
+    → (slice_index lasts level ≡ 0) ⊎ Contains (places_on nodes level) (slice_index lasts level)
+told_last nodes key number height lasts cuts level less = elim (cuts.high level less) [
+  | inl cut ↦ cut_last nodes level key number (slice_index lasts level) cut
+  | inr head ↦ inl head
+]
+
+pub last_for : (nodes : List Node) (key : List ℕ) (number place : ℕ) (lasts : List ℕ) → AreLastsFor nodes key number place lasts → (level : ℕ) → level < LEVELS
+    → (slice_index lasts level ≡ 0) ⊎ Contains (places_on nodes level) (slice_index lasts level)
+last_for nodes key number place lasts own level less = elim (own level less) [
+  | inl cut ↦ cut_last nodes level key number (slice_index lasts level) cut
+  | inr none ↦ inl none.1
+]
+
 not_less : (version : KeyVersion) (key : List ℕ) → version.key ≡ key → slice_cmp nat_cmp version.key key ≡ Less → ⊥
 not_less version key same less =
     let tied : slice_cmp nat_cmp version.key key ≡ Equal = ap (λ (k : List ℕ). slice_cmp nat_cmp k key) same ∙ keys_tied key in absurd cc
@@ -323,3 +346,64 @@ module _ (nodes : List Node) (linked : IsLinked nodes) (key : List ℕ) (number 
           → (next_on nodes 0 last ≢ 0) × IsAt (version_at nodes (next_on nodes 0 last)) key number
       go (p, h, is) = subst (λ (v : KeyVersion). IsAt v key number → (next_on nodes 0 last ≢ 0) × IsAt (version_at nodes (next_on nodes 0 last)) key number)
           is (place p h)
+
+-- what the lowest level leads on to where it is cut, and another level does not, is not linked at that one
+pub not_linked : (nodes : List Node) (linked : IsLinked nodes) (key : List ℕ) (number level last low place : ℕ) → level < LEVELS
+    → IsCut nodes level key number last → IsCut nodes 0 key number low → place ≡ next_on nodes 0 low → next_on nodes level last ≢ place
+    → Contains (places_on nodes level) place → ⊥
+not_linked nodes linked key number level last low place less cut lowest is other h =
+    elim (Contains-append_cases cut.before cut.after place (subst (λ (l : List ℕ). Contains l place) cut.is h)) [
+      | inl before ↦ late (cut.early place before)
+      | inr after ↦ go cut.after (follows_cut nodes level key number last linked less cut)
+          (ascend_back nodes cut.before cut.after (subst (AscendPlaces nodes) cut.is (linked.levels level less).ascends))
+          (λ x there early. cut.late x there early)
+          (λ x there. within_lowest nodes linked level x less
+          (subst (λ (l : List ℕ). Contains l x) (sym cut.is) (Contains-append_right cut.before cut.after x there)))
+          after
+    ]
+  where
+    some : place ≢ 0
+    some = not_the_end (next_on nodes level) (next_on nodes level 0) (places_on nodes level) (linked.levels level less).follows place h
+
+    late : GoesBefore (version_at nodes place) key number → ⊥
+    late early = lowest.late (next_on nodes 0 low) (next_after nodes linked key number low lowest (λ e. some (is ∙ e)))
+        (subst (λ (p : ℕ). GoesBefore (version_at nodes p) key number) is early)
+
+    go : (after : List ℕ) → LeadsAlong (next_on nodes level) (next_on nodes level last) after → AscendPlaces nodes after
+        → ((x : ℕ) → Contains after x → GoesBefore (version_at nodes x) key number → ⊥)
+        → ((x : ℕ) → Contains after x → Contains (places_on nodes 0) x) → Contains after place → ⊥
+    go [] f a late_of there in_after = none_within place in_after
+    go (q ∷ after) f a late_of there in_after = elim (within_cases q after place in_after) [
+      | inl same ↦ other (f.0 ∙ same)
+      | inr rest ↦ elim (sides nodes linked key number low lowest q (there q (within_head q after))) [
+        | inl before ↦ late_of q (within_head q after) (lowest.early q before)
+        | inr back ↦ elim ((after_sides nodes linked key number low lowest q back).1) [
+          | inl e ↦ never_before_itself (version_at nodes place)
+              (subst (λ (w : ℕ). Precedes (version_at nodes w) (version_at nodes place)) (e ∙ sym is) (a.0 place rest))
+          | inr later ↦ never_before_itself (version_at nodes q)
+              (before_along (version_at nodes q) (version_at nodes place) (version_at nodes q).key (version_at nodes q).number (a.0 place rest)
+              (subst (λ (w : ℕ). Precedes (version_at nodes w) (version_at nodes q)) (sym is) later))
+        ]
+      ]
+    ]
+
+-- where the highest level that was searched does not lead on to the place, the place is linked at none from there on
+pub lasts_above : (nodes : List Node) (linked : IsLinked nodes) (key : List ℕ) (number level : ℕ) (lasts : List ℕ) (place : ℕ) → level + 1 < LEVELS
+    → AreCutsTo nodes key number (level + 1) lasts → place ≡ next_on nodes 0 (slice_index lasts 0) → next_on nodes level (slice_index lasts level) ≢ place
+    → AreLastsFor nodes key number place lasts
+lasts_above nodes linked key number level lasts place some cuts is other at less = elim (cuts.high at less) [
+  | inl cut ↦ inl cut
+  | inr head ↦ elim (cases_lt at (level + 1)) [
+    | inl low ↦ inl (cuts.low at low)
+    | inr up ↦ inr (λ h. none (lower up h), head)
+  ]
+]
+  where
+    lower : level + 1 ≤ at → Contains (places_on nodes at) place → Contains (places_on nodes level) place
+    lower up h =
+        let parts : at ≡ level + (at - level) = omega (arith, up) in
+        within_lower nodes linked level (at - level) place (omega (arith, up, less)) (subst (λ (n : ℕ). Contains (places_on nodes n) place) parts h)
+
+    none : Contains (places_on nodes level) place → ⊥
+    none = not_linked nodes linked key number level (slice_index lasts level) (slice_index lasts 0) place (omega (arith, some))
+        (cuts.low level (omega arith)) (cuts.low 0 (omega arith)) is other

@@ -4,22 +4,23 @@ use Rattle.std.proofs.lemmas.Bool.{cases_lt}
 use Rattle.std.proofs.lemmas.List.{length-map}
 use Rattle.std.proofs.lemmas.List.Elements.{Contains-append_left, Contains-append_right}
 use Rattle.wal_base.proofs.Laws.{within_cases}
-use Rattle.arena_list.specs.declared.node.TheConstants.{LEVELS}
+use Rattle.arena_list.specs.declared.node.TheConstants.{LEVELS, GUIDE_HEIGHT}
 use Rattle.arena_list.specs.declared.node.Node.{Node}
+use Rattle.arena_list.specs.declared.guide.Guide.{Guide}
 use Rattle.arena_list.specs.declared.node.Held.TheVariants.{Deletion, Set}
 use Rattle.arena_list.specs.declared.links.FreeList.{FreeList}
 use Rattle.arena_list.specs.Versions.{KeyVersion, version_with, Precedes, HoldsVersion, Adds}
 use Rattle.arena_list.specs.Arena.{UsesPlace}
 use Rattle.arena_list.specs.Chains.{LeadsAlong}
 use Rattle.arena_list.specs.Nodes.{is_vacant, held_of, version_in, node_at, version_at, next_on, places_on, versions_on, arena_of, AscendPlaces, HasNode, IsLevel, IsLinked, AreFree, IsArena}
-use Rattle.arena_list.specs.Steps.{IsCut, AreCuts, AreWithin, AreOtherPlaces, TakesPlace, PutsIn}
-use Rattle.arena_list.specs.Tops.{IsTop, IsTopCut, PutsInTop}
+use Rattle.arena_list.specs.Steps.{IsCut, AreCutsTo, AreWithin, AreOtherPlaces, TakesPlace, PutsIn}
+use Rattle.arena_list.specs.Tops.{places_of, IsTop, IsTopCut, PutsInTop}
 use Rattle.arena_list.proofs.Chains.{amid_there, amid_more, amid_cases, follows_distinct_head, follows_same, not_the_end, spliced_in}
 use Rattle.arena_list.proofs.Orders.{after_others}
 use Rattle.arena_list.proofs.Levels.{mapped, unmapped, version_same, ascend_same, ascend_in, level_is, level_of, within_lowest}
-use Rattle.arena_list.proofs.Cuts.{cut_last}
+use Rattle.arena_list.proofs.Cuts.{told_last}
 use Rattle.arena_list.proofs.Free.{IsTaken, is_taken}
-use Rattle.arena_list.proofs.Tops.{top_kept, top_more}
+use Rattle.arena_list.proofs.Tops.{Stays, top_kept, top_more}
 
 -- A place that held nothing has this version now, and is linked in after these so many levels high.
 pub record IsJoined (old new : List Node) (lasts : List ℕ) (place height : ℕ) (version : KeyVersion) : Type 0 where
@@ -36,7 +37,7 @@ pub record IsJoined (old new : List Node) (lasts : List ℕ) (place height : ℕ
   pub others : (level other : ℕ) → other ≢ place → (level < height → other ≢ slice_index lasts level) → next_on new level other ≡ next_on old level other
 
 module _ (old new : List Node) (lasts : List ℕ) (place height : ℕ) (version : KeyVersion) (linked : IsLinked old)
-    (cuts : AreCuts old version.key version.number lasts) (absent : HoldsVersion (versions_on old 0) version.key version.number → ⊥)
+    (cuts : AreCutsTo old version.key version.number height lasts) (absent : HoldsVersion (versions_on old 0) version.key version.number → ⊥)
     (joined : IsJoined old new lasts place height version) where
   apart : (level x : ℕ) → level < LEVELS → Contains (places_on old level) x → x ≢ place
   apart level x less h e = joined.fresh (subst (Contains (places_on old 0)) e (within_lowest old linked level x less h))
@@ -134,7 +135,7 @@ module _ (old new : List Node) (lasts : List ℕ) (place height : ℕ) (version 
 
   pub joined_level : (level : ℕ) → level < LEVELS → IsLevel new level (places_on new level)
   joined_level level less = elim (cases_lt level height) [
-    | inl up ↦ level_of new level ((cuts level less).before ++ place ∷ (cuts level less).after) (higher level less up (cuts level less))
+    | inl up ↦ level_of new level ((cuts.low level up).before ++ place ∷ (cuts.low level up).after) (higher level less up (cuts.low level up))
     | inr up ↦ level_of new level (places_on old level) (above level less up)
   ]
 
@@ -142,7 +143,7 @@ module _ (old new : List Node) (lasts : List ℕ) (place height : ℕ) (version 
   pub joined_cases : (level x : ℕ) → level < LEVELS → Contains (places_on new level) x → Contains (places_on old level) x ⊎ ((x ≡ place) × (level < height))
   joined_cases level x less h = elim (cases_lt level height) [
     | inl up ↦
-        let cut = cuts level less in
+        let cut = cuts.low level up in
         elim (amid_cases cut.before cut.after place x
         (subst (λ (l : List ℕ). Contains l x) (level_is new level (cut.before ++ place ∷ cut.after) (higher level less up cut)) h)) [
           | inl is ↦ inr (sym is, up)
@@ -154,7 +155,7 @@ module _ (old new : List Node) (lasts : List ℕ) (place height : ℕ) (version 
   pub joined_more : (level x : ℕ) → level < LEVELS → Contains (places_on old level) x → Contains (places_on new level) x
   joined_more level x less h = elim (cases_lt level height) [
     | inl up ↦
-        let cut = cuts level less in
+        let cut = cuts.low level up in
         subst (λ (l : List ℕ). Contains l x) (sym (level_is new level (cut.before ++ place ∷ cut.after) (higher level less up cut)))
         (amid_more cut.before cut.after place x (subst (λ (l : List ℕ). Contains l x) cut.is h))
     | inr up ↦ subst (λ (l : List ℕ). Contains l x) (sym (level_is new level (places_on old level) (above level less up))) h
@@ -162,7 +163,7 @@ module _ (old new : List Node) (lasts : List ℕ) (place height : ℕ) (version 
 
   pub joined_here : (level : ℕ) → level < LEVELS → level < height → Contains (places_on new level) place
   joined_here level less up =
-      let cut = cuts level less in
+      let cut = cuts.low level up in
       subst (λ (l : List ℕ). Contains l place) (sym (level_is new level (cut.before ++ place ∷ cut.after) (higher level less up cut)))
       (amid_there cut.before cut.after place)
 
@@ -209,7 +210,7 @@ module _ (old new : List Node) (lasts : List ℕ) (place height : ℕ) (version 
 
   pub joined_longer : 0 < height → length (places_on new 0) ≡ length (places_on old 0) + 1
   joined_longer up =
-      let cut = cuts 0 (omega arith) in
+      let cut = cuts.low 0 up in
       omega (
         arith,
         ap length (level_is new 0 (cut.before ++ place ∷ cut.after) (higher 0 (omega arith) up cut)),
@@ -231,7 +232,7 @@ module _ (old new : List Node) (lasts : List ℕ) (place height : ℕ) (version 
   }
     where
       not_last : (x : ℕ) → Contains frees x → x ≡ slice_index lasts 0 → ⊥
-      not_last x h e = elim (cut_last old 0 version.key version.number (slice_index lasts 0) (cuts 0 (omega arith))) [
+      not_last x h e = elim (told_last old version.key version.number height lasts cuts 0 (omega arith)) [
         | inl head ↦ not_the_end (next_on old 0) first frees free.follows x h (e ∙ head)
         | inr held ↦
             let vacant : is_vacant (node_at old x).held ≡ true = (free.vacant x h).1 in
@@ -251,8 +252,8 @@ made_filled : (key : List ℕ) (value : Option (List ℕ)) → is_vacant (held_o
 made_filled key None = refl
 made_filled key (Some bytes) = refl
 
-module _ (old mid : List Node) (free left : FreeList) (lasts : List ℕ) (place : ℕ) (key : List ℕ) (seq : ℕ)
-    (arena : IsArena old free.first free.count) (cuts : AreCuts old key seq lasts) (taken : TakesPlace old free place mid left) where
+module _ (old mid : List Node) (free left : FreeList) (lasts : List ℕ) (place height : ℕ) (key : List ℕ) (seq : ℕ)
+    (arena : IsArena old free.first free.count) (cuts : AreCutsTo old key seq height lasts) (taken : TakesPlace old free place mid left) where
   taken_as : IsTaken old free place mid left
   taken_as = is_taken old mid free left place arena.frees (omega (arith, arena.all)) arena.linked arena.free taken
 
@@ -260,18 +261,18 @@ module _ (old mid : List Node) (free left : FreeList) (lasts : List ℕ) (place 
   taken_within = (is_taken old mid free left place arena.frees (omega (arith, arena.all)) arena.linked arena.free taken).within
 
   pub lasts_within : AreWithin mid lasts
-  lasts_within level less = elim (cut_last old level key seq (slice_index lasts level) (cuts level less)) [
+  lasts_within level less = elim (told_last old key seq height lasts cuts level less) [
     | inl head ↦ omega (arith, head, taken_as.longer, arena.all)
     | inr held ↦ omega (arith, ((arena.linked.levels level less).held (slice_index lasts level) held).0, taken_as.longer)
   ]
 
   pub lasts_apart : AreOtherPlaces lasts place
-  lasts_apart level less e = elim (cut_last old level key seq (slice_index lasts level) (cuts level less)) [
+  lasts_apart level less e = elim (told_last old key seq height lasts cuts level less) [
     | inl head ↦ taken_as.some (sym e ∙ head)
     | inr held ↦ taken_as.fresh (subst (Contains (places_on old 0)) e (within_lowest old arena.linked level (slice_index lasts level) less held))
   ]
 
-  module _ (new : List Node) (height : ℕ) (value : Option (List ℕ)) (absent : HoldsVersion (versions_on old 0) key seq → ⊥)
+  module _ (new : List Node) (value : Option (List ℕ)) (absent : HoldsVersion (versions_on old 0) key seq → ⊥)
       (up : 0 < height) (most : height ≤ LEVELS)
       (put : PutsIn mid lasts place height (held_of key value) seq new) where
     joins : IsJoined old new lasts place height (version_with key seq value)
@@ -325,29 +326,26 @@ module _ (old mid : List Node) (free left : FreeList) (lasts : List ℕ) (place 
         go (inl reused) = inl (reused.0, reused.1, omega (arith, more, reused.1))
         go (inr made) = inr (made.0, made.1, omega (arith, more, made.0, made.1))
 
-    -- the places that a search looks at first
-    pub insertion_top : (top new_top : List ℕ) (index : ℕ) → IsTop old top → IsTopCut old top key seq index → PutsInTop top index place height new_top
-        → IsTop new new_top
-    insertion_top top new_top index is cut (inl same) = subst (IsTop new) (sym same) (top_kept old new top is kept)
+    -- the entries that a search looks at first
+    pub insertion_top : (top new_top : List Guide) (index : ℕ) → IsTop old top → IsTopCut old (places_of top) key seq index
+        → PutsInTop new top index place height new_top → IsTop new new_top
+    insertion_top top new_top index is cut puts = go puts
       where
-        kept : (x : ℕ) → Contains top x → (version_at new x ≡ version_at old x) × Contains (places_on new (LEVELS - 1)) x
-        kept x h = (
+        stays : (x : ℕ) → Contains (places_of top) x → Stays old new x
+        stays x h = (
           version_kept old new lasts place height (version_with key seq value) arena.linked cuts absent joins x
-              (apart old new lasts place height (version_with key seq value) arena.linked cuts absent joins (LEVELS - 1) x (omega arith) (is.linked x h)),
-          joined_more old new lasts place height (version_with key seq value) arena.linked cuts absent joins (LEVELS - 1) x (omega arith) (is.linked x h),
+              (apart old new lasts place height (version_with key seq value) arena.linked cuts absent joins (GUIDE_HEIGHT - 1) x (omega arith)
+              (is.places.linked x h)),
+          λ level less there. joined_more old new lasts place height (version_with key seq value) arena.linked cuts absent joins level x less there,
         )
-    insertion_top top new_top index is cut (inr (high, more)) = subst (IsTop new) (sym more)
-        (top_more old new top is place (version_with key seq value) index cut kept joins.is
-        (joined_here old new lasts place height (version_with key seq value) arena.linked cuts absent joins (LEVELS - 1) (omega arith) (omega (arith, high)))
-        (λ x h at. absent (
-          version_at old x,
-          mapped (version_at old) (places_on old 0) x (within_lowest old arena.linked (LEVELS - 1) x (omega arith) (is.linked x h)),
-          at,
-        )))
-      where
-        kept : (x : ℕ) → Contains top x → (version_at new x ≡ version_at old x) × Contains (places_on new (LEVELS - 1)) x
-        kept x h = (
-          version_kept old new lasts place height (version_with key seq value) arena.linked cuts absent joins x
-              (apart old new lasts place height (version_with key seq value) arena.linked cuts absent joins (LEVELS - 1) x (omega arith) (is.linked x h)),
-          joined_more old new lasts place height (version_with key seq value) arena.linked cuts absent joins (LEVELS - 1) x (omega arith) (is.linked x h),
-        )
+
+        go : PutsInTop new top index place height new_top → IsTop new new_top
+        go (inl same) = subst (IsTop new) (sym same) (top_kept old new top is stays)
+        go (inr (high, guide, to, more)) = subst (IsTop new) (sym more)
+            (top_more old new top is place height (version_with key seq value) index guide cut stays joins.is
+            (λ level less low. joined_here old new lasts place height (version_with key seq value) arena.linked cuts absent joins level less low)
+            (λ x h at. absent (
+              version_at old x,
+              mapped (version_at old) (places_on old 0) x (within_lowest old arena.linked (GUIDE_HEIGHT - 1) x (omega arith) (is.places.linked x h)),
+              at,
+            )) high to)

@@ -1,21 +1,22 @@
 -- One place less, linked out of each level and put on the free list.
-use Rattle.std.proofs.Common.{◌≡◌, ◌≢◌, inl, inr, ℕ, ◌+◌, ◌-◌, ◌<◌, true, false, List, [], ◌∷◌, ◌++◌, length, Contains, refl, sym, ap, ◌∙◌, subst, arith, slice_index, length-append}
+use Rattle.std.proofs.Common.{◌≡◌, ◌≢◌, inl, inr, ℕ, ◌+◌, ◌<◌, true, false, List, [], ◌∷◌, ◌++◌, length, Contains, refl, sym, ap, ◌∙◌, subst, arith, slice_index, length-append}
 use Rattle.std.proofs.lemmas.Bool.{cases_eq}
 use Rattle.std.proofs.lemmas.List.{length-map}
 use Rattle.std.proofs.lemmas.List.Elements.{Contains-append_cases}
 use Rattle.wal_base.proofs.Laws.{none_within, within_head, within_cases}
 use Rattle.arena_list.specs.declared.node.TheConstants.{LEVELS}
 use Rattle.arena_list.specs.declared.node.Node.{Node}
+use Rattle.arena_list.specs.declared.guide.Guide.{Guide}
 use Rattle.arena_list.specs.Versions.{KeyVersion, GoesBefore, IsAt, LeavesOut}
 use Rattle.arena_list.specs.Arena.{places_in}
 use Rattle.arena_list.specs.Chains.{LeadsAlong, last_of}
 use Rattle.arena_list.specs.Nodes.{is_vacant, node_at, version_at, next_on, places_on, versions_on, arena_of, AscendPlaces, HasNode, IsLevel, IsLinked, AreFree, IsArena}
-use Rattle.arena_list.specs.Steps.{IsCut, AreCuts, AreWithin, TakesOut}
-use Rattle.arena_list.specs.Tops.{IsTop, IsTopCut, TakesFromTop}
+use Rattle.arena_list.specs.Steps.{IsCut, AreLastsFor, AreWithin, TakesOut}
+use Rattle.arena_list.specs.Tops.{places_of, IsTop, IsTopCut, TakesFromTop}
 use Rattle.arena_list.proofs.Chains.{amid_more, amid_cases, distinct_out, follows_distinct, follows_distinct_head, follows_same, last_cases, not_the_end, spliced_out}
 use Rattle.arena_list.proofs.Orders.{never_before_itself}
 use Rattle.arena_list.proofs.Levels.{mapped, unmapped, version_same, ascend_same, ascend_out, ascend_back, ascend_apart, level_is, level_of}
-use Rattle.arena_list.proofs.Cuts.{cut_last, follows_cut}
+use Rattle.arena_list.proofs.Cuts.{cut_last, last_for, next_there, follows_cut}
 use Rattle.arena_list.proofs.Tops.{top_less}
 
 -- The places of a level with one of them left out.
@@ -27,7 +28,7 @@ pub record LeavesPlace (old new : List Node) (level place : ℕ) : Type 0 where
   pub shorter : Contains (places_on old level) place → length places + 1 ≡ length (places_on old level)
 
 module _ (old new : List Node) (lasts : List ℕ) (place first : ℕ) (linked : IsLinked old)
-    (cuts : AreCuts old (version_at old place).key (version_at old place).number lasts)
+    (own : AreLastsFor old (version_at old place).key (version_at old place).number place lasts)
     (held : Contains (places_on old 0) place) (left : TakesOut old lasts place first new) where
   pub version_kept : (x : ℕ) → x ≢ place → version_at new x ≡ version_at old x
   version_kept x other = version_same (node_at new x) (node_at old x) (left.held x other) (left.seq x other)
@@ -44,7 +45,7 @@ module _ (old new : List Node) (lasts : List ℕ) (place first : ℕ) (linked : 
 
   -- the place before it is another place
   last_other : (level : ℕ) → level < LEVELS → slice_index lasts level ≢ place
-  last_other level less e = go (cuts level less)
+  last_other level less e = elim (own level less) [ inl cut ↦ go cut | inr none ↦ some (sym e ∙ none.1) ]
     where
       go : IsCut old level (version_at old place).key (version_at old place).number (slice_index lasts level) → ⊥
       go cut = elim (cut_last old level (version_at old place).key (version_at old place).number (slice_index lasts level) cut) [
@@ -136,8 +137,16 @@ module _ (old new : List Node) (lasts : List ℕ) (place first : ℕ) (linked : 
       link x other = left.others level x other (λ e _ to. leads (ap (next_on old level) (sym e) ∙ to))
 
   pub left_level : (level : ℕ) → level < LEVELS → LeavesPlace old new level place
-  left_level level less = go (cuts level less)
+  left_level level less = elim (own level less) [
+    | inl cut ↦ go cut
+    | inr none ↦ kept level less none.0 (λ leads. none.0 (first_linked (sym (ap (next_on old level) none.1) ∙ leads)))
+  ]
     where
+      first_linked : next_on old level 0 ≡ place → Contains (places_on old level) place
+      first_linked leads =
+          let n = next_there (next_on old level) (next_on old level 0) (places_on old level) (linked.levels level less).follows (λ e. some (sym leads ∙ e)) in
+          subst (λ (ps : List ℕ). Contains ps place) (sym n.1) (subst (λ (p : ℕ). Contains (p ∷ n.0) place) (sym leads) (within_head place n.0))
+
       go : IsCut old level (version_at old place).key (version_at old place).number (slice_index lasts level) → LeavesPlace old new level place
       go cut = at cut.after cut.is (λ x h. cut.late x h)
           (follows_cut old level (version_at old place).key (version_at old place).number (slice_index lasts level) linked less cut)
@@ -262,7 +271,7 @@ module _ (old new : List Node) (lasts : List ℕ) (place first : ℕ) (linked : 
           absurd cc
 
       not_last : (x : ℕ) → Contains frees x → x ≡ slice_index lasts 0 → ⊥
-      not_last x h e = elim (cut_last old 0 (version_at old place).key (version_at old place).number (slice_index lasts 0) (cuts 0 (omega arith))) [
+      not_last x h e = elim (last_for old (version_at old place).key (version_at old place).number place lasts own 0 (omega arith)) [
         | inl head ↦ not_the_end (next_on old 0) first frees free.follows x h (e ∙ head)
         | inr in_level ↦
             let vacant : is_vacant (node_at old x).held ≡ true = (free.vacant x h).1 in
@@ -274,25 +283,27 @@ module _ (old new : List Node) (lasts : List ℕ) (place first : ℕ) (linked : 
 -- ---- a removal as a whole
 
 module _ (old new : List Node) (lasts : List ℕ) (place first count : ℕ) (key : List ℕ) (seq : ℕ) (arena : IsArena old first count)
-    (cuts : AreCuts old key seq lasts) (held : Contains (places_on old 0) place) (at : IsAt (version_at old place) key seq) where
-  own_cuts : AreCuts old (version_at old place).key (version_at old place).number lasts
-  own_cuts = subst (λ (k : List ℕ). AreCuts old k (version_at old place).number lasts) (sym at.0) (subst (λ (n : ℕ). AreCuts old key n lasts) (sym at.1) cuts)
+    (lasts_are : AreLastsFor old key seq place lasts) (held : Contains (places_on old 0) place) (at : IsAt (version_at old place) key seq) where
+  own_lasts : AreLastsFor old (version_at old place).key (version_at old place).number place lasts
+  own_lasts =
+      subst (λ (k : List ℕ). AreLastsFor old k (version_at old place).number place lasts) (sym at.0)
+      (subst (λ (n : ℕ). AreLastsFor old key n place lasts) (sym at.1) lasts_are)
 
   pub held_within : place < length old
   held_within = ((arena.linked.levels 0 (omega arith)).held place held).0
 
   pub lasts_within : AreWithin old lasts
-  lasts_within level less = elim (cut_last old level key seq (slice_index lasts level) (cuts level less)) [
+  lasts_within level less = elim (last_for old key seq place lasts lasts_are level less) [
     | inl head ↦ omega (arith, head, arena.all)
     | inr there ↦ ((arena.linked.levels level less).held (slice_index lasts level) there).0
   ]
 
   pub removal_arena : TakesOut old lasts place first new → IsArena new place (count + 1)
   removal_arena left = record {
-    linked = left_linked old new lasts place first arena.linked own_cuts held left;
+    linked = left_linked old new lasts place first arena.linked own_lasts held left;
     frees = place ∷ arena.frees;
-    free = left_free old new lasts place first arena.linked own_cuts held left count arena.frees arena.free;
-    all = omega (arith, left_shorter old new lasts place first arena.linked own_cuts held left, left.len, arena.all);
+    free = left_free old new lasts place first arena.linked own_lasts held left count arena.frees arena.free;
+    all = omega (arith, left_shorter old new lasts place first arena.linked own_lasts held left, left.len, arena.all);
     few = omega (arith, left.len, arena.few);
   }
 
@@ -300,24 +311,24 @@ module _ (old new : List Node) (lasts : List ℕ) (place first count : ℕ) (key
   removal_leaves left =
       subst (λ (k : List ℕ). LeavesOut (versions_on old 0) k seq (versions_on new 0)) at.0
       (subst (λ (n : ℕ). LeavesOut (versions_on old 0) (version_at old place).key n (versions_on new 0)) at.1
-      (left_leaves old new lasts place first arena.linked own_cuts held left))
+      (left_leaves old new lasts place first arena.linked own_lasts held left))
 
   pub removal_places : TakesOut old lasts place first new → places_in (arena_of new (count + 1)) ≡ places_in (arena_of old count)
   removal_places left =
       omega (
         arith,
-        left_shorter old new lasts place first arena.linked own_cuts held left,
+        left_shorter old new lasts place first arena.linked own_lasts held left,
         length-map (places_on new 0) (version_at new),
         length-map (places_on old 0) (version_at old),
       )
 
-  -- the places that a search looks at first
-  pub removal_top : (top left_top : List ℕ) (index : ℕ) → IsTop old top → IsTopCut old top key seq index → TakesFromTop top index place left_top
-      → TakesOut old lasts place first new → IsTop new left_top
+  -- the entries that a search looks at first
+  pub removal_top : (top left_top : List Guide) (index : ℕ) → IsTop old top → IsTopCut old (places_of top) key seq index
+      → TakesFromTop top index place left_top → TakesOut old lasts place first new → IsTop new left_top
   removal_top top left_top index is cut drops left = top_less old new top is place index left_top
-      (subst (λ (k : List ℕ). IsTopCut old top k (version_at old place).number index) (sym at.0)
-      (subst (λ (n : ℕ). IsTopCut old top key n index) (sym at.1) cut)) drops
+      (subst (λ (k : List ℕ). IsTopCut old (places_of top) k (version_at old place).number index) (sym at.0)
+      (subst (λ (n : ℕ). IsTopCut old (places_of top) key n index) (sym at.1) cut)) drops
       (λ x h other. (
-        version_kept old new lasts place first arena.linked own_cuts held left x other,
-        left_more old new lasts place first arena.linked own_cuts held left (LEVELS - 1) x (omega arith) (is.linked x h) other,
+        version_kept old new lasts place first arena.linked own_lasts held left x other,
+        λ level less there. left_more old new lasts place first arena.linked own_lasts held left level x less there other,
       ))

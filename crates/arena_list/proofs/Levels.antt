@@ -122,6 +122,20 @@ within_lowest nodes is (suc level) place less h =
     one_more : (n : ℕ) → suc n ≡ n + 1
     one_more n = omega arith
 
+-- what is linked at a level is linked at each one below
+pub within_lower : (nodes : List Node) → IsLinked nodes → (low more place : ℕ) → low + more < LEVELS → Contains (places_on nodes (low + more)) place
+    → Contains (places_on nodes low) place
+within_lower nodes is low zero place less h = subst (λ (n : ℕ). Contains (places_on nodes n) place) (no_more low) h
+  where
+    no_more : (n : ℕ) → n + zero ≡ n
+    no_more n = omega arith
+within_lower nodes is low (suc more) place less h =
+    within_lower nodes is low more place (omega (arith, less))
+    (is.below (low + more) place (omega (arith, less)) (subst (λ (n : ℕ). Contains (places_on nodes n) place) (one_more low more) h))
+  where
+    one_more : (m n : ℕ) → m + suc n ≡ m + n + 1
+    one_more m n = omega arith
+
 -- what is seen of a level
 pub on_level_is : (nodes : List Node) (count level : ℕ) → level < LEVELS → on_level (arena_of nodes count) level ≡ versions_on nodes level
 on_level_is nodes count level less = get_or-map-range_with_len (versions_on nodes) 0 LEVELS level level [] less (omega arith)

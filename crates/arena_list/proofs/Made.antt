@@ -3,8 +3,9 @@ use Rattle.std.proofs.Common.{◌≡◌, ◌≢◌, inl, inr, ℕ, ◌+◌, ◌-
 use Rattle.std.specs.List.{range_with_len}
 use Rattle.std.proofs.lemmas.List.FromFn.{length-map-range_with_len, get_or-map-range_with_len, fill_by_all}
 use Rattle.wal_base.proofs.Laws.{none_within, within_cases}
-use Rattle.arena_list.specs.declared.node.TheConstants.{LEVELS}
+use Rattle.arena_list.specs.declared.node.TheConstants.{LEVELS, GUIDE_HEIGHT}
 use Rattle.arena_list.specs.declared.node.Node.{Node}
+use Rattle.arena_list.specs.declared.guide.Guide.{Guide}
 use Rattle.arena_list.specs.Versions.{KeyVersion}
 use Rattle.arena_list.specs.Arena.{Arena}
 use Rattle.arena_list.specs.Chains.{LeadsAlong}
@@ -86,10 +87,10 @@ module _ (old new : List Node) (place first : ℕ) (arena : IsArena old first 0)
       within : place < length new
       within = omega (arith, makes.at, longer)
 
-  pub made_top : (top : List ℕ) → IsTop old top → IsTop new top
+  pub made_top : (top : List Guide) → IsTop old top → IsTop new top
   made_top top is = top_kept old new top is (λ x h. (
-    ap version_in (linked_same (LEVELS - 1) x (omega arith) (is.linked x h)),
-    in_new (LEVELS - 1) x (omega arith) (is.linked x h),
+    ap version_in (linked_same (GUIDE_HEIGHT - 1) x (omega arith) (is.places.linked x h)),
+    λ level less there. in_new level x less there,
   ))
 
   -- no more than the number of free places is seen to differ

@@ -44,6 +44,14 @@ less_numbers m n less = go (nat_cmp m n) refl
     go Equal is = absurd (omega (arith, less, ranked m n Equal is))
     go Greater is = absurd (omega (arith, less, ranked m n Greater is))
 
+pub greater_numbers : (m n : ℕ) → n < m → nat_cmp m n ≡ Greater
+greater_numbers m n less = go (nat_cmp m n) refl
+  where
+    go : (o : Ordering) → o ≡ nat_cmp m n → nat_cmp m n ≡ Greater
+    go Less is = absurd (omega (arith, less, ranked m n Less is))
+    go Equal is = absurd (omega (arith, less, ranked m n Equal is))
+    go Greater is = sym is
+
 pub keys_tied : (xs : List ℕ) → slice_cmp nat_cmp xs xs ≡ Equal
 keys_tied xs = tied_itself nat_list_cmp_total xs
 

@@ -8,7 +8,7 @@ use Rattle.arena_list.specs.declared.node.Node.{Node}
 use Rattle.arena_list.specs.Versions.{KeyVersion, GoesBefore, Precedes}
 use Rattle.arena_list.specs.Chains.{LeadsAlong}
 use Rattle.arena_list.specs.Nodes.{version_at, next_on, places_on, AscendPlaces, IsLinked}
-use Rattle.arena_list.specs.Steps.{IsCut, MayGoOn, MayStop, AreCuts, TakesOut}
+use Rattle.arena_list.specs.Steps.{IsCut, MayGoOn, MayStop, AreCuts, AreLastsFor, TakesOut}
 use Rattle.arena_list.proofs.Chains.{split_at, follows_rest, last_cases, not_the_end}
 use Rattle.arena_list.proofs.Orders.{before_along, never_before_itself}
 use Rattle.arena_list.proofs.Levels.{ascend_across, ascend_back, ascend_apart, within_lowest}
@@ -142,7 +142,7 @@ module _ (nodes : List Node) (linked : IsLinked nodes) (front back : List ℕ) (
       → TakesOut nodes lasts place first new → AreCuts new (version_at new next).key (version_at new next).number lasts
   cut_left new lasts first cuts left level less =
       subst (λ (v : KeyVersion). IsCut new level v.key v.number (slice_index lasts level)) (sym (same next next_other))
-      (cut_here new (left_linked nodes new lasts place first linked cuts in_lowest left) level less (version_at nodes next).key
+      (cut_here new (left_linked nodes new lasts place first linked own in_lowest left) level less (version_at nodes next).key
       (version_at nodes next).number last (goes (cut_goes nodes level (version_at nodes place).key (version_at nodes place).number last cut)) stops)
     where
       last : ℕ
@@ -151,8 +151,11 @@ module _ (nodes : List Node) (linked : IsLinked nodes) (front back : List ℕ) (
       cut : IsCut nodes level (version_at nodes place).key (version_at nodes place).number last
       cut = cuts level less
 
+      own : AreLastsFor nodes (version_at nodes place).key (version_at nodes place).number place lasts
+      own l low = inl (cuts l low)
+
       same : (x : ℕ) → x ≢ place → version_at new x ≡ version_at nodes x
-      same x other = version_kept nodes new lasts place first linked cuts in_lowest left x other
+      same x other = version_kept nodes new lasts place first linked own in_lowest left x other
 
       after_other : (x : ℕ) → Precedes (version_at nodes place) (version_at nodes x) → x ≢ place
       after_other x p e = never_before_itself (version_at nodes place) (subst (λ (y : ℕ). Precedes (version_at nodes place) (version_at nodes y)) e p)
@@ -171,7 +174,7 @@ module _ (nodes : List Node) (linked : IsLinked nodes) (front back : List ℕ) (
       goes (inr (there, early)) =
           let other : last ≢ place = last_other (inr (there, early)) in
           inr (
-            left_more nodes new lasts place first linked cuts in_lowest left level last less there other,
+            left_more nodes new lasts place first linked own in_lowest left level last less there other,
             subst (λ (v : KeyVersion). GoesBefore v (version_at nodes next).key (version_at nodes next).number) (sym (same last other))
                 (before_along (version_at nodes last) (version_at nodes place) (version_at nodes next).key (version_at nodes next).number early goes_next),
           )

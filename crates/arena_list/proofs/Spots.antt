@@ -4,16 +4,17 @@ use Rattle.std.specs.Prelude.{unwrap_or}
 use Rattle.std.proofs.lemmas.List.Elements.{Contains-append_left, Contains-append_right}
 use Rattle.std.proofs.lemmas.List.{take-append-drop}
 use Rattle.wal_base.proofs.Laws.{none_within, within_head, within_tail, within_cases}
-use Rattle.arena_list.specs.declared.node.TheConstants.{LEVELS}
+use Rattle.arena_list.specs.declared.node.TheConstants.{LEVELS, GUIDE_HEIGHT}
 use Rattle.arena_list.specs.declared.node.Held.{Held}
 use Rattle.arena_list.specs.declared.node.Held.TheVariants.{Vacant, Deletion, Set}
 use Rattle.arena_list.specs.declared.node.Node.{Node}
+use Rattle.arena_list.specs.declared.guide.Guide.{Guide}
 use Rattle.arena_list.specs.Versions.{KeyVersion, version_with, GoesBefore, Precedes}
 use Rattle.arena_list.specs.Spots.{IsLastBefore, IsFirstFrom}
 use Rattle.arena_list.specs.Chains.{last_of}
-use Rattle.arena_list.specs.Nodes.{key_of, value_of, is_vacant, held_of, unless_vacant, version_in, no_node, node_at, version_at, next_on, places_on, versions_on, AscendPlaces, IsLinked, IsArena}
-use Rattle.arena_list.specs.Steps.{IsCut, AreCuts}
-use Rattle.arena_list.specs.Tops.{IsTop, IsTopCut}
+use Rattle.arena_list.specs.Nodes.{key_of, value_of, is_vacant, held_of, unless_vacant, version_in, node_at, version_at, next_on, places_on, versions_on, AscendPlaces, IsLinked, IsArena}
+use Rattle.arena_list.specs.Steps.{IsCut, AreLastsFor}
+use Rattle.arena_list.specs.Tops.{places_of, IsTop, IsTopCut}
 use Rattle.arena_list.proofs.Chains.{last_cases, not_the_end}
 use Rattle.arena_list.proofs.Orders.{before_along, never_before_itself}
 use Rattle.arena_list.proofs.Levels.{mapped, unmapped, ascend_across, within_lowest, read_at}
@@ -146,61 +147,62 @@ module _ (nodes : List Node) (linked : IsLinked nodes) (key : List ℕ) (number 
       low : (p : ℕ) → Contains (one.before ++ one.after) p → Contains (places_on nodes 0) p
       low p h = within_lowest nodes linked level p less (subst (λ (l : List ℕ). Contains l p) (sym one.is) h)
 
-  pub same_top_cut : next_on nodes 0 last ≢ 0 → (top : List ℕ) (index : ℕ) → IsTop nodes top → IsTopCut nodes top key number index
-      → IsTopCut nodes top (version_at nodes (next_on nodes 0 last)).key (version_at nodes (next_on nodes 0 last)).number index
+  pub same_top_cut : next_on nodes 0 last ≢ 0 → (top : List Guide) (index : ℕ) → IsTop nodes top → IsTopCut nodes (places_of top) key number index
+      → IsTopCut nodes (places_of top) (version_at nodes (next_on nodes 0 last)).key (version_at nodes (next_on nodes 0 last)).number index
   same_top_cut some top index is one = record {
     within = one.within;
-    early = λ p h. early_both some p (low p (Contains-append_left (take index top) (drop index top) p h)) (one.early p h);
-    late = λ p h. late_both p (low p (Contains-append_right (take index top) (drop index top) p h)) (one.late p h);
+    early = λ p h. early_both some p (low p (Contains-append_left (take index (places_of top)) (drop index (places_of top)) p h)) (one.early p h);
+    late = λ p h. late_both p (low p (Contains-append_right (take index (places_of top)) (drop index (places_of top)) p h)) (one.late p h);
   }
     where
-      low : (p : ℕ) → Contains (take index top ++ drop index top) p → Contains (places_on nodes 0) p
-      low p h = within_lowest nodes linked (LEVELS - 1) p (omega arith) (is.linked p (subst (λ (l : List ℕ). Contains l p) (take-append-drop index top) h))
+      low : (p : ℕ) → Contains (take index (places_of top) ++ drop index (places_of top)) p → Contains (places_on nodes 0) p
+      low p h = within_lowest nodes linked (GUIDE_HEIGHT - 1) p (omega arith)
+          (is.places.linked p (subst (λ (l : List ℕ). Contains l p) (take-append-drop index (places_of top)) h))
 
 -- ---- what is taken out where a search lands
 
-module _ (nodes : List Node) (first count : ℕ) (arena : IsArena nodes first count) (key : List ℕ) (seq : ℕ) (lasts : List ℕ)
-    (cuts : AreCuts nodes key seq lasts) where
-  cut : IsCut nodes 0 key seq (slice_index lasts 0)
-  cut = cuts 0 (omega arith)
+-- what an index reads there
+pub reads_next : (read nodes : List Node) (key : List ℕ) (number last : ℕ) (default : Node) → read ≡ nodes → IsLinked nodes → 0 < length nodes
+    → IsCut nodes 0 key number last → slice_index (slice_index_or read last default).links 0 ≡ next_on nodes 0 last
+reads_next read nodes key number last default is linked some cut =
+    ap (λ (ns : List Node). slice_index (slice_index_or ns last default).links 0) is
+    ∙ (lands_at nodes key number last default linked some cut).is
 
-  pub last_within : slice_index lasts 0 < length nodes
-  last_within = (lands_at nodes key seq (slice_index lasts 0) no_node arena.linked (omega (arith, arena.all)) cut).within
+module _ (nodes : List Node) (first count : ℕ) (arena : IsArena nodes first count) (key : List ℕ) (seq last : ℕ) (cut : IsCut nodes 0 key seq last)
+    (place : ℕ) (next_is : place ≡ next_on nodes 0 last) where
+  pub found_none : place ≡ 0 → IsFirstFrom (versions_on nodes 0) key seq None
+  found_none end = none_from nodes arena.linked key seq last cut (sym next_is ∙ end)
 
-  module _ (node : Node) (is : node ≡ slice_index_or nodes (slice_index lasts 0) node) where
-    next_is : slice_index node.links 0 ≡ next_on nodes 0 (slice_index lasts 0)
-    next_is = ap (λ (n : Node). slice_index n.links 0) (is ∙ read_at nodes (slice_index lasts 0) node last_within)
+  module _ (some : place ≢ 0) where
+    goes_on : next_on nodes 0 last ≢ 0
+    goes_on e = some (next_is ∙ e)
 
-    pub found_none : slice_index node.links 0 ≡ 0 → IsFirstFrom (versions_on nodes 0) key seq None
-    found_none end = none_from nodes arena.linked key seq (slice_index lasts 0) cut (sym next_is ∙ end)
+    pub found_held : Contains (places_on nodes 0) place
+    found_held = subst (Contains (places_on nodes 0)) (sym next_is) (next_held nodes arena.linked key seq last cut goes_on)
 
-    module _ (some : slice_index node.links 0 ≢ 0) where
-      goes_on : next_on nodes 0 (slice_index lasts 0) ≢ 0
-      goes_on e = some (next_is ∙ e)
+    pub found_within : place < length nodes
+    found_within = ((arena.linked.levels 0 (omega arith)).held place found_held).0
 
-      pub found_held : Contains (places_on nodes 0) (slice_index node.links 0)
-      found_held = subst (Contains (places_on nodes 0)) (sym next_is) (next_held nodes arena.linked key seq (slice_index lasts 0) cut goes_on)
+    pub found_filled : is_vacant (node_at nodes place).held ≡ false
+    found_filled = ((arena.linked.levels 0 (omega arith)).held place found_held).1
 
-      pub found_within : slice_index node.links 0 < length nodes
-      found_within = ((arena.linked.levels 0 (omega arith)).held (slice_index node.links 0) found_held).0
+    pub found_first : IsFirstFrom (versions_on nodes 0) key seq (Some (version_at nodes place))
+    found_first = subst (λ (p : ℕ). IsFirstFrom (versions_on nodes 0) key seq (Some (version_at nodes p))) (sym next_is)
+        (some_from nodes arena.linked key seq last cut goes_on)
 
-      pub found_filled : is_vacant (node_at nodes (slice_index node.links 0)).held ≡ false
-      found_filled = ((arena.linked.levels 0 (omega arith)).held (slice_index node.links 0) found_held).1
+    pub found_lasts : (lasts : List ℕ) → AreLastsFor nodes key seq place lasts
+        → AreLastsFor nodes (version_at nodes place).key (version_at nodes place).number place lasts
+    found_lasts lasts own level less = elim (own level less) [
+      | inl one ↦ inl (subst (λ (p : ℕ). IsCut nodes level (version_at nodes p).key (version_at nodes p).number (slice_index lasts level)) (sym next_is)
+          (same_cut nodes arena.linked key seq last cut goes_on level (slice_index lasts level) less one))
+      | inr none ↦ inr none
+    ]
 
-      pub found_first : IsFirstFrom (versions_on nodes 0) key seq (Some (version_at nodes (slice_index node.links 0)))
-      found_first = subst (λ (p : ℕ). IsFirstFrom (versions_on nodes 0) key seq (Some (version_at nodes p))) (sym next_is)
-          (some_from nodes arena.linked key seq (slice_index lasts 0) cut goes_on)
-
-      pub found_cuts : AreCuts nodes (version_at nodes (slice_index node.links 0)).key (version_at nodes (slice_index node.links 0)).number lasts
-      found_cuts level less =
-          subst (λ (p : ℕ). IsCut nodes level (version_at nodes p).key (version_at nodes p).number (slice_index lasts level)) (sym next_is)
-          (same_cut nodes arena.linked key seq (slice_index lasts 0) cut goes_on level (slice_index lasts level) less (cuts level less))
-
-      pub found_top : (top : List ℕ) (index : ℕ) → IsTop nodes top → IsTopCut nodes top key seq index
-          → IsTopCut nodes top (version_at nodes (slice_index node.links 0)).key (version_at nodes (slice_index node.links 0)).number index
-      found_top top index top_is top_cut =
-          subst (λ (p : ℕ). IsTopCut nodes top (version_at nodes p).key (version_at nodes p).number index) (sym next_is)
-          (same_top_cut nodes arena.linked key seq (slice_index lasts 0) cut goes_on top index top_is top_cut)
+    pub found_top : (top : List Guide) (index : ℕ) → IsTop nodes top → IsTopCut nodes (places_of top) key seq index
+        → IsTopCut nodes (places_of top) (version_at nodes place).key (version_at nodes place).number index
+    found_top top index top_is top_cut =
+        subst (λ (p : ℕ). IsTopCut nodes (places_of top) (version_at nodes p).key (version_at nodes p).number index) (sym next_is)
+        (same_top_cut nodes arena.linked key seq last cut goes_on top index top_is top_cut)
 
 -- ---- what a node hands over
 

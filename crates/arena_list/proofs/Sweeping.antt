@@ -1,5 +1,5 @@
 -- A walk that takes out what no mark keeps: what holds where it stands, and that each step keeps it.
-use Rattle.std.proofs.Common.{◌≡◌, ◌≢◌, ◌⊎◌, ◌↔◌, inl, inr, ℕ, ◌+◌, ◌-◌, ◌<◌, ◌≤◌, Bool, true, false, List, [], ◌∷◌, ◌++◌, length, map, Option, Some, None, Contains, Equal, Less, nat_cmp, refl, sym, ap, ◌∙◌, subst, arith, slice_index, slice_index_or, append_assoc, length-append}
+use Rattle.std.proofs.Common.{◌≡◌, ◌≢◌, ◌⊎◌, ◌↔◌, inl, inr, ℕ, ◌+◌, ◌<◌, ◌≤◌, Bool, true, false, List, [], ◌∷◌, ◌++◌, length, map, Option, Some, None, Contains, Equal, Less, nat_cmp, refl, sym, ap, ◌∙◌, subst, arith, slice_index, slice_index_or, append_assoc, length-append}
 use Rattle.std.specs.Cmp.Lexicographic.{slice_cmp}
 use Rattle.std.specs.Ordering.{ordering_then}
 use Rattle.std.proofs.lemmas.Bool.{cases_eq, cases_lt}
@@ -13,7 +13,7 @@ use Rattle.arena_list.specs.Versions.{KeyVersion, GoesBefore, Precedes, AscendVe
 use Rattle.arena_list.specs.Marks.{IsKeptFor}
 use Rattle.arena_list.specs.Chains.{LeadsAlong, path, last_of}
 use Rattle.arena_list.specs.Nodes.{is_vacant, node_at, version_in, version_at, next_on, places_on, versions_on, AscendPlaces, IsLinked, IsArena}
-use Rattle.arena_list.specs.Steps.{IsCut, AreCuts, AreWithin, TakesOut}
+use Rattle.arena_list.specs.Steps.{IsCut, AreCuts, AreLastsFor, AreWithin, TakesOut}
 use Rattle.arena_list.specs.Keeping.{IsMarkUpTo, IsBetween, IsNewerFor, IsNextNewer, StepsOver, KeepsPlace, Sweeps}
 use Rattle.arena_list.proofs.Chains.{follows_distinct, distinct_out, follows_after, follows_same, last_cases, not_the_end, path_of}
 use Rattle.arena_list.proofs.Orders.{before_along, before_cases, never_before_itself, keys_tied}
@@ -161,7 +161,7 @@ pub record Swept (old : List Node) (free : FreeList) (marks : List ℕ) (nodes :
   pub cuts : place ≢ 0 → AreCuts nodes (version_at nodes place).key (version_at nodes place).number lasts
   pub counted : removed + length done ≡ length front
   pub freed : new_free.count ≡ free.count + removed
-  pub top : (p : ℕ) → Contains (places_on old (LEVELS - 1)) p → KeepsPlace old nodes (LEVELS - 1) p
+  pub linked : (level p : ℕ) → level < LEVELS → Contains (places_on old level) p → KeepsPlace old nodes level p
 
 -- a level is cut before its first place
 pub cuts_first : (nodes : List Node) (lasts : List ℕ) → IsLinked nodes → next_on nodes 0 0 ≢ 0 → ((level : ℕ) → slice_index lasts level ≡ 0)
@@ -207,7 +207,7 @@ swept_first nodes free marks lasts arena zeros = record {
   cuts = λ some. cuts_first nodes lasts arena.linked some zeros;
   counted = refl;
   freed = omega arith;
-  top = λ p h. inl (h, refl);
+  linked = λ level p less h. inl (h, refl);
 }
 
 not_both : (b : Bool) → b ≡ true → b ≡ false → ⊥
@@ -236,7 +236,7 @@ module _ (old : List Node) (free : FreeList) (marks : List ℕ) (nodes : List No
         );
         fewer = omega (arith, ap length all, at.counted, ap length every, length-map (places_on old 0) (version_at old));
         freed = at.freed;
-        top = at.top;
+        linked = at.linked;
       }
         where
           all : places_on nodes 0 ≡ at.done
@@ -292,6 +292,9 @@ module _ (old : List Node) (free : FreeList) (marks : List ℕ) (nodes : List No
     pub cuts_here : AreCuts nodes v.key v.number lasts
     cuts_here = at.cuts some
 
+    own_here : AreLastsFor nodes v.key v.number place lasts
+    own_here level less = inl (cuts_here level less)
+
     pub wanted_is : IsBetween marks v.number newer ↔ IsKeptFor (versions_on old 0) marks v
     wanted_is = (
       marked (versions_on old 0) at.front (map (version_at nodes) rest) v were ascend_old marks newer (at.newer_is some),
@@ -345,7 +348,7 @@ module _ (old : List Node) (free : FreeList) (marks : List ℕ) (nodes : List No
           (slice_index lasts level) (slice_index new_lasts level) less (cuts_here level less) (steps level less);
       counted = omega (arith, at.counted, length-append at.done (place ∷ []), length-append at.front (v ∷ []));
       freed = at.freed;
-      top = at.top;
+      linked = at.linked;
     }
       where
         maps : map (version_at nodes) (at.done ++ place ∷ []) ≡ map (version_at nodes) at.done ++ v ∷ []
@@ -426,7 +429,7 @@ module _ (old : List Node) (free : FreeList) (marks : List ℕ) (nodes : List No
     )
 
     pub sweep_within : AreWithin nodes lasts
-    sweep_within = lasts_within nodes nodes lasts place now_free.first now_free.count v.key v.number at.arena cuts_here place_held (refl, refl)
+    sweep_within = lasts_within nodes nodes lasts place now_free.first now_free.count v.key v.number at.arena own_here place_held (refl, refl)
 
     -- the place is taken out
     pub swept_out : (IsBetween marks v.number newer → ⊥) → (new : List Node) (new_free : FreeList) → TakesOut nodes lasts place now_free.first new
@@ -436,12 +439,12 @@ module _ (old : List Node) (free : FreeList) (marks : List ℕ) (nodes : List No
     swept_out not_wanted new new_free left first_is count_is new_newer newer_for = record {
       arena = subst (λ (p : ℕ). IsArena new p new_free.count) (sym first_is)
           (subst (λ (n : ℕ). IsArena new place n) (sym count_is)
-          (removal_arena nodes new lasts place now_free.first now_free.count v.key v.number at.arena cuts_here place_held (refl, refl) left));
+          (removal_arena nodes new lasts place now_free.first now_free.count v.key v.number at.arena own_here place_held (refl, refl) left));
       len = left.len ∙ at.len;
       done = at.done;
       rest = rest;
       front = at.front ++ v ∷ [];
-      is = level_without nodes new lasts place now_free.first at.arena.linked cuts_here place_held left 0 (omega arith) at.done rest whole at.last leads_here;
+      is = level_without nodes new lasts place now_free.first at.arena.linked own_here place_held left 0 (omega arith) at.done rest whole at.last leads_here;
       was = were ∙ sym (append_assoc at.front (v ∷ []) (map (version_at nodes) rest))
           ∙ ap (λ (l : List KeyVersion). (at.front ++ v ∷ []) ++ l)
           (map_same (version_at nodes) (version_at new) rest (λ x h. sym (same x (apart x (Contains-append_right at.done rest x h)))));
@@ -454,11 +457,11 @@ module _ (old : List Node) (free : FreeList) (marks : List ℕ) (nodes : List No
           cut_left nodes at.arena.linked at.done s.0 place next (whole ∙ ap (λ (l : List ℕ). at.done ++ place ∷ l) s.1) new lasts now_free.first cuts_here left;
       counted = omega (arith, at.counted, length-append at.front (v ∷ []));
       freed = omega (arith, at.freed, count_is);
-      top = λ p h. top p (at.top p h);
+      linked = λ level p less h. stays level p less (at.linked level p less h);
     }
       where
         same : (x : ℕ) → x ≢ place → version_at new x ≡ version_at nodes x
-        same x other = version_kept nodes new lasts place now_free.first at.arena.linked cuts_here place_held left x other
+        same x other = version_kept nodes new lasts place now_free.first at.arena.linked own_here place_held left x other
 
         next_other : next ≢ 0 → next ≢ place
         next_other more =
@@ -484,15 +487,15 @@ module _ (old : List Node) (free : FreeList) (marks : List ℕ) (nodes : List No
           ]
         ]
 
-        top : (p : ℕ) → KeepsPlace old nodes (LEVELS - 1) p → KeepsPlace old new (LEVELS - 1) p
-        top p (inl (there, is)) = elim (cases_eq p place) [
+        stays : (level p : ℕ) → level < LEVELS → KeepsPlace old nodes level p → KeepsPlace old new level p
+        stays level p less (inl (there, is)) = elim (cases_eq p place) [
           | inl itself ↦ inr (ap (λ (q : ℕ). is_vacant (node_at new q).held) itself ∙ left.vacant)
           | inr other ↦ inl (
-            left_more nodes new lasts place now_free.first at.arena.linked cuts_here place_held left (LEVELS - 1) p (omega arith) there other,
+            left_more nodes new lasts place now_free.first at.arena.linked own_here place_held left level p less there other,
             same p other ∙ is,
           )
         ]
-        top p (inr vacant) =
+        stays level p less (inr vacant) =
             let full : is_vacant (node_at nodes place).held ≡ false = ((at.arena.linked.levels 0 (omega arith)).held place place_held).1 in
             inr (ap is_vacant (left.held p (λ e. not_both (is_vacant (node_at nodes p).held) vacant
             (ap (λ (q : ℕ). is_vacant (node_at nodes q).held) e ∙ full))) ∙ vacant)

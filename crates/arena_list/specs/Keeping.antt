@@ -1,5 +1,5 @@
 -- Taking out, in one walk, the versions that no mark keeps. Nothing of it is seen from outside.
-use Rattle.std.specs.Prelude.{◌≡◌, ◌≢◌, ◌⊎◌, ℕ, ◌+◌, ◌-◌, ◌<◌, ◌≤◌, ◌&&◌, not, ltb, Bool, true, List, Option, Some, None, Contains, length, slice_index, ⊤}
+use Rattle.std.specs.Prelude.{◌≡◌, ◌≢◌, ◌⊎◌, ℕ, ◌+◌, ◌<◌, ◌≤◌, ◌&&◌, not, ltb, Bool, true, List, Option, Some, None, Contains, length, slice_index, ⊤}
 use Rattle.arena_list.specs.declared.node.TheConstants.{LEVELS}
 use Rattle.arena_list.specs.declared.node.Node.{Node}
 use Rattle.arena_list.specs.declared.links.FreeList.{FreeList}
@@ -51,4 +51,4 @@ pub record Sweeps (old : List Node) (free : FreeList) (marks : List ℕ) (new : 
   pub kept : KeepsMarked (versions_on old 0) marks (versions_on new 0)
   pub fewer : removed + length (places_on new 0) ≡ length (places_on old 0)
   pub freed : new_free.count ≡ free.count + removed
-  pub top : (place : ℕ) → Contains (places_on old (LEVELS - 1)) place → KeepsPlace old new (LEVELS - 1) place
+  pub linked : (level place : ℕ) → level < LEVELS → Contains (places_on old level) place → KeepsPlace old new level place

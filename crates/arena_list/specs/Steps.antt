@@ -27,6 +27,16 @@ MayGoOn nodes level key number last = (last ≡ 0) ⊎ (Contains (places_on node
 abbrev pub MayStop : List Node → List ℕ → ℕ → ℕ → Type 0
 MayStop nodes key number next = (next ≡ 0) ⊎ (GoesBefore (version_at nodes next) key number → ⊥)
 
+-- Each level below the height is cut by the place that is told for it. On a higher one the head may be told instead.
+pub record AreCutsTo (nodes : List Node) (key : List ℕ) (number height : ℕ) (lasts : List ℕ) : Type 0 where
+  pub low : (level : ℕ) → level < height → IsCut nodes level key number (slice_index lasts level)
+  pub high : (level : ℕ) → level < LEVELS → IsCut nodes level key number (slice_index lasts level) ⊎ (slice_index lasts level ≡ 0)
+
+-- Each level is cut by the place that is told for it, or this place is not linked there, and the head is told.
+abbrev pub AreLastsFor : List Node → List ℕ → ℕ → ℕ → List ℕ → Type 0
+AreLastsFor nodes key number place lasts = (level : ℕ) → level < LEVELS
+    → IsCut nodes level key number (slice_index lasts level) ⊎ ((Contains (places_on nodes level) place → ⊥) × (slice_index lasts level ≡ 0))
+
 -- Each level is cut by the place that is told for it.
 abbrev pub AreCuts : List Node → List ℕ → ℕ → List ℕ → Type 0
 AreCuts nodes key number lasts = (level : ℕ) → level < LEVELS → IsCut nodes level key number (slice_index lasts level)

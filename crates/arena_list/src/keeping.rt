@@ -6,6 +6,7 @@ ghost use Rattle.arena_list.specs.Nodes.{IsArena, version_in};
 ghost use Rattle.arena_list.specs.Steps.{AreWithin};
 ghost use Rattle.arena_list.specs.Keeping.{IsBetween, IsNewerFor, StepsOver, Sweeps, is_full};
 
+use crate::guide::Guide;
 use crate::links::{FreeList, take_out};
 use crate::node::{LEVELS, Node, Place};
 
@@ -79,11 +80,11 @@ pub(crate) fn sweep(nodes: &mut [Node], free: &mut FreeList, marks: &[u64]) -> u
     removed
 }
 
-/// Keeps the places whose nodes hold a version.
-pub(crate) fn keep_full(nodes: &[Node], places: &mut Vec<Place>)
-    ensures { places.new.items ≡ filter (is_full nodes.now) places.old.items }
+/// Keeps the entries whose nodes hold a version.
+pub(crate) fn keep_full(nodes: &[Node], top: &mut Vec<Guide>)
+    ensures { top.new.items ≡ filter (λ guide. is_full nodes.now guide.place) top.old.items }
 {
-    places.retain(|place| match nodes.get(*place as usize) {
+    top.retain(|guide| match nodes.get(guide.place as usize) {
         Some(node) => node.is_full(),
         None => false,
     });

@@ -3,12 +3,12 @@
 ghost use Rattle.std.specs.Prelude.{◌≡◌, ◌↔◌, IsTrue};
 ghost use Rattle.std.specs.Ordering.{nat_cmp};
 ghost use Rattle.std.specs.Cmp.Lexicographic.{slice_cmp};
-ghost use Rattle.arena_list.specs.Leads.{lead_of, AreBytes};
+ghost use Rattle.arena_list.specs.Leads.{lead_of, IsLengthInLead, AreBytes};
 
 use std::cmp::Ordering;
 
 /// How many bytes of a key its lead has.
-const LEAD_SIZE: usize = 8;
+pub(crate) const LEAD_SIZE: usize = 8;
 
 /// The number whose eight digits to the base 256 are the first bytes of a key, zeros where there are fewer. Where the
 /// leads of two keys differ, they are in the order of the keys.
@@ -22,6 +22,17 @@ pub(crate) fn lead(key: &[u8]) -> u64
     let mut digits = [0; LEAD_SIZE];
     digits[..key.len()].copy_from_slice(key);
     u64::from_be_bytes(digits)
+}
+
+/// The length of a key that ends within its lead, and `None` for a longer one.
+pub(crate) fn length_in_lead(key: &[u8]) -> Option<u8>
+    ensures { IsLengthInLead result key.now }
+{
+    if key.len() <= LEAD_SIZE {
+        Some(key.len() as u8)
+    } else {
+        None
+    }
 }
 
 /// How two keys with the same lead stand to each other. Where one of them ends within the lead, one begins with the

@@ -5,10 +5,11 @@
 //!
 //! What holds of each value here: the node at place 0 holds nothing and heads each level; what is linked at a level
 //! ascends, and is linked at the level below too; each other node is linked at level 0 or is free, and no place is both.
-//! A vector names nodes of the top level, in order, for searches to begin at.
+//! A vector has what is compared of the nodes with high towers, in order, for searches to begin at.
 #![tactic(auto)]
 
 mod found;
+mod guide;
 mod keeping;
 mod lead;
 mod links;

@@ -10,13 +10,14 @@ ghost use Rattle.arena_list.specs.Spots.{IsLastBefore, IsFirstFrom};
 ghost use Rattle.arena_list.specs.Arena.{on_level, places_in, UsesPlace, MakesRoom};
 
 use crate::found::Found;
+use crate::guide::Guide;
 use crate::keeping::{keep_full, sweep};
 use crate::links::{FreeList, make_place, put_in, take_out, take_place};
 use crate::marks::Marks;
-use crate::node::{Keyed, LEVELS, Node, Place};
+use crate::node::{GUIDE_HEIGHT, Keyed, LEVELS, Node};
 use crate::search::find;
 use crate::sought::Sought;
-use crate::top::{find_spot, put_in_top, take_from_top};
+use crate::top::{find_spot, lasts_for, put_in_top, take_from_top};
 use crate::version::Version;
 use crate::walk::Walk;
 use std::alloc::Global;
@@ -31,8 +32,8 @@ const FIRST_ROOM: usize = 4;
 #[derive(Drop)]
 pub struct ArenaList {
     nodes: Vec<Node>,
-    /// Places that are linked at the top level, in order, where a search begins.
-    top: Vec<Place>,
+    /// What is compared of nodes with high towers, in order, where a search begins.
+    top: Vec<Guide>,
     free: FreeList,
     /// How many insertions there were.
     inserted: u64,
@@ -107,23 +108,18 @@ impl ArenaList {
         ensures back { IfErr result (λ back. back ≡ (key, value)) }
         ensures unchanged { OnErr result (self.new ≡ self.old) }
     {
+        let inserted = self.inserted.wrapping_add(1);
+        let height = tower_height(inserted);
         let sought = Sought::new(key.as_slice(), seq);
-        let spot = find_spot(self.nodes.as_slice(), self.top.as_slice(), &sought);
+        let spot = find_spot(self.nodes.as_slice(), self.top.as_slice(), &sought, height);
         let Ok(place) = take_place(&mut self.nodes, &mut self.free) else {
             return Err((key, value));
         };
-        self.inserted = self.inserted.wrapping_add(1);
-        let height = tower_height(self.inserted);
+        self.inserted = inserted;
         let held = Keyed::new(key, value);
-        put_in(
-            self.nodes.as_mut_slice(),
-            &spot.lasts,
-            place,
-            height,
-            held,
-            seq,
-        );
-        put_in_top(&mut self.top, spot.index, place, height);
+        let nodes = self.nodes.as_mut_slice();
+        put_in(nodes, &spot.lasts, place, height, held, seq);
+        put_in_top(&mut self.top, nodes, spot.index, place, height);
         Ok(())
     }
 
@@ -136,7 +132,7 @@ impl ArenaList {
         };
         let sought = Sought::new(key, number);
         let nodes = self.nodes.as_slice();
-        let spot = find_spot(nodes, self.top.as_slice(), &sought);
+        let spot = find_spot(nodes, self.top.as_slice(), &sought, 1);
         let place = nodes[spot.lasts[0] as usize].links[0];
         if place == 0 || !nodes[place as usize].has_key(&sought) {
             return Found::Nothing;
@@ -151,7 +147,7 @@ impl ArenaList {
     {
         let sought = Sought::new(key, seq);
         let nodes = self.nodes.as_slice();
-        let spot = find_spot(nodes, self.top.as_slice(), &sought);
+        let spot = find_spot(nodes, self.top.as_slice(), &sought, 1);
         let place = spot.lasts[0];
         if place == 0 {
             return None;
@@ -165,7 +161,7 @@ impl ArenaList {
     {
         let sought = Sought::new(key, seq);
         let nodes = self.nodes.as_slice();
-        let spot = find_spot(nodes, self.top.as_slice(), &sought);
+        let spot = find_spot(nodes, self.top.as_slice(), &sought, 1);
         let place = nodes[spot.lasts[0] as usize].links[0];
         if place == 0 {
             return None;
@@ -198,7 +194,7 @@ impl ArenaList {
     {
         let sought = Sought::new(key, seq);
         let nodes = self.nodes.as_slice();
-        let spot = find_spot(nodes, self.top.as_slice(), &sought);
+        let spot = find_spot(nodes, self.top.as_slice(), &sought, 1);
         Walk::from(nodes, nodes[spot.lasts[0] as usize].links[0])
     }
 
@@ -212,16 +208,13 @@ impl ArenaList {
         ensures unchanged { OnFalse result (self.new ≡ self.old) }
     {
         let sought = Sought::new(key, seq);
-        let spot = find_spot(self.nodes.as_slice(), self.top.as_slice(), &sought);
-        let Some(place) = find(self.nodes.as_slice(), &spot.lasts, &sought) else {
+        let (nodes, top) = (self.nodes.as_slice(), self.top.as_slice());
+        let spot = find_spot(nodes, top, &sought, GUIDE_HEIGHT);
+        let Some(place) = find(nodes, &spot.lasts, &sought) else {
             return false;
         };
-        take_out(
-            self.nodes.as_mut_slice(),
-            &spot.lasts,
-            place,
-            self.free.first,
-        );
+        let lasts = lasts_for(nodes, top, &spot, place, &sought);
+        take_out(self.nodes.as_mut_slice(), &lasts, place, self.free.first);
         take_from_top(&mut self.top, spot.index, place);
         self.free.first = place;
         self.free.count += 1;
@@ -239,21 +232,18 @@ impl ArenaList {
         ensures unchanged { IfNone result (self.new ≡ self.old) }
     {
         let sought = Sought::new(key, seq);
-        let spot = find_spot(self.nodes.as_slice(), self.top.as_slice(), &sought);
-        let place = self.nodes[spot.lasts[0] as usize].links[0];
-        if place == 0 {
+        let (nodes, top) = (self.nodes.as_slice(), self.top.as_slice());
+        let spot = find_spot(nodes, top, &sought, GUIDE_HEIGHT);
+        let taken = nodes[spot.lasts[0] as usize].links[0];
+        if taken == 0 {
             return None;
         }
-        let seq = self.nodes[place as usize].seq;
-        let held = take_out(
-            self.nodes.as_mut_slice(),
-            &spot.lasts,
-            place,
-            self.free.first,
-        );
-        take_from_top(&mut self.top, spot.index, place);
+        let seq = nodes[taken as usize].seq;
+        let lasts = lasts_for(nodes, top, &spot, taken, &sought);
+        let held = take_out(self.nodes.as_mut_slice(), &lasts, taken, self.free.first);
+        take_from_top(&mut self.top, spot.index, taken);
         self.free = FreeList {
-            first: place,
+            first: taken,
             count: self.free.count + 1,
         };
         match held.into_parts() {

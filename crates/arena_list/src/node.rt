@@ -3,6 +3,7 @@
 ghost use Rattle.std.specs.Prelude.{◌≡◌, ◌↔◌, ℕ, ◌<◌, true, not, IsTrue, slice_index, option_map};
 ghost use Rattle.std.specs.Ordering.{nat_cmp};
 ghost use Rattle.std.specs.Cmp.Lexicographic.{slice_cmp};
+ghost use Rattle.arena_list.specs.Leads.{lead_of, AreBytes};
 ghost use Rattle.arena_list.specs.Versions.{IsAt, GoesBefore, version_shown};
 ghost use Rattle.arena_list.specs.Nodes.{key_of, value_of, held_of, unless_vacant, is_vacant, version_in};
 
@@ -16,6 +17,10 @@ use wal_base::Blob;
 
 /// How many levels a list has. The lowest one is level 0.
 pub const LEVELS: usize = 12;
+
+/// How high a tower is at least whose node has an entry among those that a search looks at first: that of one insertion
+/// in 64.
+pub(crate) const GUIDE_HEIGHT: usize = 7;
 
 /// Where a node stands in the vector of them. Place 0 is the head's: as a link it stands for the end.
 pub(crate) type Place = u32;
@@ -125,7 +130,15 @@ impl Keyed {
         }
     }
 
-    fn key(&self) -> &[u8]
+    /// The lead of its key.
+    pub(crate) fn lead(&self) -> u64
+        ensures number { result ≡ lead_of (key_of self.now) }
+        ensures bytes { AreBytes (key_of self.now) }
+    {
+        self.lead
+    }
+
+    pub(crate) fn key(&self) -> &[u8]
         ensures { result.now ≡ key_of self.now }
     {
         self.held.key()
@@ -150,7 +163,7 @@ impl Keyed {
 
     /// How its key stands to the one that is sought. Nothing of its key is read unless the leads are equal. A search asks
     /// this of each node, so the leads are compared by two tests: `cmp` would make an answer first, which is then tested.
-    fn order(&self, sought: &Sought<'_>) -> Ordering
+    pub(crate) fn order(&self, sought: &Sought<'_>) -> Ordering
         ensures { result ≡ slice_cmp nat_cmp (key_of self.now) sought.now.key.now }
     {
         if self.lead < sought.lead {

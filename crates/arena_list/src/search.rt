@@ -1,9 +1,9 @@
-//! The search for where a version stands, from the top level down.
+//! The search for where a version stands, from a level down.
 
-ghost use Rattle.std.specs.Prelude.{◌≡◌, ◌-◌, ◌<◌, length, IfSome, IfNone, Contains};
+ghost use Rattle.std.specs.Prelude.{◌≡◌, ◌-◌, ◌<◌, ◌≤◌, length, slice_index, IfSome, IfNone, Contains};
 ghost use Rattle.arena_list.specs.Nodes.{next_on, places_on, version_at, versions_on, IsLinked};
 ghost use Rattle.arena_list.specs.Versions.{IsAt, HoldsVersion};
-ghost use Rattle.arena_list.specs.Steps.{IsCut, MayGoOn, MayStop, AreCuts};
+ghost use Rattle.arena_list.specs.Steps.{IsCut, MayGoOn, MayStop, AreCutsTo};
 
 use crate::node::{LEVELS, Node, Place};
 use crate::sought::Sought;
@@ -34,18 +34,24 @@ fn seek_on_level(nodes: &[Node], level: usize, from: Stop, sought: &Sought<'_>) 
     Stop { last, next }
 }
 
-/// For each level the last node there that goes before what is sought. It begins along the top level between two
-/// places.
-pub(crate) fn seek(nodes: &[Node], from: Stop, sought: &Sought<'_>) -> [Place; LEVELS]
+/// For each of so many levels the last node there that goes before what is sought, and for the others the head. It begins
+/// along the highest of them between two places.
+pub(crate) fn seek(
+    nodes: &[Node],
+    from: Stop,
+    height: usize,
+    sought: &Sought<'_>,
+) -> [Place; LEVELS]
+    requires height { height ≤ LEVELS }
     requires head { 0 < length nodes.now }
     requires linked { IsLinked nodes.now }
-    requires last { MayGoOn nodes.now (LEVELS - 1) sought.now.key.now sought.now.number from.last }
+    requires last { MayGoOn nodes.now (height - 1) sought.now.key.now sought.now.number from.last }
     requires next { MayStop nodes.now sought.now.key.now sought.now.number from.next }
-    ensures { AreCuts nodes.now sought.now.key.now sought.now.number result }
+    ensures { AreCutsTo nodes.now sought.now.key.now sought.now.number height result }
 {
     let mut lasts = [0; LEVELS];
     let mut stop = from;
-    let mut level = LEVELS;
+    let mut level = height;
     while level > 0 {
         level -= 1;
         stop = seek_on_level(nodes, level, stop, sought);
@@ -54,12 +60,15 @@ pub(crate) fn seek(nodes: &[Node], from: Stop, sought: &Sought<'_>) -> [Place; L
     lasts
 }
 
-/// The place of the version that is sought, which these are the last nodes before. `None` exactly where it is not held.
+/// The place of the version that is sought: the one that the last node before it leads on to. `None` exactly where it is
+/// not held.
 pub(crate) fn find(nodes: &[Node], lasts: &[Place; LEVELS], sought: &Sought<'_>) -> Option<Place>
     requires head { 0 < length nodes.now }
     requires linked { IsLinked nodes.now }
-    requires cuts { AreCuts nodes.now sought.now.key.now sought.now.number lasts.now }
+    requires cut { IsCut nodes.now 0 sought.now.key.now sought.now.number (slice_index lasts.now 0) }
     ensures held { IfSome result (Contains (places_on nodes.now 0)) }
+    ensures next { IfSome result
+        (λ place. place ≡ next_on nodes.now 0 (slice_index lasts.now 0)) }
     ensures at { IfSome result
         (λ place. IsAt (version_at nodes.now place) sought.now.key.now sought.now.number) }
     ensures none { IfNone result

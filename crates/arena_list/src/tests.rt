@@ -1,4 +1,4 @@
-ghost use Rattle.std.specs.Prelude.{◌≡◌, ◌<◌};
+ghost use Rattle.std.specs.Prelude.{◌≡◌, ◌<◌, length};
 
 use crate::{ArenaList, Found, Version, Walk};
 use std::alloc::Global;
@@ -299,11 +299,20 @@ fn same_walk(rt: &impl Abort, list: &ArenaList, plain: &Plain) {
     assert!(rt; walk.next().is_none());
 }
 
-/// One step at random, on both: their answers agree.
-fn step(rt: &impl Abort, rig: &mut Rig, plain: &mut Plain, dice: &mut Dice) {
-    let keys: [&[u8]; 8] = [b"", b"a", b"a\0", b"ab", b"abc", b"b", b"ba", b"c"];
-    let key = keys[dice.roll(8) as usize];
-    let seq = dice.roll(200);
+/// One step at random, on both, with one of these keys and a number below a bound: their answers agree.
+fn step(
+    rt: &impl Abort,
+    rig: &mut Rig,
+    plain: &mut Plain,
+    dice: &mut Dice,
+    keys: &[&[u8]],
+    bound: u64,
+)
+    requires keys { 0 < length keys.now }
+    requires bound { 0 < bound }
+{
+    let key = keys[dice.roll(keys.len() as u64) as usize];
+    let seq = dice.roll(bound);
     match dice.roll(5) {
         0 => assert_eq!(rt; rig.list.remove(key, seq), plain_remove(plain, key, seq)),
         1 => assert_eq!(rt; rig.list.newest(key, seq), plain_newest(plain, key, seq)),
@@ -323,8 +332,9 @@ fn a_list_answers_as_a_map_does(rt: HostRuntime) {
     let mut rig = Rig::new(&rt, alloc);
     let mut plain = BTreeMap::new(alloc);
     let mut dice = Dice(7);
+    let keys: [&[u8]; 8] = [b"", b"a", b"a\0", b"ab", b"abc", b"b", b"ba", b"c"];
     for k in 0..10_000 {
-        step(&rt, &mut rig, &mut plain, &mut dice);
+        step(&rt, &mut rig, &mut plain, &mut dice, &keys, 200);
         if k % 500 == 0 {
             same_walk(&rt, &rig.list, &plain);
         }
@@ -414,6 +424,38 @@ fn near_keys() -> [&'static [u8]; NEAR] {
         b"\xFF\0",
         b"abcdefghijk",
     ]
+}
+
+/// How many steps a long list is tried by. It has some six thousand versions then, and a hundred of them have towers that
+/// a search looks at first.
+const STEPS: u64 = 20_000;
+
+#[test]
+fn a_long_list_answers_as_a_map_does_whatever_the_leads_of_its_keys(rt: HostRuntime) {
+    let alloc = rt.alloc();
+    let mut rig = Rig::new(&rt, alloc);
+    let mut plain = BTreeMap::new(alloc);
+    let mut dice = Dice(11);
+    let keys = near_keys();
+    for _ in 0..STEPS {
+        step(&rt, &mut rig, &mut plain, &mut dice, &keys, 400);
+    }
+    same_walk(&rt, &rig.list, &plain);
+    for key in keys {
+        for below in 0..400u64 {
+            assert_eq!(&rt;
+                rig.list.newest(key, below),
+                plain_newest(&plain, key, below)
+            );
+        }
+    }
+    for _ in 0..1_000u64 {
+        let Some((key, seq, _)) = rig.list.take_from(b"abcdefgh", 200) else {
+            panic!(&rt; "a version");
+        };
+        assert!(&rt; plain_remove(&mut plain, key.as_slice(), seq));
+    }
+    same_walk(&rt, &rig.list, &plain);
 }
 
 /// A walk shows the keys in the order of their bytes, and each of them is found.

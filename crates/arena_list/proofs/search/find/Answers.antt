@@ -1,5 +1,5 @@
 -- The version that is held stands where the search lands.
-use Rattle.std.proofs.Common.{subst, sym, arith, slice_index, slice_index_or}
+use Rattle.std.proofs.Common.{subst, sym, slice_index, slice_index_or}
 use Rattle.std.proofs.lemmas.Bool.{iff_false}
 use Rattle.arena_list.specs.Versions.{KeyVersion, IsAt}
 use Rattle.arena_list.specs.Nodes.{no_node}
@@ -12,20 +12,20 @@ pub bounds-nodes-lasts : goal.bounds-nodes-lasts
 bounds-nodes-lasts c =
     let sought = c.args.sought.now in
     (lands_at c.args.nodes.now sought.key.now sought.number (slice_index c.args.lasts.now 0) no_node c.requires.linked c.requires.head
-    (c.requires.cuts 0 (omega arith))).within
+    c.requires.cut).within
 
 pub bounds-nodes-place : goal.bounds-nodes-place
 bounds-nodes-place c =
     let sought = c.args.sought.now in
     (lands_at c.args.nodes.now sought.key.now sought.number (slice_index c.args.lasts.now 0) c.index-nodes-lasts.result c.requires.linked c.requires.head
-    (c.requires.cuts 0 (omega arith))).below c.if-place-eq0.false
+    c.requires.cut).below c.if-place-eq0.false
 
 pub returns-then-place-eq0-clause-none : goal.returns-then-place-eq0-clause-none
 returns-then-place-eq0-clause-none c holds =
     let sought = c.args.sought.now in
     let nodes = c.args.nodes.now in
     let last = slice_index c.args.lasts.now 0 in
-    let cut = c.requires.cuts 0 (omega arith) in
+    let cut = c.requires.cut in
     let lands : LandsAt nodes last c.index-nodes-lasts.result =
     lands_at nodes sought.key.now sought.number last c.index-nodes-lasts.result c.requires.linked c.requires.head cut in
     let place = slice_index (slice_index_or nodes last c.index-nodes-lasts.result).links 0 in
@@ -42,7 +42,7 @@ returns-clause-held c =
     let sought = c.args.sought.now in
     let nodes = c.args.nodes.now in
     let last = slice_index c.args.lasts.now 0 in
-    let cut = c.requires.cuts 0 (omega arith) in
+    let cut = c.requires.cut in
     let lands : LandsAt nodes last c.index-nodes-lasts.result =
     lands_at nodes sought.key.now sought.number last c.index-nodes-lasts.result c.requires.linked c.requires.head cut in
     landed nodes c.requires.linked sought.key.now sought.number last cut _ lands.is c.if-place-eq0.false
@@ -53,8 +53,15 @@ returns-clause-at c =
     let nodes = c.args.nodes.now in
     let last = slice_index c.args.lasts.now 0 in
     let lands : LandsAt nodes last c.index-nodes-lasts.result =
-    lands_at nodes sought.key.now sought.number last c.index-nodes-lasts.result c.requires.linked c.requires.head (c.requires.cuts 0 (omega arith)) in
+    lands_at nodes sought.key.now sought.number last c.index-nodes-lasts.result c.requires.linked c.requires.head c.requires.cut in
     let place = slice_index (slice_index_or nodes last c.index-nodes-lasts.result).links 0 in
     subst (λ (v : KeyVersion). IsAt v sought.key.now sought.number)
     (version_read nodes place c.index-nodes-place.result c.index-nodes-place.is (lands.below c.if-place-eq0.false))
     (c.is_at.ensures.0 c.if-not-is_at.false)
+
+pub returns-clause-next : goal.returns-clause-next
+returns-clause-next c =
+    let sought = c.args.sought.now in
+    let nodes = c.args.nodes.now in
+    let last = slice_index c.args.lasts.now 0 in
+    (lands_at nodes sought.key.now sought.number last c.index-nodes-lasts.result c.requires.linked c.requires.head c.requires.cut).is

@@ -16,7 +16,7 @@ bounds-nodes-place c =
     let is : c.as_slice-nodes.result.now ≡ c.self.inside.nodes.items = c.as_slice-nodes.ensures.value in
     let some : 0 < length c.as_slice-nodes.result.now = omega (arith, c.self.invariant.0.all, ap length is) in
     (lands_at c.as_slice-nodes.result.now sought.key.now sought.number (slice_index c.find_spot-spot.result.lasts 0) no_node
-    (subst IsLinked (sym is) c.self.invariant.0.linked) some (c.find_spot-spot.ensures.lasts 0 (omega arith))).within
+    (subst IsLinked (sym is) c.self.invariant.0.linked) some (c.find_spot-spot.ensures.lasts.low 0 (omega arith))).within
 
 pub returns-then-place-eq0 : goal.returns-then-place-eq0
 returns-then-place-eq0 c =
@@ -27,7 +27,7 @@ returns-then-place-eq0 c =
     (subst (λ (a : Arena). IsLastBefore a.versions sought.key.now sought.number None)
     (ap (λ (ns : List Node). arena_of ns c.self.inside.free.count) is ∙ c.self.view_is)
     (none_before nodes (subst IsLinked (sym is) c.self.invariant.0.linked) sought.key.now sought.number (slice_index c.find_spot-spot.result.lasts 0)
-    (c.find_spot-spot.ensures.lasts 0 (omega arith)) c.if-place-eq0.true))
+    (c.find_spot-spot.ensures.lasts.low 0 (omega arith)) c.if-place-eq0.true))
 
 pub returns : goal.returns
 returns c =
@@ -37,7 +37,7 @@ returns c =
     let some : 0 < length nodes = omega (arith, c.self.invariant.0.all, ap length is) in
     let linked : IsLinked nodes = subst IsLinked (sym is) c.self.invariant.0.linked in
     let last = slice_index c.find_spot-spot.result.lasts 0 in
-    let cut = c.find_spot-spot.ensures.lasts 0 (omega arith) in
+    let cut = c.find_spot-spot.ensures.lasts.low 0 (omega arith) in
     let within : last < length nodes = (lands_at nodes sought.key.now sought.number last no_node linked some cut).within in
     subst₂ (λ (k : List ℕ) (n : ℕ). IsLastBefore c.args.self.now.versions k n (Some (version_shown c.version.result)))
     c.new-sought.ensures.key c.new-sought.ensures.number

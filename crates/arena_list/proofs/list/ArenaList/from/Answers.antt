@@ -16,7 +16,7 @@ bounds-nodes-spot c =
     let is : c.as_slice-nodes.result.now ≡ c.self.inside.nodes.items = c.as_slice-nodes.ensures.value in
     let some : 0 < length c.as_slice-nodes.result.now = omega (arith, c.self.invariant.0.all, ap length is) in
     (lands_at c.as_slice-nodes.result.now sought.key.now sought.number (slice_index c.find_spot-spot.result.lasts 0) no_node
-    (subst IsLinked (sym is) c.self.invariant.0.linked) some (c.find_spot-spot.ensures.lasts 0 (omega arith))).within
+    (subst IsLinked (sym is) c.self.invariant.0.linked) some (c.find_spot-spot.ensures.lasts.low 0 (omega arith))).within
 
 pub bounds-nodes-place : goal.bounds-nodes-place
 bounds-nodes-place c =
@@ -24,7 +24,7 @@ bounds-nodes-place c =
     let is : c.as_slice-nodes.result.now ≡ c.self.inside.nodes.items = c.as_slice-nodes.ensures.value in
     let some : 0 < length c.as_slice-nodes.result.now = omega (arith, c.self.invariant.0.all, ap length is) in
     (lands_at c.as_slice-nodes.result.now sought.key.now sought.number (slice_index c.find_spot-spot.result.lasts 0) c.index-nodes-spot.result
-    (subst IsLinked (sym is) c.self.invariant.0.linked) some (c.find_spot-spot.ensures.lasts 0 (omega arith))).below c.if-place-eq0.false
+    (subst IsLinked (sym is) c.self.invariant.0.linked) some (c.find_spot-spot.ensures.lasts.low 0 (omega arith))).below c.if-place-eq0.false
 
 pub returns-then-place-eq0 : goal.returns-then-place-eq0
 returns-then-place-eq0 c =
@@ -34,7 +34,7 @@ returns-then-place-eq0 c =
     let some : 0 < length nodes = omega (arith, c.self.invariant.0.all, ap length is) in
     let linked : IsLinked nodes = subst IsLinked (sym is) c.self.invariant.0.linked in
     let last = slice_index c.find_spot-spot.result.lasts 0 in
-    let cut = c.find_spot-spot.ensures.lasts 0 (omega arith) in
+    let cut = c.find_spot-spot.ensures.lasts.low 0 (omega arith) in
     let lands : LandsAt nodes last c.index-nodes-spot.result =
     lands_at nodes sought.key.now sought.number last c.index-nodes-spot.result linked some cut in
     subst₂ (λ (k : List ℕ) (n : ℕ). IsFirstFrom c.args.self.now.versions k n None) c.new-sought.ensures.key c.new-sought.ensures.number
@@ -50,7 +50,7 @@ returns c =
     let some : 0 < length nodes = omega (arith, c.self.invariant.0.all, ap length is) in
     let linked : IsLinked nodes = subst IsLinked (sym is) c.self.invariant.0.linked in
     let last = slice_index c.find_spot-spot.result.lasts 0 in
-    let cut = c.find_spot-spot.ensures.lasts 0 (omega arith) in
+    let cut = c.find_spot-spot.ensures.lasts.low 0 (omega arith) in
     let lands : LandsAt nodes last c.index-nodes-spot.result =
     lands_at nodes sought.key.now sought.number last c.index-nodes-spot.result linked some cut in
     let place = slice_index (slice_index_or nodes last c.index-nodes-spot.result).links 0 in

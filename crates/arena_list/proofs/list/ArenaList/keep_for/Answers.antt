@@ -1,9 +1,10 @@
--- The nodes are swept, and the places of the top that are still full are kept.
+-- The nodes are swept, and the entries whose nodes are still full are kept.
 use Rattle.std.proofs.Common.{◌≡◌, ℕ, List, length, sym, ap, ◌∙◌, subst, vec_len}
 use Rattle.std.specs.List.{filter}
 use Rattle.std.specs.Vec.{with_items}
 use Rattle.std.proofs.lemmas.List.{with_items_is}
 use Rattle.arena_list.specs.declared.node.Node.{Node}
+use Rattle.arena_list.specs.declared.guide.Guide.{Guide}
 use Rattle.arena_list.specs.Arena.{Arena}
 use Rattle.arena_list.specs.Marks.{KeepsMarked}
 use Rattle.arena_list.specs.Nodes.{versions_on, IsArena}
@@ -23,10 +24,10 @@ invariant_of-self c =
     c.as_mut_slice.ensures.value c.sweep-removed.ensures in
     let new_len : length new ≡ vec_len c.self.inside.nodes = c.sweep-removed.ensures.len ∙ c.as_mut_slice.ensures.len in
     let whole : (with_items c.self.inside.nodes new).items ≡ new = with_items_is c.self.inside.nodes new new_len in
-    let full : c.keep_full.new.places.items ≡ filter (is_full new) top =
-    c.keep_full.ensures ∙ ap (λ (ns : List Node). filter (is_full ns) top) (c.as_slice-2.ensures.value ∙ whole) in (
+    let full : c.keep_full.new.top.items ≡ filter (λ (guide : Guide). is_full new guide.place) top =
+    c.keep_full.ensures ∙ ap (λ (ns : List Node). filter (λ (guide : Guide). is_full ns guide.place) top) (c.as_slice-2.ensures.value ∙ whole) in (
       subst (λ (ns : List Node). IsArena ns new_free.first new_free.count) (sym whole) swept.arena,
-      subst (λ (ns : List Node). IsTop ns c.keep_full.new.places.items) (sym whole)
+      subst (λ (ns : List Node). IsTop ns c.keep_full.new.top.items) (sym whole)
           (subst (IsTop new) (sym full)
           (swept_top items c.self.inside.free c.as_slice.result.now new new_free c.sweep-removed.result top swept c.self.invariant.1)),
     )

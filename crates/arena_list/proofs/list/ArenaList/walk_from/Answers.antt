@@ -15,7 +15,7 @@ bounds-nodes-spot c =
     let some : 0 < length nodes = omega (arith, c.self.invariant.0.all, ap length is) in
     let linked : IsLinked nodes = subst IsLinked (sym is) c.self.invariant.0.linked in
     (lands_at nodes sought.key.now sought.number (slice_index c.find_spot-spot.result.lasts 0) no_node linked some
-    (c.find_spot-spot.ensures.lasts 0 (omega arith))).within
+    (c.find_spot-spot.ensures.lasts.low 0 (omega arith))).within
 
 pub from-requires : goal.from-requires
 from-requires c =
@@ -25,7 +25,7 @@ from-requires c =
     let some : 0 < length nodes = omega (arith, c.self.invariant.0.all, ap length is) in
     let linked : IsLinked nodes = subst IsLinked (sym is) c.self.invariant.0.linked in
     let last = slice_index c.find_spot-spot.result.lasts 0 in
-    let cut = c.find_spot-spot.ensures.lasts 0 (omega arith) in
+    let cut = c.find_spot-spot.ensures.lasts.low 0 (omega arith) in
     let lands : LandsAt nodes last c.index-nodes-spot.result =
     lands_at nodes sought.key.now sought.number last c.index-nodes-spot.result linked some cut in
     subst (IsOnLevel nodes 0) (sym lands.is) (walk_begins_at nodes linked sought.key.now sought.number last cut).1
@@ -38,7 +38,7 @@ returns c =
     let some : 0 < length nodes = omega (arith, c.self.invariant.0.all, ap length is) in
     let linked : IsLinked nodes = subst IsLinked (sym is) c.self.invariant.0.linked in
     let last = slice_index c.find_spot-spot.result.lasts 0 in
-    let cut = c.find_spot-spot.ensures.lasts 0 (omega arith) in
+    let cut = c.find_spot-spot.ensures.lasts.low 0 (omega arith) in
     let lands : LandsAt nodes last c.index-nodes-spot.result =
     lands_at nodes sought.key.now sought.number last c.index-nodes-spot.result linked some cut in
     subst₂ (λ (k : List ℕ) (n : ℕ). IsRestFrom c.args.self.now.versions k n c.from.result) c.new-sought.ensures.key c.new-sought.ensures.number
