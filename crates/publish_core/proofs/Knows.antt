@@ -44,7 +44,8 @@ found : (batch shard : ℕ) (xs : List Pair) → list_any (is_pair batch shard) 
 found batch shard [] e = cc
 found batch shard (x ∷ xs) e = go (is_pair batch shard x) refl e (found batch shard xs)
   where
-    go : (b : Bool) → is_pair batch shard x ≡ b → (b || list_any (is_pair batch shard) xs) ≡ true → (list_any (is_pair batch shard) xs ≡ true → Among (pair batch shard) xs) → Among (pair batch shard) (x ∷ xs)
+    go : (b : Bool) → is_pair batch shard x ≡ b → (b || list_any (is_pair batch shard) xs) ≡ true
+        → (list_any (is_pair batch shard) xs ≡ true → Among (pair batch shard) xs) → Among (pair batch shard) (x ∷ xs)
     go true p e rest = inl (is_pair_true batch shard x p)
     go false p e rest = inr (rest e)
 
@@ -67,7 +68,8 @@ knows_stands batch shard xs h = stands batch shard xs (among_forward (pair batch
 
 -- a batch has no entries past the eighth shard
 pub no_part : (b : BatchShape) (k : ℕ) → b.shards < 256 → SHARDS ≤ k → IsTrue (has_part b k) → ⊥
-no_part b k small far t = let p : 2 ^ SHARDS ≤ 2 ^ k = pow-le-pow_right {n = 2} (omega arith) {i = SHARDS} {j = k} far in let z : b.shards / 2 ^ k ≡ 0 = div-eq_of_lt (let q : b.shards < 2 ^ k = omega arith in q) in
+no_part b k small far t = let p : 2 ^ SHARDS ≤ 2 ^ k = pow-le-pow_right {n = 2} (omega arith) {i = SHARDS} {j = k} far in
+    let z : b.shards / 2 ^ k ≡ 0 = div-eq_of_lt (let q : b.shards < 2 ^ k = omega arith in q) in
     let c : (0 % 2 == 1) ≡ true = ap (λ (n : ℕ). n % 2 == 1) (sym z) ∙ t in cc
 
 -- an element that stands at i is what is read at i

@@ -3,6 +3,7 @@ mod Put
 mod Frame
 mod Alone
 mod Steps
+mod Moves
 mod Marking
 mod Front
 mod Joining

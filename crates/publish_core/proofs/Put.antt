@@ -36,7 +36,8 @@ module _ {A : Type 0} where
 
   pub distinct_append : (xs ys : List A) → Distinct xs → Distinct ys → ((x : A) → Among x xs → Among x ys → ⊥) → Distinct (xs ++ ys)
   distinct_append [] ys a b off = b
-  distinct_append (x ∷ xs) ys a b off = ((λ h. ⊎_elim (λ m. a.0 m) (λ m. off x (inl refl) m) (among_split x xs ys h)), distinct_append xs ys a.1 b (λ y m q. off y (inr m) q))
+  distinct_append (x ∷ xs) ys a b off =
+      ((λ h. ⊎_elim (λ m. a.0 m) (λ m. off x (inl refl) m) (among_split x xs ys h)), distinct_append xs ys a.1 b (λ y m q. off y (inr m) q))
 
   pub at_below : (l : List A) (i : ℕ) (a : A) → get_elem? l i ≡ some a → i < length l
   at_below [] i a e = absurd (some-ne-none a (sym e))
@@ -73,7 +74,8 @@ module _ {B : Type 0} (count : B → ℕ) where
   ends_mono v [] (suc m) (suc n) h = omega arith
   ends_mono v (x ∷ xs) (suc m) (suc n) h = ends_mono (v + count x) xs m n (omega arith)
 
-  pub ends_less : (v : ℕ) (xs : List B) → ((i : ℕ) (b : B) → get_elem? xs i ≡ some b → 0 < count b) → (m n : ℕ) → m < n → n ≤ length xs → ends count v xs m < ends count v xs n
+  pub ends_less : (v : ℕ) (xs : List B) → ((i : ℕ) (b : B) → get_elem? xs i ≡ some b → 0 < count b) → (m n : ℕ) → m < n → n ≤ length xs
+      → ends count v xs m < ends count v xs n
   ends_less v xs pos m zero h l = absurd (omega arith)
   ends_less v [] pos m (suc n) h l = absurd (omega arith)
   ends_less v (x ∷ xs) pos zero (suc n) h l = let p : 0 < count x = pos 0 x refl in let b = ends_base (v + count x) xs n in omega arith

@@ -9,7 +9,8 @@ use Rattle.publish_core.proofs.Kept.{kept, opens, well}
 module _ {B : Type 0} (count : B → ℕ) (touches : B → ℕ → Bool) where
   rises : (s : CoreState B) → Sound count touches s → (e : Event B) → visible count s ≤ visible count (after count touches s e)
   rises s sound (load_slot j at) = le_refl (visible count s)
-  rises s sound (place b) = let a = sound.published_tail in let c = sound.tail_head in let d = sound.head_length in subst (λ (x : ℕ). visible count s ≤ x) (sym (ends_append count s.base s.batches (b ∷ []) s.published (omega arith))) (le_refl (visible count s))
+  rises s sound (place b) = let a = sound.published_tail in let c = sound.tail_head in let d = sound.head_length in
+      subst (λ (x : ℕ). visible count s ≤ x) (sym (ends_append count s.base s.batches (b ∷ []) s.published (omega arith))) (le_refl (visible count s))
   rises s sound admit = le_refl (visible count s)
   rises s sound (load_ends j) = le_refl (visible count s)
   rises s sound (mark j) = le_refl (visible count s)
@@ -37,10 +38,12 @@ module _ {B : Type 0} (count : B → ℕ) (touches : B → ℕ → Bool) where
   rises s sound (give_shard j true) = le_refl (visible count s)
   rises s sound (give_shard j false) = le_refl (visible count s)
 
-  all_rise : (s : CoreState B) → Sound count touches s → (es : List (Event B)) (t : CoreState B) (xs : List ℕ) → Leads count touches s es t xs → visible count s ≤ visible count t
+  all_rise : (s : CoreState B) → Sound count touches s → (es : List (Event B)) (t : CoreState B) (xs : List ℕ) → Leads count touches s es t xs
+      → visible count s ≤ visible count t
   all_rise s sound [] t xs h = subst (λ (x : CoreState B). visible count s ≤ visible count x) (sym h.0) (le_refl (visible count s))
   all_rise s sound (e ∷ es) t xs h = ⊎_elim
-      (λ (a : Possible count touches s e × ((ys : List ℕ) × (xs ≡ takes count touches s e ++ ys) × Leads count touches (after count touches s e) es t ys)). le_trans (rises s sound e) (all_rise (after count touches s e) (kept count touches s sound e a.0) es t a.1.0 a.1.2))
+      (λ (a : Possible count touches s e × ((ys : List ℕ) × (xs ≡ takes count touches s e ++ ys) × Leads count touches (after count touches s e) es t ys)).
+      le_trans (rises s sound e) (all_rise (after count touches s e) (kept count touches s sound e a.0) es t a.1.0 a.1.2))
       (λ (a : (Possible count touches s e → ⊥) × Leads count touches s es t xs). all_rise s sound es t xs a.1) h
 
   pub never_falls : NeverFalls count touches

@@ -25,7 +25,8 @@ module _ {A : Type 0} where
   pub put_swap : (f : ℕ → A) (i j : ℕ) (x y : A) → i ≢ j → updated (updated f i x) j y ≡ updated (updated f j y) i x
   put_swap f i j x y n = λ k m. at_put (λ (q : ℕ) (z : A). z ≡ updated (updated f j y) i x q) (updated f i x) j y m
       (sym (put_else (updated f j y) i x j (λ e. n (sym e)) ∙ put_here f j y))
-      (λ nj. at_put (λ (q : ℕ) (z : A). q ≢ j → z ≡ updated (updated f j y) i x q) f i x m (λ _. sym (put_here (updated f j y) i x)) (λ ni other. sym (put_else (updated f j y) i x m ni ∙ put_else f j y m other)) nj) k
+      (λ nj. at_put (λ (q : ℕ) (z : A). q ≢ j → z ≡ updated (updated f j y) i x q) f i x m (λ _. sym (put_here (updated f j y) i x))
+      (λ ni other. sym (put_else (updated f j y) i x m ni ∙ put_else f j y m other)) nj) k
 
   -- which default is given does not matter within a list
   pub read_at : (l : List A) (i : ℕ) (x d : A) → i < length l → x ≡ get_or l i x → x ≡ get_or l i d
@@ -49,11 +50,16 @@ batch_given l m x cell d h e p at =
     let long : length m ≡ length l + 1 = ap (λ (y : List KeptSeat). length y) e ∙ length-append l (x ∷ []) in
     let sm : stored m ≡ updated (stored l) (length l) d = ap stored e ∙ seat_pushed l x ∙ ap (updated (stored l) (length l)) p in
     let first : seat_of cell ≡ stored l 0 = stored_at m 0 cell (omega arith) at ∙ ap (λ (f : ℕ → SeatState). f 0) sm ∙ put_else (stored l) (length l) d 0 z in
-    stored_set m 0 (record cell { held = None }) (omega arith) ∙ (λ k. updated (sm k) 0 (record (first k) { held = None })) ∙ put_swap (stored l) (length l) 0 d (record (stored l 0) { held = None }) n
+    stored_set m 0 (record cell { held = None }) (omega arith) ∙ (λ k. updated (sm k) 0 (record (first k) { held = None }))
+    ∙ put_swap (stored l) (length l) 0 d (record (stored l 0) { held = None }) n
 
 -- a batch's stage and owner are written
-pub pass_written : (s : CoreState BatchShape) (ss : List Stage) (os : List ℕ) (i : ℕ) (st st' : Stage) (o o' : ℕ) → i < length ss → i < length os → st ≡ st' → o ≡ o'
-    → record s { stage = λ k. get_or (set ss i st) k Out; owner = λ k. get_or (set os i o) k 0 } ≡ record s { stage = updated (λ k. get_or ss k Out) i st'; owner = updated (λ k. get_or os k 0) i o' }
+pub pass_written : (s : CoreState BatchShape) (ss : List Stage) (os : List ℕ) (i : ℕ) (st st' : Stage) (o o' : ℕ) → i < length ss → i < length os
+    → st ≡ st' → o ≡ o'
+    → record s { stage = λ k. get_or (set ss i st) k Out; owner = λ k. get_or (set os i o) k 0 } ≡ record s {
+      stage = updated (λ k. get_or ss k Out) i st';
+      owner = updated (λ k. get_or os k 0) i o';
+    }
 pass_written s ss os i st st' o o' hs ho es eo =
     let a : (λ k. get_or (set ss i st) k Out) ≡ updated (λ k. get_or ss k Out) i st' = one_set ss i st Out hs ∙ ap (updated (λ k. get_or ss k Out) i) es in
     let b : (λ k. get_or (set os i o) k 0) ≡ updated (λ k. get_or os k 0) i o' = one_set os i o 0 ho ∙ ap (updated (λ k. get_or os k 0) i) eo in
@@ -91,12 +97,16 @@ stage_else note into Out n = refl
 pub passes_none : (note into : ℕ) (s : CoreState BatchShape) → HandsOn note into [] s s
 passes_none note into s = record { rest = refl; each = λ i. inr (λ a. a, refl, refl) }
 
-pub passes_more : (note into : ℕ) (xs : List ℕ) (x : ℕ) (s t u : CoreState BatchShape) → HandsOn note into xs s t → u ≡ passed t x note into → HandsOn note into (xs ++ x ∷ []) s u
+pub passes_more : (note into : ℕ) (xs : List ℕ) (x : ℕ) (s t u : CoreState BatchShape) → HandsOn note into xs s t → u ≡ passed t x note into
+    → HandsOn note into (xs ++ x ∷ []) s u
 passes_more note into xs x s t u p e =
     let st : ℕ → Stage = updated t.stage x (renamed note into (t.stage x)) in let ow : ℕ → ℕ = updated t.owner x (renamed_owner note into (t.owner x)) in
-    let se : (i : ℕ) → u.stage i ≡ st i = λ i. ap (λ (v : CoreState BatchShape). v.stage i) e in let oe : (i : ℕ) → u.owner i ≡ ow i = λ i. ap (λ (v : CoreState BatchShape). v.owner i) e in
-    let sh : (i : ℕ) → i ≡ x → st i ≡ renamed note into (t.stage i) = λ i z. subst (λ (j : ℕ). st j ≡ renamed note into (t.stage j)) (sym z) (put_here t.stage x (renamed note into (t.stage x))) in
-    let oh : (i : ℕ) → i ≡ x → ow i ≡ renamed_owner note into (t.owner i) = λ i z. subst (λ (j : ℕ). ow j ≡ renamed_owner note into (t.owner j)) (sym z) (put_here t.owner x (renamed_owner note into (t.owner x))) in
+    let se : (i : ℕ) → u.stage i ≡ st i = λ i. ap (λ (v : CoreState BatchShape). v.stage i) e in
+    let oe : (i : ℕ) → u.owner i ≡ ow i = λ i. ap (λ (v : CoreState BatchShape). v.owner i) e in
+    let sh : (i : ℕ) → i ≡ x → st i ≡ renamed note into (t.stage i) =
+    λ i z. subst (λ (j : ℕ). st j ≡ renamed note into (t.stage j)) (sym z) (put_here t.stage x (renamed note into (t.stage x))) in
+    let oh : (i : ℕ) → i ≡ x → ow i ≡ renamed_owner note into (t.owner i) =
+    λ i z. subst (λ (j : ℕ). ow j ≡ renamed_owner note into (t.owner j)) (sym z) (put_here t.owner x (renamed_owner note into (t.owner x))) in
     record {
       rest = e ∙ (λ q. record (p.rest q) { stage = st; owner = ow }) ∙ sym (ap (λ (v : CoreState BatchShape). record s { stage = v.stage; owner = v.owner }) e);
       each = λ i. dite (ℕ_discrete i x)
@@ -105,8 +115,10 @@ passes_more note into xs x s t u p e =
             se i ∙ sh i z ∙ ap (renamed note into) a.0 ∙ stage_twice note into (s.stage i),
             oe i ∙ oh i z ∙ ap (renamed_owner note into) a.1 ∙ owner_twice note into (s.owner i),
           ))
-          (λ (a : (Among i xs → ⊥) × (t.stage i ≡ s.stage i) × (t.owner i ≡ s.owner i)). inl (se i ∙ sh i z ∙ ap (renamed note into) a.1, oe i ∙ oh i z ∙ ap (renamed_owner note into) a.2)) (p.each i))
-          (λ n. let sn : u.stage i ≡ t.stage i = se i ∙ put_else t.stage x (renamed note into (t.stage x)) i n in let on : u.owner i ≡ t.owner i = oe i ∙ put_else t.owner x (renamed_owner note into (t.owner x)) i n in
+          (λ (a : (Among i xs → ⊥) × (t.stage i ≡ s.stage i) × (t.owner i ≡ s.owner i)).
+          inl (se i ∙ sh i z ∙ ap (renamed note into) a.1, oe i ∙ oh i z ∙ ap (renamed_owner note into) a.2)) (p.each i))
+          (λ n. let sn : u.stage i ≡ t.stage i = se i ∙ put_else t.stage x (renamed note into (t.stage x)) i n in
+          let on : u.owner i ≡ t.owner i = oe i ∙ put_else t.owner x (renamed_owner note into (t.owner x)) i n in
           ⊎_elim
           (λ (a : (t.stage i ≡ renamed note into (s.stage i)) × (t.owner i ≡ renamed_owner note into (s.owner i))). inl (sn ∙ a.0, on ∙ a.1))
           (λ (a : (Among i xs → ⊥) × (t.stage i ≡ s.stage i) × (t.owner i ≡ s.owner i)). inr (
@@ -117,7 +129,8 @@ passes_more note into xs x s t u p e =
     }
 
 -- all that could go over went over
-whole : (note into : ℕ) (xs : List ℕ) (s u : CoreState BatchShape) → HandsOn note into xs s u → ((i : ℕ) → (Among i xs → ⊥) → (s.stage i ≡ Held note → ⊥) × (s.owner i ≢ note))
+whole : (note into : ℕ) (xs : List ℕ) (s u : CoreState BatchShape) → HandsOn note into xs s u
+    → ((i : ℕ) → (Among i xs → ⊥) → (s.stage i ≡ Held note → ⊥) × (s.owner i ≢ note))
     → u ≡ record s { stage = λ i. renamed note into (s.stage i); owner = λ i. renamed_owner note into (s.owner i) }
 whole note into xs s u p off =
     let se : (i : ℕ) → u.stage i ≡ renamed note into (s.stage i) = λ i. ⊎_elim
@@ -145,26 +158,33 @@ all_passed note into xs (Some b) s t u p e hs ho =
     right i z = among_right i xs (b ∷ []) (inl z)
 
 -- the parts of a join, put together
-pub joins : (s s1 t u : CoreState BatchShape) (into note : ℕ) (e : SeatState) → note ≢ into → e ≡ s.seats note → s1 ≡ record s { seats = updated s.seats note nobody }
+pub joins : (s s1 t u : CoreState BatchShape) (into note : ℕ) (e : SeatState) → note ≢ into → e ≡ s.seats note
+    → s1 ≡ record s { seats = updated s.seats note nobody }
     → t ≡ record s1 { stage = λ i. renamed note into (s1.stage i); owner = λ i. renamed_owner note into (s1.owner i) }
     → u ≡ record t { seats = updated t.seats into (joined (t.seats into) e) } → u ≡ after_join shape_count has_part s into note
 joins s s1 t u into note e n ee e1 e2 e3 =
     let a1 : CoreState BatchShape = record s { seats = updated s.seats note nobody } in
     let a2 : CoreState BatchShape = record a1 { stage = λ i. renamed note into (s.stage i); owner = λ i. renamed_owner note into (s.owner i) } in
-    let f2 : t ≡ a2 = e2 ∙ ap (λ (x : CoreState BatchShape). record x { stage = λ i. renamed note into (x.stage i); owner = λ i. renamed_owner note into (x.owner i) }) e1 in
-    let f3 : u ≡ record a2 { seats = updated a2.seats into (joined (a2.seats into) e) } = e3 ∙ ap (λ (x : CoreState BatchShape). record x { seats = updated x.seats into (joined (x.seats into) e) }) f2 in
+    let f2 : t ≡ a2 = e2
+    ∙ ap (λ (x : CoreState BatchShape). record x { stage = λ i. renamed note into (x.stage i); owner = λ i. renamed_owner note into (x.owner i) }) e1 in
+    let f3 : u ≡ record a2 { seats = updated a2.seats into (joined (a2.seats into) e) } =
+    e3 ∙ ap (λ (x : CoreState BatchShape). record x { seats = updated x.seats into (joined (x.seats into) e) }) f2 in
     let pe : updated s.seats note nobody into ≡ s.seats into = put_else s.seats note nobody into (λ z. n (sym z)) in
     let q : updated a1.seats into (joined (a1.seats into) e) ≡ updated (updated s.seats into (joined (s.seats into) (s.seats note))) note nobody =
     (λ k. updated a1.seats into (joined (pe k) (ee k))) ∙ put_swap s.seats note into nobody (joined (s.seats into) (s.seats note)) n in
     f3 ∙ (λ k. record a2 { seats = q k })
 
 -- a batch that a seat is said to hold is held by it
-pub theirs_held : (s : CoreState BatchShape) → IsSoundCore s → (note i : ℕ) → i < length s.batches → s.stage i ≡ Held note → ((s.seats note).held ≡ Some i → ⊥) → ⊥
-theirs_held s sound note i l st off = ∥∥₁_elim sound ⊥_prop (λ (h : Sound shape_count has_part s). off (subst (InStage shape_count has_part s i) st (h.each_batch i l).stands).1)
+pub theirs_held : (s : CoreState BatchShape) → IsSoundCore s → (note i : ℕ) → i < length s.batches → s.stage i ≡ Held note
+    → ((s.seats note).held ≡ Some i → ⊥) → ⊥
+theirs_held s sound note i l st off =
+    ∥∥₁_elim sound ⊥_prop (λ (h : Sound shape_count has_part s). off (subst (InStage shape_count has_part s i) st (h.each_batch i l).stands).1)
 
 -- a batch that is a seat's own is held or was marked by it
-pub theirs_owned : (s : CoreState BatchShape) → IsSoundCore s → (note i : ℕ) → i < length s.batches → s.owner i ≡ note → (Among i (s.seats note).own → ⊥) → ((s.seats note).held ≡ Some i → ⊥) → ⊥
-theirs_owned s sound note i l ow na nh = ∥∥₁_elim sound ⊥_prop (λ (h : Sound shape_count has_part s). let b = h.each_batch i l in go (s.stage i) b.stands b.owned)
+pub theirs_owned : (s : CoreState BatchShape) → IsSoundCore s → (note i : ℕ) → i < length s.batches → s.owner i ≡ note → (Among i (s.seats note).own → ⊥)
+    → ((s.seats note).held ≡ Some i → ⊥) → ⊥
+theirs_owned s sound note i l ow na nh =
+    ∥∥₁_elim sound ⊥_prop (λ (h : Sound shape_count has_part s). let b = h.each_batch i l in go (s.stage i) b.stands b.owned)
   where
     mine : Among i (s.seats (s.owner i)).own → ⊥
     mine a = na (subst (λ (j : ℕ). Among i (s.seats j).own) ow a)
@@ -184,12 +204,14 @@ pub note_away : (s : CoreState BatchShape) → IsSoundCore s → (into note : �
 note_away s sound into note p e = ∥∥₁_elim sound ⊥_prop (λ (h : Sound shape_count has_part s). (can_join shape_count has_part s h into note p).away e)
 
 -- The same of any number: past the batches there is none
-pub held_theirs : (k : KeptState) → IsSoundCore (kept_state k) → (note i : ℕ) → (kept_state k).stage i ≡ Held note → (((kept_state k).seats note).held ≡ Some i → ⊥) → ⊥
+pub held_theirs : (k : KeptState) → IsSoundCore (kept_state k) → (note i : ℕ) → (kept_state k).stage i ≡ Held note
+    → (((kept_state k).seats note).held ≡ Some i → ⊥) → ⊥
 held_theirs k sound note i st off = let each : length k.stages.items ≡ length k.batches.items = k.stage_each in dite (dec_le (length k.batches.items) i)
     (λ b. let z : Out ≡ Held note = sym (get_or_past k.stages.items i Out (omega arith)) ∙ st in cc)
     (λ a. theirs_held (kept_state k) sound note i (lt_of_not-le a) st off)
 
-pub owned_theirs : (k : KeptState) → IsSoundCore (kept_state k) → (note i : ℕ) → note ≢ 0 → (kept_state k).owner i ≡ note → (Among i ((kept_state k).seats note).own → ⊥) → (((kept_state k).seats note).held ≡ Some i → ⊥) → ⊥
+pub owned_theirs : (k : KeptState) → IsSoundCore (kept_state k) → (note i : ℕ) → note ≢ 0 → (kept_state k).owner i ≡ note
+    → (Among i ((kept_state k).seats note).own → ⊥) → (((kept_state k).seats note).held ≡ Some i → ⊥) → ⊥
 owned_theirs k sound note i away ow na nh = let each : length k.owners.items ≡ length k.batches.items = k.owner_each in dite (dec_le (length k.batches.items) i)
     (λ b. away (sym ow ∙ get_or_past k.owners.items i 0 (omega arith)))
     (λ a. theirs_owned (kept_state k) sound note i (lt_of_not-le a) ow na nh)

@@ -52,4 +52,5 @@ module _ (s : CoreState BatchShape) (sound : IsSoundCore s) where
       let x = (h.each_seat j).held i e in let l : i < length s.batches = x.0 in
       let w : s.ring (i % SLOTS) ≡ 2 * end_of shape_count s i + bit (s.stage i) = ((h.each_batch i l).word (subst Full (sym x.1) tt)).0 in
       let z : bit (s.stage i) ≡ 0 = ap bit x.1 in
-      let m : end_of shape_count s i ≤ ends shape_count s.base s.batches (length s.batches) = ends_mono shape_count s.base s.batches (suc i) (length s.batches) (omega arith) in omega arith)
+      let m : end_of shape_count s i ≤ ends shape_count s.base s.batches (length s.batches) =
+      ends_mono shape_count s.base s.batches (suc i) (length s.batches) (omega arith) in omega arith)

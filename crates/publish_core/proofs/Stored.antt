@@ -49,11 +49,13 @@ acts_stored (y ∷ ys) (suc i) a = let h : i < length ys = acts_stored ys i a in
 -- the seat i is written, and becomes d
 pub seat_written : (s : CoreState BatchShape) (l : List KeptSeat) (i : ℕ) (x : KeptSeat) (d : SeatState) → i < length l → seat_of x ≡ d
     → record s { made = length (set l i x); seats = stored (set l i x) } ≡ record s { made = length l; seats = updated (stored l) i d }
-seat_written s l i x d h e = let made : length (set l i x) ≡ length l = length-set l i x in let q : stored (set l i x) ≡ updated (stored l) i d = stored_set l i x h ∙ ap (updated (stored l) i) e in λ k. record s { made = made k; seats = q k }
+seat_written s l i x d h e = let made : length (set l i x) ≡ length l = length-set l i x in
+    let q : stored (set l i x) ≡ updated (stored l) i d = stored_set l i x h ∙ ap (updated (stored l) i) e in λ k. record s { made = made k; seats = q k }
 
 -- one element is written
 pub one_set : {A : Type 0} (l : List A) (i : ℕ) (x d : A) → i < length l → (λ k. get_or (set l i x) k d) ≡ updated (λ k. get_or l k d) i x
-one_set {A = A} l i x d h = λ k j. at_put (λ (q : ℕ) (y : A). get_or (set l i x) q d ≡ y) (λ q. get_or l q d) i x j (get_or-set_same l i x d h) (λ n. get_or-set_other l i j x d n) k
+one_set {A = A} l i x d h =
+    λ k j. at_put (λ (q : ℕ) (y : A). get_or (set l i x) q d ≡ y) (λ q. get_or l q d) i x j (get_or-set_same l i x d h) (λ n. get_or-set_other l i j x d n) k
 
 -- one element is added
 pub one_pushed : {A : Type 0} (l : List A) (x d : A) → (λ k. get_or (l ++ x ∷ []) k d) ≡ updated (λ k. get_or l k d) (length l) x
@@ -68,7 +70,8 @@ map_pushed {B = B} f (y ∷ ys) x = ap (λ (zs : List B). f y ∷ zs) (map_pushe
 
 -- a seat is added
 pub seat_pushed : (l : List KeptSeat) (x : KeptSeat) → stored (l ++ x ∷ []) ≡ updated (stored l) (length l) (seat_of x)
-seat_pushed l x = (λ k j. get_or (map_pushed seat_of l x k) j nobody) ∙ one_pushed (map seat_of l) (seat_of x) nobody ∙ (λ k. updated (stored l) (length-map l seat_of k) (seat_of x))
+seat_pushed l x = (λ k j. get_or (map_pushed seat_of l x k) j nobody) ∙ one_pushed (map seat_of l) (seat_of x) nobody
+    ∙ (λ k. updated (stored l) (length-map l seat_of k) (seat_of x))
 
 -- what is done in each shard, newest first
 abbrev pub done_in : List (Vec ℕ Global) → ℕ → List ℕ
@@ -77,11 +80,13 @@ done_in l k = reverse (get_or (map vec_items l) k [])
 -- the list of one shard is written
 pub done_set : (l : List (Vec ℕ Global)) (i : ℕ) (x : Vec ℕ Global) → i < length l → done_in (set l i x) ≡ updated (done_in l) i (reverse x.items)
 done_set l i x h = λ k j. at_put (λ (q : ℕ) (y : List ℕ). done_in (set l i x) q ≡ y) (done_in l) i (reverse x.items) j
-    (ap (λ (m : List (List ℕ)). reverse (get_or m i [])) (map-set vec_items l i x) ∙ ap reverse (get_or-set_same (map vec_items l) i x.items [] (let q = length-map l vec_items in omega arith)))
+    (ap (λ (m : List (List ℕ)). reverse (get_or m i [])) (map-set vec_items l i x)
+    ∙ ap reverse (get_or-set_same (map vec_items l) i x.items [] (let q = length-map l vec_items in omega arith)))
     (λ n. ap (λ (m : List (List ℕ)). reverse (get_or m j [])) (map-set vec_items l i x) ∙ ap reverse (get_or-set_other (map vec_items l) i j x.items [] n)) k
 
 -- where all lists are empty, they are so with one more
-pub empty_pushed : (l : List (Vec ℕ Global)) (x : Vec ℕ Global) → x.items ≡ [] → ((k : ℕ) → get_or (map vec_items l) k [] ≡ []) → (k : ℕ) → get_or (map vec_items (l ++ x ∷ [])) k [] ≡ []
+pub empty_pushed : (l : List (Vec ℕ Global)) (x : Vec ℕ Global) → x.items ≡ [] → ((k : ℕ) → get_or (map vec_items l) k [] ≡ []) → (k : ℕ)
+    → get_or (map vec_items (l ++ x ∷ [])) k [] ≡ []
 empty_pushed [] x e h zero = e
 empty_pushed [] x e h (suc k) = refl
 empty_pushed (y ∷ ys) x e h zero = h 0
@@ -102,4 +107,5 @@ held_stored (y ∷ ys) (suc i) b e = let h : i < length ys = held_stored ys i b 
 -- a seat is written as it was
 pub seat_kept : (s : CoreState BatchShape) (l : List KeptSeat) (i : ℕ) (x : KeptSeat) → i < length l → seat_of x ≡ stored l i
     → record s { made = length (set l i x); seats = stored (set l i x) } ≡ record s { made = length l; seats = stored l }
-seat_kept s l i x h e = seat_written s l i x (stored l i) h e ∙ (λ k. record s { made = length l; seats = λ j. at_put (λ (q : ℕ) (y : SeatState). y ≡ stored l q) (stored l) i (stored l i) j refl (λ _. refl) k })
+seat_kept s l i x h e = seat_written s l i x (stored l i) h e
+    ∙ (λ k. record s { made = length l; seats = λ j. at_put (λ (q : ℕ) (y : SeatState). y ≡ stored l q) (stored l) i (stored l i) j refl (λ _. refl) k })

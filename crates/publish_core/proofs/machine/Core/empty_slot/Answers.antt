@@ -9,4 +9,7 @@ clear_slot-requires-clause-within c = taken_within (state_of c.args.self.now) c.
 
 pub invariant_of-self : goal.invariant_of-self
 invariant_of-self c = let s = c.args.self.now in
-    record { sound = stays (state_of s) (empty_slot c.args.seat) _ s.sound (c.in-Some.ensures.acts, (c.in-Some.batch, c.in-Some.ensures.some)) c.clear_slot.ensures }
+    record {
+      sound = stays (state_of s) (empty_slot c.args.seat) _ s.sound
+          (c.in-Some.ensures.acts, (c.in-Some.batch, c.in-Some.ensures.some)) c.clear_slot.ensures;
+    }

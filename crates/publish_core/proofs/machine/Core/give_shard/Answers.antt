@@ -22,7 +22,8 @@ invariant_of-self c =
     }
 
 pub can_apply-requires-clause-placed : goal.can_apply-requires-clause-placed
-can_apply-requires-clause-placed c = let s = c.args.self.now in held_within (state_of s) s.sound c.args.seat c.in-Some-held_by.batch (sym c.in-Some-held_by.ensures)
+can_apply-requires-clause-placed c = let s = c.args.self.now in
+    held_within (state_of s) s.sound c.args.seat c.in-Some-held_by.batch (sym c.in-Some-held_by.ensures)
 
 pub can_apply-requires-clause-within : goal.can_apply-requires-clause-within
 can_apply-requires-clause-within c = let s = c.args.self.now in turn_small (state_of s) s.sound c.args.seat c.in-Some.shard (sym c.in-Some.ensures)

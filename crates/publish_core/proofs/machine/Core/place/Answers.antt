@@ -11,7 +11,9 @@ pub can_place-requires : goal.can_place-requires
 can_place-requires c = producer_is (state_of c.args.self.now) c.args.self.now.sound
 
 pub place_batch-requires-clause-possible : goal.place_batch-requires-clause-possible
-place_batch-requires-clause-possible c = subst (λ (s : CoreState BatchShape). Possible shape_count has_part s (place c.args.batch)) (sym c.spare_batch.ensures.same) (c.can_place.ensures.0 c.if-not-can_place.false)
+place_batch-requires-clause-possible c =
+    subst (λ (s : CoreState BatchShape). Possible shape_count has_part s (place c.args.batch)) (sym c.spare_batch.ensures.same)
+    (c.can_place.ensures.0 c.if-not-can_place.false)
 
 pub invariant_of-self-2 : goal.invariant_of-self-2
 invariant_of-self-2 c = record {

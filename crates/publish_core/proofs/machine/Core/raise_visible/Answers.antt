@@ -9,4 +9,7 @@ raise_published-requires-clause-within c = emptied_within (state_of c.args.self.
 
 pub invariant_of-self : goal.invariant_of-self
 invariant_of-self c = let s = c.args.self.now in
-    record { sound = stays (state_of s) (raise_visible c.args.seat) _ s.sound (c.in-Some.ensures.acts, (c.in-Some.batch, c.in-Some.ensures.some)) c.raise_published.ensures }
+    record {
+      sound = stays (state_of s) (raise_visible c.args.seat) _ s.sound
+          (c.in-Some.ensures.acts, (c.in-Some.batch, c.in-Some.ensures.some)) c.raise_published.ensures;
+    }

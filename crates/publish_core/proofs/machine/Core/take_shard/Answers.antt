@@ -6,5 +6,9 @@ use Rattle.publish_core.proofs.Answered.{stays}
 use Rattle.publish_core.proofs.machine.Core.take_shard.Goals as goal
 
 pub invariant_of-self : goal.invariant_of-self
-invariant_of-self c = let s = c.args.self.now in let small : c.args.shard < SHARDS = omega arith in let none : ((state_of s).seats c.args.seat).turn ≡ None = search rules in
-    record { sound = stays (state_of s) (take_shard c.args.seat c.args.shard) _ s.sound (c.acts.ensures.acts.0 c.if-not-acts.false, small, none) c.lend.ensures }
+invariant_of-self c = let s = c.args.self.now in let small : c.args.shard < SHARDS = omega arith in
+    let none : ((state_of s).seats c.args.seat).turn ≡ None = search rules in
+    record {
+      sound = stays (state_of s) (take_shard c.args.seat c.args.shard) _ s.sound
+          (c.acts.ensures.acts.0 c.if-not-acts.false, small, none) c.lend.ensures;
+    }

@@ -13,5 +13,6 @@ returns c =
     let cell = c.index_mut.result.now in let p : seat_of cell ≡ stored l i = stored_at l i cell c.requires.made c.index_mut.ensures.value in
     let room : vec_len cell.knows < vec_capacity cell.knows = c.requires.room cell c.index_mut.ensures.value in
     let items : c.push-kept.new.self.items ≡ cell.knows.items ++ pair ∷ [] = grind (arith, common_steps) in
-    let n : reverse c.push-kept.new.self.items ≡ pair ∷ (stored l i).knows = ap (λ (x : List Pair). reverse x) items ∙ newest_first cell.knows.items pair ∙ ap (λ (d : SeatState). pair ∷ d.knows) p in
+    let n : reverse c.push-kept.new.self.items ≡ pair ∷ (stored l i).knows =
+    ap (λ (x : List Pair). reverse x) items ∙ newest_first cell.knows.items pair ∙ ap (λ (d : SeatState). pair ∷ d.knows) p in
     seat_written (kept_state s) l i _ _ c.requires.made (λ q. record (p q) { knows = n q })

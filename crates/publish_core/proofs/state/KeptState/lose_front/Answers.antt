@@ -9,5 +9,7 @@ pub returns : goal.returns
 returns c =
     let s = c.args.self.now in let l = s.seats.items in let i : ℕ = c.args.seat in
     let cell = c.index_mut-loser.result.now in let p : seat_of cell ≡ stored l i = stored_at l i cell c.requires c.index_mut-loser.ensures.value in
-    let n : c.saturating_add-loser.result ≡ one_more (stored l i).counts.lost = c.saturating_add-loser.ensures ∙ ap (λ (d : SeatState). one_more d.counts.lost) p in
-    seat_written (kept_state s) l i _ _ c.requires (λ k. record (p k) { loaded = Some record { head = s.head; tail = s.tail }; reading = None; counts = record (p k).counts { lost = n k } })
+    let n : c.saturating_add-loser.result ≡ one_more (stored l i).counts.lost =
+    c.saturating_add-loser.ensures ∙ ap (λ (d : SeatState). one_more d.counts.lost) p in
+    seat_written (kept_state s) l i _ _ c.requires
+    (λ k. record (p k) { loaded = Some record { head = s.head; tail = s.tail }; reading = None; counts = record (p k).counts { lost = n k } })

@@ -10,11 +10,13 @@ returns-in_err-reserve-clause-same c =
     let s = c.args.self.now in let l = s.seats.items in let i : ℕ = c.args.seat in
     let cell = c.index_mut.result.now in let p : seat_of cell ≡ stored l i = stored_at l i cell c.requires c.index_mut.ensures.value in
     let n : reverse c.reserve.new.self.items ≡ reverse cell.knows.items = ap (λ (x : List Pair). reverse x) c.reserve.ensures.items in
-    seat_written (kept_state s) l i _ (stored l i) c.requires ((λ q. record (seat_of cell) { knows = n q }) ∙ p) ∙ (λ q. record (kept_state s) { seats = put_same (stored l) i q })
+    seat_written (kept_state s) l i _ (stored l i) c.requires ((λ q. record (seat_of cell) { knows = n q }) ∙ p)
+    ∙ (λ q. record (kept_state s) { seats = put_same (stored l) i q })
 
 pub returns-clause-same : goal.returns-clause-same
 returns-clause-same c =
     let s = c.args.self.now in let l = s.seats.items in let i : ℕ = c.args.seat in
     let cell = c.index_mut.result.now in let p : seat_of cell ≡ stored l i = stored_at l i cell c.requires c.index_mut.ensures.value in
     let n : reverse c.reserve.new.self.items ≡ reverse cell.knows.items = ap (λ (x : List Pair). reverse x) c.reserve.ensures.items in
-    seat_written (kept_state s) l i _ (stored l i) c.requires ((λ q. record (seat_of cell) { knows = n q }) ∙ p) ∙ (λ q. record (kept_state s) { seats = put_same (stored l) i q })
+    seat_written (kept_state s) l i _ (stored l i) c.requires ((λ q. record (seat_of cell) { knows = n q }) ∙ p)
+    ∙ (λ q. record (kept_state s) { seats = put_same (stored l) i q })

@@ -22,16 +22,23 @@ returns-in_err-push-clause-err c =
 
 pub returns-clause-ok : goal.returns-clause-ok
 returns-clause-ok c =
-    let s = c.args.self.now in let l = s.seats.items in let j : ℕ = c.args.seat in let i : ℕ = c.args.batch in let cell : KeptSeat = c.index_mut-marker.result.now in
+    let s = c.args.self.now in let l = s.seats.items in let j : ℕ = c.args.seat in let i : ℕ = c.args.batch in
+    let cell : KeptSeat = c.index_mut-marker.result.now in
     let lt : j < length l = held_stored l j i c.requires.held in
     let p : seat_of cell ≡ stored l j = stored_at l j cell lt c.index_mut-marker.ensures.value in
-    let w : c.index_mut-2.result.now ≡ (kept_state s).ring (i % SLOTS) = same_default s.ring.items (i % SLOTS) c.index_mut-2.result.now 0 (omega arith) c.index_mut-2.ensures.value in
-    let stage : (λ (k : ℕ). get_or (set s.stages.items i Marked) k Out) ≡ updated (kept_state s).stage i Marked = one_set s.stages.items i Marked Out (omega arith) in
-    let ring : (λ (k : ℕ). get_or (set s.ring.items (i % SLOTS) (c.index_mut-2.result.now + 1)) k 0) ≡ updated (kept_state s).ring (i % SLOTS) ((kept_state s).ring (i % SLOTS) + 1) =
+    let w : c.index_mut-2.result.now ≡ (kept_state s).ring (i % SLOTS) =
+    same_default s.ring.items (i % SLOTS) c.index_mut-2.result.now 0 (omega arith) c.index_mut-2.ensures.value in
+    let stage : (λ (k : ℕ). get_or (set s.stages.items i Marked) k Out) ≡ updated (kept_state s).stage i Marked =
+    one_set s.stages.items i Marked Out (omega arith) in
+    let ring : (λ (k : ℕ). get_or (set s.ring.items (i % SLOTS) (c.index_mut-2.result.now + 1)) k 0) ≡ updated (kept_state s).ring (i % SLOTS)
+    ((kept_state s).ring (i % SLOTS) + 1) =
     one_set s.ring.items (i % SLOTS) (c.index_mut-2.result.now + 1) 0 (omega arith) ∙ (λ k. updated (kept_state s).ring (i % SLOTS) (w k + 1)) in
     let own : reverse (cell.own.items ++ i ∷ []) ≡ i ∷ (stored l j).own = reverse-append cell.own.items (i ∷ []) ∙ ap (λ (d : SeatState). i ∷ d.own) p in
     let d : SeatState = record (stored l j) { held = None; own = i ∷ (stored l j).own } in
-    seat_written (record (kept_state s) { stage = λ k. get_or (set s.stages.items i Marked) k Out; ring = λ k. get_or (set s.ring.items (i % SLOTS) (c.index_mut-2.result.now + 1)) k 0 }) l j _ d lt
+    seat_written (record (kept_state s) {
+      stage = λ k. get_or (set s.stages.items i Marked) k Out;
+      ring = λ k. get_or (set s.ring.items (i % SLOTS) (c.index_mut-2.result.now + 1)) k 0;
+    }) l j _ d lt
     (λ k. record (p k) { held = None; own = (ap (λ (m : List ℕ). reverse m) c.in_ok-push.ensures.items ∙ own) k })
     ∙ (λ k. record (kept_state s) { stage = stage k; ring = ring k; seats = updated (stored l) j d })
     ∙ ap (marked_state shape_count has_part (kept_state s) j) (ap (held_or 0) (sym c.requires.held))

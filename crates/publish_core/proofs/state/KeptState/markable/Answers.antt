@@ -23,7 +23,8 @@ returns-then-knows_all-clause-some c =
         ap (λ (d : SeatState). d.held) (sym p) ∙ held,
         c.if-held-self.true,
         λ b k at part. let is : c.index.result.now ≡ b = c.index.ensures ∙ read_at s.batches.items c.in_ok-held.held b c.index.result.now at in
-            subst (λ (d : SeatState). Among (record { batch = c.in_ok-held.held; shard = k }) d.knows) p (c.knows_all.ensures.0 c.if-knows_all.true k (subst (λ (x : BatchShape). IsTrue (has_part x k)) (sym is) part)),
+            subst (λ (d : SeatState). Among (record { batch = c.in_ok-held.held; shard = k }) d.knows) p
+            (c.knows_all.ensures.0 c.if-knows_all.true k (subst (λ (x : BatchShape). IsTrue (has_part x k)) (sym is) part)),
       ),
     )
 
@@ -36,8 +37,11 @@ returns-else-held-self-clause-none c = λ q.
     let is : c.in_ok-held.held ≡ i = cc in
     let below : i < s.head = q.1.2 in
     elim c.else-held-self.branch [
-      | else-held-self-via-then-held-self+else-knows_all w ↦ let at : get_elem? s.batches.items c.in_ok-held.held ≡ some w.index.result.now = stands_at s.batches.items c.in_ok-held.held w.index.result.now (omega arith) w.index.ensures in
-          let t : IsTrue w.knows_all.result = w.knows_all.ensures.1 (λ k part. subst (λ (x : SeatState × ℕ). Among (record { batch = x.1; shard = k }) x.0.knows) (λ z. (sym p z, sym is z)) (q.1.3 w.index.result.now k (subst (λ (x : ℕ). get_elem? s.batches.items x ≡ some w.index.result.now) is at) part)) in
+      | else-held-self-via-then-held-self+else-knows_all w ↦ let at : get_elem? s.batches.items c.in_ok-held.held ≡ some w.index.result.now =
+          stands_at s.batches.items c.in_ok-held.held w.index.result.now (omega arith) w.index.ensures in
+          let t : IsTrue w.knows_all.result = w.knows_all.ensures.1
+          (λ k part. subst (λ (x : SeatState × ℕ). Among (record { batch = x.1; shard = k }) x.0.knows) (λ z. (sym p z, sym is z))
+          (q.1.3 w.index.result.now k (subst (λ (x : ℕ). get_elem? s.batches.items x ≡ some w.index.result.now) is at) part)) in
           let f : w.knows_all.result ≡ false = w.if-knows_all.false in let z : false ≡ true = sym f ∙ t in cc
       | else-held-self-via-else-held-self w ↦ absurd (omega arith)
     ]

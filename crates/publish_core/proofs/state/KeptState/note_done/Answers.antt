@@ -11,7 +11,9 @@ returns-in_err-push-clause-err c =
     let s = c.args.self.now in let l = s.done.items in let k : ℕ = c.args.shard in
     let cell = c.index_mut.result.now in let p : reverse cell.items ≡ done_in l k = done_at l k cell (omega arith) c.index_mut.ensures.value in
     let items : c.push.new.self.items ≡ cell.items = grind (arith, common_steps) in
-    on_err c.from_residual.result (done_written (kept_state s) l k _ (done_in l k) (omega arith) (ap (λ (x : List ℕ). reverse x) items ∙ p) ∙ (λ q. record (kept_state s) { done = put_same (done_in l) k q }))
+    on_err c.from_residual.result
+    (done_written (kept_state s) l k _ (done_in l k) (omega arith) (ap (λ (x : List ℕ). reverse x) items ∙ p)
+    ∙ (λ q. record (kept_state s) { done = put_same (done_in l) k q }))
 
 pub returns-clause-ok : goal.returns-clause-ok
 returns-clause-ok c =

@@ -15,5 +15,7 @@ loop-batch-preserved c =
     let more : take (k + 1) xs ≡ take k xs ++ get_or xs k 0 ∷ [] = take_more xs k 0 lt in
     record {
       seats = c.pass.ensures.seats ∙ c.loop-batch.invariant.seats;
-      passed = subst (λ (ys : List ℕ). HandsOn note into ys s u) (sym more) (passes_more note into (take k xs) (get_or xs k 0) s t u c.loop-batch.invariant.passed (c.pass.ensures.passed ∙ ap (λ (x : ℕ). passed t x note into) at));
+      passed = subst (λ (ys : List ℕ). HandsOn note into ys s u) (sym more)
+          (passes_more note into (take k xs) (get_or xs k 0) s t u c.loop-batch.invariant.passed
+          (c.pass.ensures.passed ∙ ap (λ (x : ℕ). passed t x note into) at));
     }

@@ -12,7 +12,8 @@ use Rattle.publish_core.proofs.state.KeptState.raise_published.Goals as goal
 
 pub returns : goal.returns
 returns c =
-    let s = c.args.self.now in let l = s.seats.items in let j : ℕ = c.args.seat in let i : ℕ = c.args.batch in let cell : KeptSeat = c.index_mut-raiser.result.now in
+    let s = c.args.self.now in let l = s.seats.items in let j : ℕ = c.args.seat in let i : ℕ = c.args.batch in
+    let cell : KeptSeat = c.index_mut-raiser.result.now in
     let p : seat_of cell ≡ stored l j = stored_at l j cell c.requires.made c.index_mut-raiser.ensures.value in
     let next : i + 1 ≡ suc i = omega arith in
     let n : c.max-published.result ≡ max s.published (suc i) = c.max-published.ensures ∙ ap (max s.published) next in

@@ -9,5 +9,6 @@ pub returns : goal.returns
 returns c =
     let s = c.args.self.now in let l = s.seats.items in let i : ℕ = c.args.seat in
     let cell = c.index_mut-reader.result.now in let p : seat_of cell ≡ stored l i = stored_at l i cell c.requires c.index_mut-reader.ensures.value in
-    let n : c.saturating_add-reader.result ≡ one_more (stored l i).counts.ackeds = c.saturating_add-reader.ensures ∙ ap (λ (d : SeatState). one_more d.counts.ackeds) p in
+    let n : c.saturating_add-reader.result ≡ one_more (stored l i).counts.ackeds =
+    c.saturating_add-reader.ensures ∙ ap (λ (d : SeatState). one_more d.counts.ackeds) p in
     seat_written (kept_state s) l i _ _ c.requires (λ k. record (p k) { acked = s.acked; counts = record (p k).counts { ackeds = n k } })
