@@ -1,6 +1,9 @@
 ghost use Rattle.std.specs.Prelude.{◌≡◌, ◌<◌, length};
 
 use crate::{ArenaList, Found, Version, Walk};
+use rand_core::SeedableRng;
+use rand_core::utils::NextWord;
+use rand_pcg::Pcg32;
 use std::alloc::Global;
 use std::collections::BTreeMap;
 use std::process::Abort;
@@ -213,24 +216,6 @@ fn one_key_has_a_hundred_thousand_versions(rt: HostRuntime) {
     assert_eq!(&rt; below, 0);
 }
 
-/// Numbers that look random: those of a linear congruential generator.
-#[derive(Drop)]
-struct Dice(u64);
-
-impl Dice {
-    /// The next number, below a bound that is not 0.
-    fn roll(&mut self, bound: u64) -> u64
-        requires { 0 < bound }
-        ensures { result < bound }
-    {
-        self.0 = self
-            .0
-            .wrapping_mul(6_364_136_223_846_793_005)
-            .wrapping_add(1_442_695_040_888_963_407);
-        (self.0 >> 33) % bound
-    }
-}
-
 /// What a list is to hold: for each key its values, by number.
 type Plain = BTreeMap<Vec<u8>, BTreeMap<u64, Option<Vec<u8>>>>;
 
@@ -304,16 +289,16 @@ fn step(
     rt: &impl Abort,
     rig: &mut Rig,
     plain: &mut Plain,
-    dice: &mut Dice,
+    dice: &mut Pcg32,
     keys: &[&[u8]],
     bound: u64,
 )
     requires keys { 0 < length keys.now }
     requires bound { 0 < bound }
 {
-    let key = keys[dice.roll(keys.len() as u64) as usize];
-    let seq = dice.roll(bound);
-    match dice.roll(5) {
+    let key = keys[dice.next_word() as usize % keys.len()];
+    let seq = u64::from(dice.next_word()) % bound;
+    match dice.next_word() % 5 {
         0 => assert_eq!(rt; rig.list.remove(key, seq), plain_remove(plain, key, seq)),
         1 => assert_eq!(rt; rig.list.newest(key, seq), plain_newest(plain, key, seq)),
         kind => {
@@ -331,7 +316,7 @@ fn a_list_answers_as_a_map_does(rt: HostRuntime) {
     let alloc = rt.alloc();
     let mut rig = Rig::new(&rt, alloc);
     let mut plain = BTreeMap::new(alloc);
-    let mut dice = Dice(7);
+    let mut dice = Pcg32::seed_from_u64(7);
     let keys: [&[u8]; 8] = [b"", b"a", b"a\0", b"ab", b"abc", b"b", b"ba", b"c"];
     for k in 0..10_000 {
         step(&rt, &mut rig, &mut plain, &mut dice, &keys, 200);
@@ -435,7 +420,7 @@ fn a_long_list_answers_as_a_map_does_whatever_the_leads_of_its_keys(rt: HostRunt
     let alloc = rt.alloc();
     let mut rig = Rig::new(&rt, alloc);
     let mut plain = BTreeMap::new(alloc);
-    let mut dice = Dice(11);
+    let mut dice = Pcg32::seed_from_u64(11);
     let keys = near_keys();
     for _ in 0..STEPS {
         step(&rt, &mut rig, &mut plain, &mut dice, &keys, 400);

@@ -14,7 +14,7 @@ mod on_the_way;
 mod stops;
 
 use crate::{Gate, GatePoint, NoGate, Parts, PipeName, Pipeline, Reply, Session, Sessions};
-use batch_repr::{BatchBuilder, Batches, NUMBER_FIRST, Unnumbered};
+use batch_repr::{Batches, NUMBER_FIRST, Unnumbered};
 use disk_face::{Disk, Side, StallDisk};
 use failover_writer::Journal;
 use mem_disk::MemDisk;
@@ -26,6 +26,7 @@ use std::sync::atomic::{AtomicBool, AtomicU64, Ordering};
 use std::sync::ledger::Ledger;
 use std::thread;
 use std::thread::Threads;
+use test_rigs::{Change, batch_of};
 
 /// The turns for which a gate holds a session at most.
 const TURNS: u64 = 1_000_000;
@@ -43,12 +44,7 @@ fn counted(count: &AtomicU64, least: u64) -> bool {
 
 /// A batch that sets a key of one byte to a value of one byte.
 fn one_set(rt: &impl Abort, alloc: Global, key: u8, value: u8) -> Unnumbered {
-    let mut builder = BatchBuilder::new(alloc).expect(rt, "memory");
-    assert!(rt; builder.set(&[key], &[value]).is_ok());
-    match builder.finish() {
-        Ok(batch) => batch,
-        Err(_) => panic!(rt; "a batch of one entry"),
-    }
+    batch_of(alloc, &[Change::Set(&[key], &[value])]).expect(rt, "memory")
 }
 
 /// A journal of no record, over a disk in memory.

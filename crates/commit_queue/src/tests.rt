@@ -13,11 +13,12 @@ use crate::waiting::LOOKS;
 use crate::{
     FlushSeat, Handed, Holder, PipeTable, ProducerSeat, Published, SessionSeat, Shards, Waiter,
 };
-use batch_repr::{BATCHES_MAX, BatchBuilder, NUMBER_MAX, Numbered, Unnumbered};
+use batch_repr::{BATCHES_MAX, NUMBER_MAX, Numbered};
 use memtable_shards::{Found, Pieces, SHARDS, Shard, shard_index, split};
 use std::alloc::Global;
 use std::process::Abort;
 use std::sync::Wait;
+use test_rigs::{Change, batch_of};
 use wal_base::ListOf;
 
 const FIRST: u64 = 10;
@@ -70,24 +71,12 @@ fn eight(rt: &impl Abort, alloc: Global) -> Shards
     shards
 }
 
-/// A batch that takes one number.
-fn one_set(rt: &impl Abort, alloc: Global) -> Unnumbered {
-    let mut builder = BatchBuilder::new(alloc).expect(rt, "memory");
-    if builder.set(b"k", b"v").is_err() {
-        panic!(rt; "memory");
-    }
-    match builder.finish() {
-        Ok(batch) => batch,
-        Err(_) => panic!(rt; "a batch of one entry"),
-    }
-}
-
 /// The batch that takes this one number, and its pieces.
 fn next_batch(rt: &impl Abort, alloc: Global, next: u64) -> (Numbered, Pieces)
     ensures first { result.0.first ≡ next }
     ensures pieces { result.1 ≡ record (whole_pieces result.0.entries) { first = Some result.0.first } }
 {
-    let batch = one_set(rt, alloc);
+    let batch = batch_of(alloc, &[Change::Set(b"k", b"v")]).expect(rt, "memory");
     if next > NUMBER_MAX || u64::from(batch.count()) > NUMBER_MAX - next {
         panic!(rt; "a number left");
     }

@@ -1,16 +1,17 @@
-ghost use Rattle.std.specs.Prelude.{◌≡◌, ◌≤◌, None, IsTrue};
-ghost use Rattle.disk_face.specs.View.{Place, files, NothingInFlight};
+ghost use Rattle.std.specs.Prelude.{◌≤◌, IsTrue};
+ghost use Rattle.disk_face.specs.View.{NothingInFlight};
 ghost use Rattle.failover_writer.specs.Ranges.{AreUnsent};
 
 mod stops;
 
 use crate::{DeadMark, Journal, JournalFault, Step, a_journal_at_hand};
-use batch_repr::{BATCHES_MAX, BatchBuilder, NUMBER_MAX, Numbered};
+use batch_repr::{BATCHES_MAX, NUMBER_MAX, Numbered};
 use disk_face::{Disk, ScriptDisk, SegName, Side};
 use mem_disk::MemDisk;
 use record_queue::RecordNode;
 use std::alloc::Global;
 use std::process::Abort;
+use test_rigs::{Fresh, numbered_set};
 use wal_base::NoMemory;
 
 const WAL: u64 = 1;
@@ -30,73 +31,55 @@ fn side_of(index: u32) -> Side {
     }
 }
 
-/// The batch with this first number that sets `a` to a digit.
+/// The batch with this first number that sets `a` to a digit, if there is memory for it.
+fn batch_short(alloc: Global, first: u64, digit: u8) -> Result<Numbered, NoMemory> {
+    if first >= NUMBER_MAX {
+        return Err(NoMemory);
+    }
+    numbered_set(alloc, first, b"a", &[digit])
+}
+
+/// The same where there is memory.
 fn batch_of(rt: &impl Abort, alloc: Global, first: u64, digit: u8) -> Numbered {
-    let mut builder = BatchBuilder::new(alloc).expect(rt, "memory");
-    builder.set(b"a", &[digit]).expect(rt, "an entry");
-    let Ok(batch) = builder.finish() else {
-        panic!(rt; "a batch");
-    };
-    assert_eq!(rt; batch.count(), 1);
-    let Ok(first) = u32::try_from(first) else {
-        panic!(rt; "a small number");
-    };
-    batch.number(u64::from(first))
+    batch_short(alloc, first, digit).expect(rt, "memory")
 }
 
-/// A disk on which nothing stands and nothing is in flight.
-#[derive(Drop)]
-struct Fresh {
-    disk: MemDisk,
-    ghost idle: { NothingInFlight (⟦<MemDisk as Disk>⟧.view disk) },
-    ghost empty: { (p : Place) → files (⟦<MemDisk as Disk>⟧.view disk) p ≡ None },
+/// A disk on which nothing stands, and nothing is in flight.
+fn fresh(rt: &impl Abort, alloc: Global) -> Fresh {
+    Fresh::new(alloc).expect(rt, "memory")
 }
 
-impl Fresh {
-    fn new(rt: &impl Abort, alloc: Global) -> Fresh {
-        let disk = MemDisk::new(alloc).expect(rt, "memory");
-        Fresh { disk }
+/// A disk on which each of the first ten syncs is to fail.
+fn unsyncing(rt: &impl Abort, alloc: Global) -> Fresh {
+    let mut fresh = fresh(rt, alloc);
+    for index in 0..10 {
+        fresh.fail_op(2 + 3 * index).expect(rt, "memory");
     }
+    fresh
+}
 
-    /// The operation of that number is to fail.
-    fn fail_op(&mut self, rt: &impl Abort, number: u64) {
-        self.disk.fail_op(number).expect(rt, "memory");
+/// A journal of no record over a disk, which begins with this number.
+fn journal_from(
+    rt: &impl Abort,
+    alloc: Global,
+    fresh: Fresh,
+    base: u64,
+    threshold: u32,
+) -> Journal<MemDisk> {
+    if threshold == 0 || threshold > 1_000 {
+        panic!(rt; "a threshold");
     }
+    let disk = fresh.into_disk();
+    match Journal::start(alloc, disk, WAL, base, threshold) {
+        Ok(journal) => journal,
+        Err(_) => panic!(rt; "memory"),
+    }
+}
 
-    /// A journal of no record over the disk.
-    fn journal(self, rt: &impl Abort, alloc: Global, threshold: u32) -> Journal<MemDisk> {
-        self.journal_from(rt, alloc, BASE, threshold)
-    }
-
-    /// The same, which begins with this number.
-    fn journal_from(
-        self,
-        rt: &impl Abort,
-        alloc: Global,
-        base: u64,
-        threshold: u32,
-    ) -> Journal<MemDisk> {
-        if threshold == 0 || threshold > 1_000 {
-            panic!(rt; "a threshold");
-        }
-        let Fresh { disk } = self;
-        match Journal::start(alloc, disk, WAL, base, threshold) {
-            Ok(journal) => journal,
-            Err(_) => panic!(rt; "memory"),
-        }
-    }
-
-    /// The same from the least number, if there is memory for it.
-    fn journal_short(self, alloc: Global) -> Option<Journal<MemDisk>> {
-        let Fresh { disk } = self;
-        Journal::start(alloc, disk, WAL, BASE, 3).ok()
-    }
-
-    /// A journal of no record over a script disk over it, which leaves a segment at the first pending poll.
-    fn scripted(self, rt: &impl Abort, alloc: Global) -> Journal<ScriptDisk<MemDisk>> {
-        let Fresh { disk } = self;
-        scripted(rt, alloc, disk, 1)
-    }
+/// A journal of no record over a disk, if there is memory for it.
+fn journal_short(alloc: Global, fresh: Fresh) -> Option<Journal<MemDisk>> {
+    let disk = fresh.into_disk();
+    Journal::start(alloc, disk, WAL, BASE, 3).ok()
 }
 
 /// A journal of no record over a script disk over a disk.
@@ -116,9 +99,15 @@ fn scripted<D: Disk>(
     }
 }
 
+/// The same over an empty disk in memory, which leaves a segment at the first pending poll.
+fn scripted_fresh(rt: &impl Abort, alloc: Global) -> Journal<ScriptDisk<MemDisk>> {
+    let disk = fresh(rt, alloc).into_disk();
+    scripted(rt, alloc, disk, 1)
+}
+
 /// A journal of no record over an empty disk.
 fn journal_of(rt: &impl Abort, alloc: Global, threshold: u32) -> Journal<MemDisk> {
-    Fresh::new(rt, alloc).journal(rt, alloc, threshold)
+    journal_from(rt, alloc, fresh(rt, alloc), BASE, threshold)
 }
 
 /// Pushes the next batch, of one Set.
@@ -254,11 +243,7 @@ fn a_late_sync_of_an_older_segment_counts(rt: HostRuntime) {
 #[test]
 fn a_journal_whose_syncs_fail_is_dead_for_good(rt: HostRuntime) {
     let alloc = rt.alloc();
-    let mut fresh = Fresh::new(&rt, alloc);
-    for index in 0..10 {
-        fresh.fail_op(&rt, 2 + 3 * index);
-    }
-    let mut journal = fresh.journal(&rt, alloc, 3);
+    let mut journal = journal_from(&rt, alloc, unsyncing(&rt, alloc), BASE, 3);
     push(&rt, alloc, &mut journal, b'1', true);
     let dead = Err(JournalFault::Dead {
         side: Side::Secondary,
@@ -279,9 +264,9 @@ fn a_journal_whose_syncs_fail_is_dead_for_good(rt: HostRuntime) {
 #[test]
 fn a_segment_that_is_left_and_fails_later_counts_twice(rt: HostRuntime) {
     let alloc = rt.alloc();
-    let mut fresh = Fresh::new(&rt, alloc);
-    fresh.fail_op(&rt, 2);
-    let mut journal = fresh.journal(&rt, alloc, 3);
+    let mut fresh = fresh(&rt, alloc);
+    fresh.fail_op(2).expect(&rt, "memory");
+    let mut journal = journal_from(&rt, alloc, fresh, BASE, 3);
     push(&rt, alloc, &mut journal, b'1', true);
     for _ in 0..3 {
         assert_eq!(rt; step(&rt, &mut journal), Step::Moved);
@@ -325,11 +310,7 @@ fn records_in_nodes_are_written_as_others_are(rt: HostRuntime) {
 #[test]
 fn a_dead_journal_takes_nodes_and_stays_dead(rt: HostRuntime) {
     let alloc = rt.alloc();
-    let mut fresh = Fresh::new(&rt, alloc);
-    for index in 0..10 {
-        fresh.fail_op(&rt, 2 + 3 * index);
-    }
-    let mut journal = fresh.journal(&rt, alloc, 3);
+    let mut journal = journal_from(&rt, alloc, unsyncing(&rt, alloc), BASE, 3);
     push_node(&rt, alloc, &mut journal, b'1', true);
     let dead = Err(JournalFault::Dead {
         side: Side::Secondary,
@@ -344,21 +325,6 @@ fn a_dead_journal_takes_nodes_and_stays_dead(rt: HostRuntime) {
     assert_eq!(rt; journal.close(), dead);
     assert_eq!(rt; (journal.dead(), journal.acked()), (mark, 0));
     assert_sent(&rt, &journal.into_disk(), 9, &TWO_FRAMES[..36]);
-}
-
-/// The batch with this first number that sets `a` to a digit, if there is memory for it.
-fn batch_short(alloc: Global, first: u64, digit: u8) -> Result<Numbered, NoMemory> {
-    let mut builder = BatchBuilder::new(alloc)?;
-    if builder.set(b"a", &[digit]).is_err() {
-        return Err(NoMemory);
-    }
-    let Ok(batch) = builder.finish() else {
-        return Err(NoMemory);
-    };
-    if batch.count() != 1 || first >= NUMBER_MAX {
-        return Err(NoMemory);
-    }
-    Ok(batch.number(first))
 }
 
 /// Hands the next batch, of one Set, over in a node, if there is memory for the two.
@@ -379,10 +345,10 @@ fn push_short(
 #[test]
 fn a_journal_of_nodes_that_lacks_memory_is_closed_later(rt: HostRuntime) {
     let alloc = rt.alloc();
-    let Ok(disk) = MemDisk::new(alloc) else {
+    let Ok(fresh) = Fresh::new(alloc) else {
         return;
     };
-    let Some(mut journal) = (Fresh { disk }).journal_short(alloc) else {
+    let Some(mut journal) = journal_short(alloc, fresh) else {
         return;
     };
     for digit in [b'1', b'2'] {
@@ -418,16 +384,11 @@ fn a_settled_journal_has_done_all_that_waits_for_nothing(rt: HostRuntime) {
 
 /// Pushes the next batch, of one Set, if its number is not above the greatest one.
 fn push_within(rt: &impl Abort, alloc: Global, journal: &mut Journal<MemDisk>) -> bool {
-    let mut builder = BatchBuilder::new(alloc).expect(rt, "memory");
-    builder.set(b"a", b"1").expect(rt, "an entry");
-    let Ok(batch) = builder.finish() else {
-        panic!(rt; "a batch");
-    };
     let first = journal.next();
-    if u64::from(batch.count()) > NUMBER_MAX.saturating_sub(first) {
+    if first >= NUMBER_MAX {
         return false;
     }
-    let batch = batch.number(first);
+    let batch = batch_of(rt, alloc, first, b'1');
     journal.reserve().expect(rt, "memory");
     if journal.dead().is_some() || batch.first() != journal.next() {
         panic!(rt; "a journal that lives");
@@ -440,7 +401,7 @@ fn push_within(rt: &impl Abort, alloc: Global, journal: &mut Journal<MemDisk>) -
 fn no_batch_is_numbered_above_the_greatest_number(rt: HostRuntime) {
     let alloc = rt.alloc();
     let last = 72_057_594_037_927_934;
-    let mut journal = Fresh::new(&rt, alloc).journal_from(&rt, alloc, last, 3);
+    let mut journal = journal_from(&rt, alloc, fresh(&rt, alloc), last, 3);
     assert_eq!(rt; journal.next(), last);
     assert!(rt; push_within(&rt, alloc, &mut journal), "the last number");
     assert_eq!(rt; journal.next(), 72_057_594_037_927_935);
@@ -519,7 +480,7 @@ fn a_second_segment_is_left_at_the_threshold_too(rt: HostRuntime) {
 #[test]
 fn a_journal_runs_over_a_script_disk(rt: HostRuntime) {
     let alloc = rt.alloc();
-    let mut journal = Fresh::new(&rt, alloc).scripted(&rt, alloc);
+    let mut journal = scripted_fresh(&rt, alloc);
     let batch = batch_of(&rt, alloc, journal.next(), b'1');
     journal.reserve().expect(&rt, "memory");
     if journal.dead().is_some() || batch.first() != journal.next() {

@@ -3,7 +3,7 @@ ghost use Rattle.disk_face.specs.declared.Side.TheVariants.{Primary};
 ghost use Rattle.disk_face.specs.View.{Place, segment, files, IsFree, NothingInFlight};
 
 use crate::{Goal, LogWriter};
-use batch_repr::{BatchBuilder, Numbered};
+use batch_repr::Numbered;
 use block_record::{ReadOut, read_out};
 use disk_face::{Disk, Progress, SegName, Side, StallDisk};
 use mem_disk::{CrashPick, FilePick, FilePicks, MemDisk};
@@ -11,6 +11,7 @@ use record_queue::RecordQueue;
 use std::alloc::Global;
 use std::marker::Model;
 use std::process::Abort;
+use test_rigs::numbered_set;
 use wal_base::Blob;
 
 const NAME: SegName = SegName { wal: 1, index: 0 };
@@ -123,21 +124,10 @@ fn goal_at(step: u32, all: u64, acked: u64) -> Goal {
     Goal { len, want, acked }
 }
 
-/// The batch of this number that sets `a` to a value, if there is memory for it.
-fn batch_of(alloc: Global, first: u32, value: &[u8]) -> Option<Numbered> {
-    let mut builder = BatchBuilder::new(alloc).ok()?;
-    builder.set(b"a", value).ok()?;
-    let batch = builder.finish().ok()?;
-    if batch.count() != 1 {
-        return None;
-    }
-    Some(batch.number(u64::from(first)))
-}
-
 /// The batch of this number that sets `a` to a value of so many equal bytes.
 fn numbered(rt: &impl Abort, alloc: Global, first: u32, byte: u8, len: usize) -> Numbered {
     let value = vec![in alloc; byte; len].expect(rt, "memory");
-    batch_of(alloc, first, &value).expect(rt, "memory")
+    numbered_set(alloc, u64::from(first), b"a", &value).expect(rt, "memory")
 }
 
 /// A record for each length of a value, the first with the number 10.

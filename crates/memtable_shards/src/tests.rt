@@ -3,11 +3,15 @@ ghost use Rattle.memtable_shards.specs.Parts.{AreByShard};
 
 use crate::{Found, SHARDS, Shard, shard_index, split};
 use arena_list::ArenaList;
-use batch_repr::{BatchBuilder, BuildFault, Unnumbered};
+use batch_repr::Unnumbered;
+use rand_core::SeedableRng;
+use rand_core::utils::NextWord;
+use rand_pcg::Pcg32;
 use std::alloc::Global;
 use std::collections::BTreeMap;
 use std::marker::Model;
 use std::process::Abort;
+use test_rigs::{Change, batch_of};
 use wal_base::{Blob, Entries, Entry, NoMemory};
 
 /// Eight shards that were given batches in a row from 10 on, and the number after them.
@@ -85,39 +89,9 @@ impl Rig {
     }
 }
 
-/// An entry of a batch, by its bytes.
-#[derive(Clone, Copy)]
-enum Change<'a> {
-    Set(&'a [u8], &'a [u8]),
-    Delete(&'a [u8]),
-    Note(&'a [u8]),
-    RangeDelete(&'a [u8], &'a [u8]),
-}
-
-/// Adds a change at the end.
-fn add_change(builder: &mut BatchBuilder, change: Change<'_>) -> Result<(), BuildFault> {
-    match change {
-        Change::Set(key, value) => builder.set(key, value),
-        Change::Delete(key) => builder.delete(key),
-        Change::Note(bytes) => builder.note(bytes),
-        Change::RangeDelete(start, end) => builder.delete_range(start, end),
-    }
-}
-
-fn batch_of(rt: &impl Abort, alloc: Global, changes: &[Change<'_>]) -> Unnumbered {
-    let mut builder = BatchBuilder::new(alloc).expect(rt, "memory");
-    for change in changes {
-        add_change(&mut builder, *change).expect(rt, "an entry");
-    }
-    let Ok(batch) = builder.finish() else {
-        panic!(rt; "a batch");
-    };
-    batch
-}
-
 /// Gives the shards a batch of these entries.
 fn give(rt: &impl Abort, rig: &mut Rig, changes: &[Change<'_>]) {
-    let batch = batch_of(rt, rig.alloc, changes);
+    let batch = batch_of(rig.alloc, changes).expect(rt, "memory");
     rig.add(rt, batch);
 }
 
@@ -277,7 +251,8 @@ fn a_range_that_runs_backwards_deletes_nothing(rt: HostRuntime) {
 #[test]
 fn a_range_has_a_piece_for_each_shard(rt: HostRuntime) {
     let alloc = rt.alloc();
-    let (_, entries) = batch_of(&rt, alloc, &RANGE).into_parts();
+    let batch = batch_of(alloc, &RANGE).expect(&rt, "memory");
+    let (_, entries) = batch.into_parts();
     let mut pieces = split(alloc, entries).expect(&rt, "memory");
     pieces.number(13);
     for shard in 0..SHARDS {
@@ -317,29 +292,12 @@ fn entries_of_no_batch_are_cut_too(rt: HostRuntime) {
     assert_eq!(&rt; at, 1);
 }
 
-/// Numbers that look random: those of a linear congruential generator.
-#[derive(Drop)]
-struct Dice(u64);
-
-impl Dice {
-    /// The next number, below a bound that is not 0.
-    fn roll(&mut self, bound: u64) -> u64
-        requires { 0 < bound }
-        ensures { result < bound }
-    {
-        self.0 = self
-            .0
-            .wrapping_mul(6_364_136_223_846_793_005)
-            .wrapping_add(1_442_695_040_888_963_407);
-        (self.0 >> 33) % bound
-    }
-
-    fn key(&mut self) -> &'static [u8] {
-        KEYS[self.roll(8) as usize]
-    }
-}
-
 const KEYS: [&[u8]; 8] = [b"", b"a", b"i", b"q", b"h", b"ab", b"ba", b"b"];
+
+/// One of the keys, by chance.
+fn key_of(dice: &mut Pcg32) -> &'static [u8] {
+    KEYS[dice.next_word() as usize % 8]
+}
 
 /// What shards are to answer, as a plain program keeps it: for each key its values, by number.
 type Plain = BTreeMap<&'static [u8], BTreeMap<u64, Option<&'static [u8]>>>;
@@ -394,13 +352,13 @@ fn plain_add(
 }
 
 /// Gives both a batch of two entries, which may be about one key.
-fn give_both(rt: &impl Abort, rig: &mut Rig, plain: &mut Plain, dice: &mut Dice) {
-    let first = match dice.roll(6) {
-        0 => Change::RangeDelete(dice.key(), dice.key()),
-        1 | 2 => Change::Delete(dice.key()),
-        _ => Change::Set(dice.key(), dice.key()),
+fn give_both(rt: &impl Abort, rig: &mut Rig, plain: &mut Plain, dice: &mut Pcg32) {
+    let first = match dice.next_word() % 6 {
+        0 => Change::RangeDelete(key_of(dice), key_of(dice)),
+        1 | 2 => Change::Delete(key_of(dice)),
+        _ => Change::Set(key_of(dice), key_of(dice)),
     };
-    let second = Change::Set(dice.key(), dice.key());
+    let second = Change::Set(key_of(dice), key_of(dice));
     let (alloc, seq) = (rig.alloc, rig.next);
     give(rt, rig, &[first, second]);
     plain_put(alloc, plain, seq, first).expect(rt, "memory");
@@ -408,14 +366,14 @@ fn give_both(rt: &impl Abort, rig: &mut Rig, plain: &mut Plain, dice: &mut Dice)
 }
 
 /// One step at random, on both: their answers agree.
-fn step(rt: &impl Abort, rig: &mut Rig, plain: &mut Plain, dice: &mut Dice) {
-    let kind = dice.roll(8);
+fn step(rt: &impl Abort, rig: &mut Rig, plain: &mut Plain, dice: &mut Pcg32) {
+    let kind = dice.next_word() % 8;
     if kind < 3 {
         give_both(rt, rig, plain, dice);
     } else if kind == 3 {
         rig.settle().expect(rt, "memory");
     } else {
-        let (key, below) = (dice.key(), dice.roll(8_000));
+        let (key, below) = (key_of(dice), u64::from(dice.next_word()) % 8_000);
         assert_eq!(rt; rig.read(key, below), plain_newest(plain, key, below));
     }
 }
@@ -425,7 +383,7 @@ fn shards_answer_as_a_map_does(rt: HostRuntime) {
     let alloc = rt.alloc();
     let mut rig = Rig::new(&rt, alloc);
     let mut plain = BTreeMap::new(alloc);
-    let mut dice = Dice(7);
+    let mut dice = Pcg32::seed_from_u64(7);
     for _ in 0..10_000 {
         step(&rt, &mut rig, &mut plain, &mut dice);
     }

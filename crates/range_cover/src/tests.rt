@@ -1,6 +1,9 @@
 ghost use Rattle.std.specs.Prelude.{◌<◌};
 
 use crate::{RangeCover, RangeMark, is_within};
+use rand_core::SeedableRng;
+use rand_core::utils::NextWord;
+use rand_pcg::Pcg32;
 use std::alloc::Global;
 use std::process::Abort;
 use wal_base::Blob;
@@ -94,24 +97,6 @@ fn a_key_is_within_from_the_start_on_and_before_the_end(rt: HostRuntime) {
     assert!(&rt; !is_within(b"b", b"a", b"a"));
 }
 
-/// Numbers that look random: those of a linear congruential generator.
-#[derive(Drop)]
-struct Dice(u64);
-
-impl Dice {
-    /// The next number, below a bound that is not 0.
-    fn roll(&mut self, bound: u64) -> u64
-        requires { 0 < bound }
-        ensures { result < bound }
-    {
-        self.0 = self
-            .0
-            .wrapping_mul(6_364_136_223_846_793_005)
-            .wrapping_add(1_442_695_040_888_963_407);
-        (self.0 >> 33) % bound
-    }
-}
-
 /// A range delete as the test keeps it: the places of its two keys, and its number.
 type Plain = (usize, usize, u64);
 
@@ -128,10 +113,17 @@ fn scan(plain: &[Plain], key: &[u8], below: u64) -> Option<u64> {
     newest
 }
 
+/// A number below a bound, by chance.
+fn below(dice: &mut Pcg32, bound: u64) -> u64
+    requires { 0 < bound }
+{
+    u64::from(dice.next_word()) % bound
+}
+
 /// The cover tells of each key what a scan tells, below some bounds.
-fn tells_as_a_scan(rt: &impl Abort, cover: &RangeCover, plain: &[Plain], dice: &mut Dice) {
+fn tells_as_a_scan(rt: &impl Abort, cover: &RangeCover, plain: &[Plain], dice: &mut Pcg32) {
     for key in KEYS {
-        for below in [0, dice.roll(80), dice.roll(80), u64::MAX] {
+        for below in [0, below(dice, 80), below(dice, 80), u64::MAX] {
             assert_eq!(rt; cover.newest(key, below), scan(plain, key, below));
         }
     }
@@ -140,14 +132,18 @@ fn tells_as_a_scan(rt: &impl Abort, cover: &RangeCover, plain: &[Plain], dice: &
 #[test]
 fn random_range_deletes_are_told_as_a_scan_tells_them(rt: HostRuntime) {
     let alloc = rt.alloc();
-    let mut dice = Dice(7);
+    let mut dice = Pcg32::seed_from_u64(7);
     for _ in 0..60 {
         let mut rig = Rig::new(&rt, alloc);
         let mut plain: Vec<Plain> = Vec::new(alloc);
         for k in 0..30u64 {
-            let (start, end) = (dice.roll(8) as usize, dice.roll(8) as usize);
+            let (start, end) = (dice.next_word() as usize, dice.next_word() as usize);
             // Some are late, and some have a number that another one has.
-            let number = if dice.roll(3) == 0 { dice.roll(60) } else { k };
+            let number = if dice.next_word() % 3 == 0 {
+                below(&mut dice, 60)
+            } else {
+                k
+            };
             rig.put(&rt, KEYS[start % 8], KEYS[end % 8], number);
             assert!(&rt; plain.push((start, end, number)).is_ok());
             tells_as_a_scan(&rt, &rig.cover, plain.as_slice(), &mut dice);
@@ -163,10 +159,10 @@ fn an_addition_that_lacks_memory_changes_nothing_told(rt: HostRuntime) {
         return;
     };
     let mut rig = Rig { alloc, cover };
-    let mut dice = Dice(11);
+    let mut dice = Pcg32::seed_from_u64(11);
     let mut plain: Vec<Plain> = Vec::new(alloc);
     for number in 0..12u64 {
-        let (start, end) = (dice.roll(8) as usize, dice.roll(8) as usize);
+        let (start, end) = (dice.next_word() as usize, dice.next_word() as usize);
         let (Ok(first), Ok(last)) = (
             Blob::copy_of(alloc, KEYS[start % 8]),
             Blob::copy_of(alloc, KEYS[end % 8]),

@@ -7,13 +7,14 @@ ghost use Rattle.record_flow.specs.Flows.{next_to_send};
 ghost use Rattle.record_flow.specs.Passes.{flow_id, flush_queue, send_queue, send_view};
 
 use crate::{FlushPass, RecordFlow, SendPass};
-use batch_repr::{BatchBuilder, Numbered};
+use batch_repr::Numbered;
 use record_queue::RecordNode;
 use std::alloc::Global;
 use std::process::Abort;
 use std::sync::Wait;
 use std::thread;
 use std::thread::Threads;
+use test_rigs::numbered_set;
 
 /// The number of the first record.
 const FIRST: u64 = 10;
@@ -30,15 +31,7 @@ fn numbered(rt: &impl Abort, alloc: Global, first: u64) -> Numbered
     ensures first { result.first ≡ first }
     ensures count { count_of result.entries ≡ 1 }
 {
-    let mut builder = BatchBuilder::new(alloc).expect(rt, "memory");
-    builder.set(b"a", b"1").expect(rt, "an entry");
-    let Ok(batch) = builder.finish() else {
-        panic!(rt; "a batch");
-    };
-    if batch.count() != 1 {
-        panic!(rt; "one entry");
-    }
-    batch.number(first)
+    numbered_set(alloc, first, b"a", b"1").expect(rt, "memory")
 }
 
 /// The first number of the record in a node.

@@ -1,22 +1,13 @@
 use crate::{RecordNode, RecordQueue};
-use batch_repr::{BatchBuilder, Numbered};
+use batch_repr::Numbered;
 use std::alloc::Global;
 use std::process::Abort;
+use test_rigs::numbered_set;
 use wal_base::NoMemory;
 
 /// The batch of one Set that takes this number.
 fn numbered(alloc: Global, first: u32) -> Result<Numbered, NoMemory> {
-    let mut builder = BatchBuilder::new(alloc)?;
-    if builder.set(b"a", b"1").is_err() {
-        return Err(NoMemory);
-    }
-    let Ok(batch) = builder.finish() else {
-        return Err(NoMemory);
-    };
-    if batch.count() != 1 {
-        return Err(NoMemory);
-    }
-    Ok(batch.number(u64::from(first)))
+    numbered_set(alloc, u64::from(first), b"a", b"1")
 }
 
 /// Hands over the records of these numbers, record k with the number 10 + k.

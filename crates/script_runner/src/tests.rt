@@ -1,42 +1,20 @@
-ghost use Rattle.std.specs.Prelude.{◌≡◌, ◌≤◌, None, IfOk};
-ghost use Rattle.disk_face.specs.View.{Place, files, NothingInFlight};
+ghost use Rattle.std.specs.Prelude.{◌≤◌, IfOk};
 ghost use Rattle.session_script.specs.Script.{NamesItsSessions};
 ghost use Rattle.script_runner.specs.Works.{NamesItsOwn};
 
 use crate::{Outcome, Run, Work, run_work};
 use commit_pipeline::NoGate;
-use disk_face::Disk;
-use mem_disk::MemDisk;
 use session_script::{Script, ScriptFault, put_run_end, read_script};
 use std::alloc::Global;
 use std::process::Abort;
 use std::sync::Wait;
 use std::test::Fail;
 use std::thread::Threads;
+use test_rigs::Fresh;
 use wal_base::{Buf, ListOf, NoMemory};
 
 mod numbers;
 mod whole;
-
-/// A disk on which nothing stands and nothing is in flight.
-#[derive(Drop)]
-struct Fresh {
-    disk: MemDisk,
-    ghost idle: { NothingInFlight (⟦<MemDisk as Disk>⟧.view disk) },
-    ghost empty: { (p : Place) → files (⟦<MemDisk as Disk>⟧.view disk) p ≡ None },
-}
-
-impl Fresh {
-    fn new(alloc: Global) -> Result<Fresh, NoMemory> {
-        let disk = MemDisk::new(alloc)?;
-        Ok(Fresh { disk })
-    }
-
-    /// The operation of that number is to fail.
-    fn fail_op(&mut self, number: u64) -> Result<(), NoMemory> {
-        self.disk.fail_op(number)
-    }
-}
 
 /// The script that a text is.
 fn script_of(rt: &impl Abort, alloc: Global, text: &[u8]) -> Result<Script, NoMemory>
@@ -60,7 +38,7 @@ fn outcome_of<R: Threads + Wait + Sync>(
     requires threshold { (1 ≤ threshold) × (threshold ≤ 3) }
     requires sessions { NamesItsOwn work }
 {
-    let Fresh { disk } = fresh;
+    let disk = fresh.into_disk();
     let Run { outcome, disk: _ } = run_work(
         rt,
         alloc,

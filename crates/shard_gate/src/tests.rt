@@ -9,12 +9,13 @@ ghost use Rattle.commit_queue.specs.Seats.{session_table, session_view};
 ghost use Rattle.shard_gate.specs.Gates.{gate_table};
 
 use crate::{PieceBusy, ReadBusy, ShardGate};
-use batch_repr::{BATCHES_MAX, BatchBuilder, NUMBER_MAX, UnnumberedBytes};
+use batch_repr::{BATCHES_MAX, NUMBER_MAX, UnnumberedBytes};
 use commit_queue::{PipeTable, ProducerSeat, Published, SessionSeat, Shards};
 use memtable_shards::{Pieces, SHARDS, Shard, shard_index, split};
 use std::alloc::Global;
 use std::process::Abort;
 use std::sync::Wait;
+use test_rigs::{Change, batch_of};
 use wal_base::{Blob, ListOf};
 
 const FIRST: u64 = 10;
@@ -60,17 +61,11 @@ struct Ready {
 
 /// A batch that sets the key, or that deletes it.
 fn one_entry(rt: &impl Abort, alloc: Global, key: &[u8], value: Option<&[u8]>) -> Ready {
-    let mut builder = BatchBuilder::new(alloc).expect(rt, "memory");
-    let added = match value {
-        Some(value) => builder.set(key, value),
-        None => builder.delete(key),
+    let change = match value {
+        Some(value) => Change::Set(key, value),
+        None => Change::Delete(key),
     };
-    if added.is_err() {
-        panic!(rt; "memory");
-    }
-    let Ok(batch) = builder.finish() else {
-        panic!(rt; "a batch of one entry");
-    };
+    let batch = batch_of(alloc, &[change]).expect(rt, "memory");
     let (batch, entries) = batch.into_parts();
     let pieces = split(alloc, entries).expect(rt, "memory");
     Ready { batch, pieces }

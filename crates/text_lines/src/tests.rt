@@ -2,47 +2,23 @@ use crate::{
     SegmentLine, put_bad_batch, put_batch, put_conflict, put_corrupt, put_duplicate, put_gap,
     put_number, put_printed, put_recovered_end, put_segment, put_store, side_name,
 };
-use batch_repr::{Batch, BatchBuilder, BatchFault, BuildFault};
+use batch_repr::{Batch, BatchFault, SharedEntries};
 use disk_face::{SegName, Side};
 use std::alloc::Global;
 use std::process::Abort;
+use test_rigs::{Change, batch_of};
 use wal_base::{Buf, NoMemory};
 
 const NAME: SegName = SegName { wal: 1, index: 0 };
 
 const LATER: SegName = SegName { wal: 1, index: 1 };
 
-/// What a batch is to have.
-#[derive(Clone, Copy)]
-enum Change {
-    Set(&'static [u8], &'static [u8]),
-    Delete(&'static [u8]),
-    Note(&'static [u8]),
-    RangeDelete(&'static [u8], &'static [u8]),
-}
-
-fn add_all(builder: &mut BatchBuilder, changes: &[Change]) -> Result<(), BuildFault> {
-    for change in changes {
-        match change {
-            Change::Set(key, value) => builder.set(key, value)?,
-            Change::Delete(key) => builder.delete(key)?,
-            Change::Note(bytes) => builder.note(bytes)?,
-            Change::RangeDelete(start, end) => builder.delete_range(start, end)?,
-        }
-    }
-    Ok(())
-}
-
-/// A batch with the first number 10.
-fn batch_of(rt: &impl Abort, alloc: Global, changes: &[Change]) -> Batch {
-    let mut builder = BatchBuilder::new(alloc).expect(rt, "memory");
-    let added = add_all(&mut builder, changes);
-    let Ok(batch) = builder.finish() else {
-        panic!(rt; "a batch");
-    };
+/// The batch of these changes with the first number 10.
+fn tenth(rt: &impl Abort, alloc: Global, changes: &[Change<'_>]) -> Batch {
+    let batch = batch_of(alloc, changes).expect(rt, "memory");
     let (bytes, entries) = batch.into_parts();
     let first = bytes.number(10).first();
-    assert!(rt; added.is_ok());
+    let entries = SharedEntries::of(alloc, entries.into_vec()).expect(rt, "memory");
     Batch { first, entries }
 }
 
@@ -95,7 +71,7 @@ fn put_changes(rt: &impl Abort, alloc: Global, out: &mut Buf) -> Result<(), NoMe
         Change::Delete(b"b"),
         Change::Note(b"x"),
     ];
-    let batch = batch_of(rt, alloc, &changes);
+    let batch = tenth(rt, alloc, &changes);
     put_batch(out, &batch)
 }
 
@@ -178,8 +154,8 @@ fn put_two_batches(rt: &impl Abort, alloc: Global, out: &mut Buf) -> Result<(), 
         Change::Note(b"a"),
         Change::Delete(b"a"),
     ];
-    let first = batch_of(rt, alloc, &[Change::Set(b"a", b"1")]);
-    let second = batch_of(rt, alloc, &changes);
+    let first = tenth(rt, alloc, &[Change::Set(b"a", b"1")]);
+    let second = tenth(rt, alloc, &changes);
     put_store(alloc, out, &[first, second])
 }
 
@@ -196,8 +172,8 @@ fn a_store_has_no_key_of_a_deleted_range(rt: HostRuntime) {
         Change::Set(b"a", b"9"),
         Change::RangeDelete(b"d", b"c"),
     ];
-    let first = batch_of(&rt, alloc, &sets);
-    let second = batch_of(&rt, alloc, &changes);
+    let first = tenth(&rt, alloc, &sets);
+    let second = tenth(&rt, alloc, &changes);
     let mut out = Buf::new(alloc).expect(&rt, "memory");
     put_batch(&mut out, &second).expect(&rt, "memory");
     put_store(alloc, &mut out, &[first, second]).expect(&rt, "memory");

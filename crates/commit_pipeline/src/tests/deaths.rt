@@ -1,7 +1,7 @@
 //! What a session is told of a journal that dies, though it met no other session.
 ghost use Rattle.std.specs.Prelude.{◌≡◌, true};
 
-use super::fresh::Fresh;
+use super::fresh::{failing, journal_over};
 use super::{Play, one_set, play_out};
 use crate::{CommitFault, Committed, NoGate, PipeName, Pipeline, Session, Sessions};
 use disk_face::{Side, StallDisk};
@@ -76,7 +76,7 @@ fn a_death_is_seen_by_sessions_that_were_not_told(rt: HostRuntime) {
     let alloc = rt.alloc();
     for polls in 0..2u32 {
         // The sync of each segment.
-        let journal = Fresh::failing(&rt, alloc, 2, 3, 10).journal(&rt, alloc, 3);
+        let journal = journal_over(&rt, alloc, failing(&rt, alloc, 2, 3, 10), 3);
         let journal = play_out(&rt, alloc, journal, 3, &mut DiesForAll { polls });
         assert_eq!(&rt; (journal.len(), journal.acked()), (1, 0));
     }
@@ -117,7 +117,7 @@ fn a_death_that_the_own_write_met_is_told_to_the_next_commit(rt: HostRuntime) {
     let alloc = rt.alloc();
     for syncs in 0..2u32 {
         // The creation of each segment.
-        let journal = Fresh::failing(&rt, alloc, 0, 1, 10).journal(&rt, alloc, 3);
+        let journal = journal_over(&rt, alloc, failing(&rt, alloc, 0, 1, 10), 3);
         let mut play = DiesAsItWrites { sync: syncs == 1 };
         let journal = play_out(&rt, alloc, journal, 1, &mut play);
         assert_eq!(&rt; (journal.len(), journal.segments()), (1, 10));

@@ -3,7 +3,6 @@ ghost use Rattle.std.specs.Prelude.{◌≡◌, ◌≤◌};
 ghost use Rattle.batch_repr.specs.declared.limits.TheConstants.{NUMBER_FIRST, SESSIONS_MAX};
 ghost use Rattle.failover_writer.specs.State.{len};
 
-use super::fresh::Fresh;
 use super::{Act, TURNS, counted, one_set, run, state_of};
 use crate::{Gate, GatePoint, PipeName, Pipeline, Session};
 use batch_repr::NUMBER_FIRST;
@@ -17,6 +16,7 @@ use std::sync::ledger::Ledger;
 use std::sync::{Arc, Wait};
 use std::thread;
 use std::thread::Threads;
+use test_rigs::Fresh;
 use wal_base::NoMemory;
 
 /// What the disk and the sessions count.
@@ -175,7 +175,7 @@ fn counted_journal(
     ensures empty { len result.state ≡ 0 }
     ensures next { result.state.next ≡ NUMBER_FIRST }
 {
-    let Fresh { disk } = Fresh::new(rt, alloc);
+    let disk = Fresh::new(alloc).expect(rt, "memory").into_disk();
     let counted = Counted {
         inner: disk,
         counts,

@@ -3,7 +3,7 @@ ghost use Rattle.std.specs.Prelude.{◌≡◌, ◌≤◌};
 ghost use Rattle.batch_repr.specs.declared.limits.TheConstants.{NUMBER_FIRST, SESSIONS_MAX};
 ghost use Rattle.failover_writer.specs.State.{len};
 
-use super::fresh::Fresh;
+use super::fresh::{failing, journal_over};
 use super::{Act, CommitsOne, Pass, Turnstile, check_read, counted, one_set, run, state_of};
 use crate::{GatePoint, PipeName, Pipeline, Session};
 use disk_face::{Disk, Side};
@@ -15,6 +15,7 @@ use std::sync::Wait;
 use std::sync::atomic::Ordering;
 use std::sync::ledger::Ledger;
 use std::thread::Threads;
+use test_rigs::Fresh;
 
 /// For so many polls the first operation is in flight: more than the commits of a test make without a wait.
 const POLLS: u32 = 200;
@@ -24,7 +25,7 @@ fn stalled(rt: &impl Abort, alloc: Global, fresh: Fresh) -> Journal<MemDisk>
     ensures empty { len result.state ≡ 0 }
     ensures next { result.state.next ≡ NUMBER_FIRST }
 {
-    let mut journal = fresh.journal(rt, alloc, 1_000);
+    let mut journal = journal_over(rt, alloc, fresh, 1_000);
     journal.stall(Side::Primary, POLLS);
     journal
 }
@@ -73,7 +74,7 @@ fn commit_in_flight<R: Threads + Wait + Abort + Sync>(rt: &R, alloc: Global, ses
     };
     let gate = Turnstile::new(numbered, published, sessions);
     let act = CommitsInFlight { gate: &gate };
-    let journal = stalled(rt, alloc, Fresh::new(rt, alloc));
+    let journal = stalled(rt, alloc, Fresh::new(alloc).expect(rt, "memory"));
     let batches = run(rt, alloc, &gate, journal, sessions as usize, &act);
     assert_eq!(rt; (batches, gate.state()), (sessions, (sessions, false)));
 }
@@ -97,7 +98,7 @@ fn sync_together<R: Threads + Wait + Abort + Sync>(rt: &R, alloc: Global, sessio
         point: GatePoint::Published,
     };
     let gate = Turnstile::new(published, published, sessions);
-    let journal = stalled(rt, alloc, Fresh::failing(rt, alloc, 3, 1, 37));
+    let journal = stalled(rt, alloc, failing(rt, alloc, 3, 1, 37));
     let act = CommitsOne { sync: true };
     let batches = run(rt, alloc, &gate, journal, sessions as usize, &act);
     assert_eq!(rt; (batches, gate.state()), (sessions, (sessions, false)));

@@ -3,11 +3,11 @@ ghost use Rattle.std.specs.Prelude.{◌≡◌};
 ghost use Rattle.batch_repr.specs.declared.limits.TheConstants.{NUMBER_FIRST};
 ghost use Rattle.failover_writer.specs.State.{len};
 
-use super::fresh::Fresh;
+use super::fresh::failing;
 use super::{Act, one_set, run, state_of};
 use crate::{CommitFault, Committed, NoGate, PipeName, Pipeline, Session};
 use batch_repr::NUMBER_FIRST;
-use disk_face::{CallLog, Disk, DiskErr, DiskOp, Names, OpId, Progress, SegName, Side};
+use disk_face::{CallLog, Disk, Side};
 use failover_writer::Journal;
 use mem_disk::MemDisk;
 use std::alloc::Global;
@@ -15,78 +15,20 @@ use std::process::Abort;
 use std::sync::Wait;
 use std::sync::ledger::Ledger;
 use std::thread::Threads;
-use wal_base::NoMemory;
+use test_rigs::{Fresh, Late};
 
 /// The sync of the first segment, which comes after its creation and its write.
 const SYNC: u64 = 2;
-
-/// A disk that answers so many polls of the first segment's sync pending.
-#[derive(Drop)]
-struct Late<D: Disk> {
-    inner: D,
-    polls: u64,
-    log: CallLog,
-}
-
-impl<D: Disk> Disk for Late<D> {
-    ghost use Rattle.disk_face.specs.Script.{stalled};
-
-    ghost tells = { D.tells };
-
-    ghost view = { λ d. stalled (D.view d.inner) d.polls 0 d.log.calls };
-
-    fn list(&mut self, side: Side) -> Result<Names, DiskErr> {
-        let answer = self.inner.list(side);
-        self.log.note_listing(side, &answer);
-        answer
-    }
-
-    fn read(
-        &mut self,
-        side: Side,
-        name: SegName,
-        at: u64,
-        buf: &mut [u8],
-    ) -> Result<usize, DiskErr> {
-        self.log.note_read(side, name, buf.len());
-        self.inner.read(side, name, at, buf)
-    }
-
-    fn start(&mut self, op: DiskOp<'_>) -> Result<OpId, NoMemory> {
-        let id = self.inner.start(op)?;
-        self.log.note_start(id, op);
-        Ok(id)
-    }
-
-    fn poll(&mut self, id: OpId) -> Progress {
-        let held = self.polls > 0 && id.number == SYNC;
-        match id.side {
-            Side::Primary if held => {
-                self.polls -= 1;
-                self.log.note_poll(id, Progress::Pending);
-                Progress::Pending
-            }
-            Side::Primary | Side::Secondary => {
-                let answer = self.inner.poll(id);
-                self.log.note_poll(id, answer);
-                answer
-            }
-        }
-    }
-
-    ghost finite = { λ d k told le. D.finite d.inner k told le };
-
-    ghost sound = { λ d p f told is. D.sound d.inner p f told is };
-}
 
 /// A journal of no record over a disk that is late by so many polls.
 fn late_journal(rt: &impl Abort, alloc: Global, fresh: Fresh, polls: u64) -> Journal<Late<MemDisk>>
     ensures empty { len result.state ≡ 0 }
     ensures next { result.state.next ≡ NUMBER_FIRST }
 {
-    let Fresh { disk } = fresh;
+    let disk = fresh.into_disk();
     let late = Late {
         inner: disk,
+        op: SYNC,
         polls,
         log: CallLog::new(),
     };
@@ -126,7 +68,7 @@ fn sync_late<R: Threads + Wait + Abort + Sync>(
     answer: Result<Committed, CommitFault>,
     acked: u64,
 ) {
-    let fresh = Fresh::failing(rt, alloc, 3, 1, 9);
+    let fresh = failing(rt, alloc, 3, 1, 9);
     let journal = late_journal(rt, alloc, fresh, polls);
     run(rt, alloc, &NoGate, journal, 1, &SyncsLate { answer, acked });
 }

@@ -3,25 +3,18 @@ ghost use Rattle.std.specs.Prelude.{◌≡◌, true};
 
 use super::{Play, journal_from, one_set, play_out};
 use crate::{CommitFault, Committed, NoGate, PipeName, Pipeline, Sessions};
-use batch_repr::{BatchBuilder, Unnumbered};
+use batch_repr::Unnumbered;
 use disk_face::StallDisk;
 use std::alloc::Global;
 use std::process::Abort;
 use std::sync::Wait;
 use std::sync::ledger::Ledger;
+use test_rigs::{Change, batch_of};
 
 /// A batch that sets two keys.
 fn two_sets(rt: &impl Abort, alloc: Global) -> Unnumbered {
-    let mut builder = BatchBuilder::new(alloc).expect(rt, "memory");
-    for key in [b"a", b"b"] {
-        if builder.set(key, b"1").is_err() {
-            panic!(rt; "memory");
-        }
-    }
-    match builder.finish() {
-        Ok(batch) => batch,
-        Err(_) => panic!(rt; "a batch of two entries"),
-    }
+    let changes = [Change::Set(b"a", b"1"), Change::Set(b"b", b"1")];
+    batch_of(alloc, &changes).expect(rt, "memory")
 }
 
 /// A session asks for two numbers where one is left, takes that one, and asks for one more.

@@ -3,13 +3,14 @@ use super::{
     log_at, segment_at, told_of,
 };
 use crate::{NoGate, Ran, Status, run};
-use disk_face::{CallLog, Disk, DiskErr, DiskOp, Names, OpId, Progress, SegName, Side};
+use disk_face::{CallLog, Side};
 use mem_disk::MemDisk;
 use std::alloc::{AllocError, Global};
 use std::process::Abort;
 use std::sync::Wait;
 use std::test::Fail;
 use std::thread::Threads;
+use test_rigs::Late;
 use wal_base::NoMemory;
 
 #[test]
@@ -180,66 +181,6 @@ fn a_living_run_has_three_segments(rt: HostRuntime) -> Result<(), Fail> {
     let disk = three_segments(&rt, alloc, 1_000, 3)?;
     assert!(rt; segment_at(&disk, 1) == Some(b"".as_slice()));
     check_third(&rt, alloc, disk)
-}
-
-/// A disk that answers so many polls of one operation on the primary side pending.
-#[derive(Drop)]
-struct Late<D: Disk> {
-    inner: D,
-    op: u64,
-    polls: u64,
-    log: CallLog,
-}
-
-impl<D: Disk> Disk for Late<D> {
-    ghost use Rattle.disk_face.specs.Script.{stalled};
-
-    ghost tells = { D.tells };
-
-    ghost view = { λ d. stalled (D.view d.inner) d.polls 0 d.log.calls };
-
-    fn list(&mut self, side: Side) -> Result<Names, DiskErr> {
-        let answer = self.inner.list(side);
-        self.log.note_listing(side, &answer);
-        answer
-    }
-
-    fn read(
-        &mut self,
-        side: Side,
-        name: SegName,
-        at: u64,
-        buf: &mut [u8],
-    ) -> Result<usize, DiskErr> {
-        self.log.note_read(side, name, buf.len());
-        self.inner.read(side, name, at, buf)
-    }
-
-    fn start(&mut self, op: DiskOp<'_>) -> Result<OpId, NoMemory> {
-        let id = self.inner.start(op)?;
-        self.log.note_start(id, op);
-        Ok(id)
-    }
-
-    fn poll(&mut self, id: OpId) -> Progress {
-        let held = self.polls > 0 && id.number == self.op;
-        match id.side {
-            Side::Primary if held => {
-                self.polls -= 1;
-                self.log.note_poll(id, Progress::Pending);
-                Progress::Pending
-            }
-            Side::Primary | Side::Secondary => {
-                let answer = self.inner.poll(id);
-                self.log.note_poll(id, answer);
-                answer
-            }
-        }
-    }
-
-    ghost finite = { λ d k told le. D.finite d.inner k told le };
-
-    ghost sound = { λ d p f told is. D.sound d.inner p f told is };
 }
 
 /// A disk on which the nine creations after the first sync fail.

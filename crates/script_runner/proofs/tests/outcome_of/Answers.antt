@@ -18,4 +18,4 @@ run_work-outcome-requires-clause-next g c κs within =
 
 pub run_work-outcome-requires-clause-absent : goal.run_work-outcome-requires-clause-absent
 run_work-outcome-requires-clause-absent g c κs within told index low high = subst IsUnsent
-    (sym (c.args.fresh.empty (segment (side_at index) (record { wal = 1; index = index })))) (tt, λ f is. cc)
+    (sym (c.into_disk-disk.ensures.empty (segment (side_at index) (record { wal = 1; index = index })))) (tt, λ f is. cc)

@@ -7,4 +7,4 @@ use Rattle.commit_pipeline.proofs.tests.late.late_journal.Goals as goal
 
 pub start-requires-clause-absent : goal.start-requires-clause-absent
 start-requires-clause-absent g c told index low high = subst IsUnsent
-    (sym (c.args.fresh.empty (segment (side_at index) (record { wal = 1; index = index })))) (tt, λ f is. cc)
+    (sym (c.into_disk-disk.ensures.empty (segment (side_at index) (record { wal = 1; index = index })))) (tt, λ f is. cc)

@@ -3,8 +3,8 @@ use Rattle.std.proofs.Common.{sym, subst}
 use Rattle.disk_face.specs.View.{segment}
 use Rattle.log_writer.specs.Fits.{IsUnsent}
 use Rattle.failover_writer.specs.Ranges.{side_at}
-use Rattle.failover_writer.proofs.tests.Fresh.scripted.Goals as goal
+use Rattle.failover_writer.proofs.tests.scripted_fresh.Goals as goal
 
 pub scripted-requires-clause-absent : goal.scripted-requires-clause-absent
 scripted-requires-clause-absent g c told index low high = subst IsUnsent
-    (sym (c.args.self.empty (segment (side_at index) (record { wal = 1; index = index })))) (tt, λ f is. cc)
+    (sym (c.into_disk-disk.ensures.empty (segment (side_at index) (record { wal = 1; index = index })))) (tt, λ f is. cc)

@@ -3,8 +3,8 @@ use Rattle.std.proofs.Common.{sym, subst}
 use Rattle.disk_face.specs.View.{segment}
 use Rattle.log_writer.specs.Fits.{IsUnsent}
 use Rattle.failover_writer.specs.Ranges.{side_at}
-use Rattle.failover_writer.proofs.tests.Fresh.journal_from.Goals as goal
+use Rattle.failover_writer.proofs.tests.journal_from.Goals as goal
 
 pub start-requires-clause-absent : goal.start-requires-clause-absent
 start-requires-clause-absent g c told index low high = subst IsUnsent
-    (sym (c.args.self.empty (segment (side_at index) (record { wal = 1; index = index })))) (tt, λ f is. cc)
+    (sym (c.into_disk-disk.ensures.empty (segment (side_at index) (record { wal = 1; index = index })))) (tt, λ f is. cc)
