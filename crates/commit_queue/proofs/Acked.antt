@@ -1,8 +1,7 @@
 -- Raising the acked word, and reading it, keep the rule of the table.
-use Rattle.std.proofs.Common.{◌≡◌, ◌≢◌, ℕ, ◌+◌, ◌<◌, ◌≤◌, List, length, get_or, set, Some, sym, refl, ap, ◌∙◌, subst, arith, length-set, get_or-set_other, get_or-set_same, true, max}
+use Rattle.std.proofs.Common.{◌≡◌, ◌≢◌, ℕ, ◌<◌, ◌≤◌, get_or, set, Some, sym, refl, ap, ◌∙◌, subst, arith, true, max}
 use mathlib.Core.Option.{none}
 use Rattle.atomic_table.specs.Table.{step, keeps, Allows}
-use Rattle.wal_base.proofs.Laws.{prefix_same}
 use Rattle.memtable_shards.specs.Versions.{touches}
 use Rattle.publish_core.specs.declared.seat.Kind.TheVariants.{Spent}
 use Rattle.publish_core.specs.declared.seat.SeatState.{SeatState}
@@ -12,22 +11,12 @@ use Rattle.publish_core.proofs.Laws.{kept_raise_acked}
 use Rattle.publish_core.proofs.Laws.{kept_load_acked}
 use Rattle.commit_queue.specs.declared.pipe_table.TableOpening.{TableOpening}
 use Rattle.commit_queue.specs.declared.view.View.{View}
-use Rattle.commit_queue.specs.declared.layout.TheConstants.{ENDS, VISIBLE, ACKED, RING_FROM, TURNS_FROM, WORDS}
-use Rattle.commit_queue.specs.Rule.{RingState, numbers, Shows, Linked}
+use Rattle.commit_queue.specs.declared.layout.TheConstants.{ACKED}
+use Rattle.commit_queue.specs.Rule.{RingState, numbers, Linked}
 use Rattle.commit_queue.specs.Views.{raising_view, acked_view}
 use Rattle.commit_queue.specs.Tells.{Seated, TellsAckedRaised, TellsAcked}
-use Rattle.commit_queue.proofs.Becomes.{linked, put_again, stays, shows_seats}
-
-shows_acked : (c : RingState) (words : List ℕ) (n : ℕ) → Shows c words → Shows (record c { acked = max c.acked n })
-    (set words ACKED (max (get_or words ACKED 0) n))
-shows_acked c words n h = let wide : length words ≡ WORDS = h.wide in let x : ℕ = max (get_or words ACKED 0) n in record {
-  wide = length-set words ACKED x ∙ h.wide;
-  ends_word = get_or-set_other words ACKED ENDS x 0 (λ e. omega arith) ∙ h.ends_word;
-  visible_word = get_or-set_other words ACKED VISIBLE x 0 (λ e. omega arith) ∙ h.visible_word;
-  acked_word = get_or-set_same words ACKED x 0 (omega arith) ∙ ap (λ (y : ℕ). max y n) h.acked_word;
-  ring_word = λ j l. get_or-set_other words ACKED (j + RING_FROM) x 0 (λ e. omega arith) ∙ h.ring_word j l;
-  shard_word = λ j l. get_or-set_other words ACKED (j + TURNS_FROM) x 0 (λ e. omega arith) ∙ h.shard_word j l;
-}
+use Rattle.commit_queue.proofs.Becomes.{still, linked, has_seen, stays}
+use Rattle.commit_queue.proofs.Words.{shows_seats, shows_acked}
 
 module _ (o : TableOpening) where
   pub raises_acked : (n id : ℕ) (me : Seated) (k h t : ℕ)
@@ -45,30 +34,12 @@ module _ (o : TableOpening) where
         w,
         keeps,
         tt,
-        linked o s r id (set s.words ACKED (max (get_or s.words ACKED 0) k)) w record {
+        linked o s r id (record (still o s r id v has) {
+          words = set s.words ACKED (max (get_or s.words ACKED 0) k);
+          view = w;
           core = c';
           sound = kept_raise_acked numbers touches c sound k (omega arith);
-          same_base = refl;
-          same_made = refl;
-          seats = put_again c.seats id v.seat seat;
-          longer = prefix_same c.batches;
-          others = λ _. (refl, refl);
-          few = r.few;
-          small = r.small;
-          first = r.first;
-          shows = shows_acked c s.words k r.shows;
-          base_is = λ _. ok.base live;
-          known = ok.known;
-          absorbed = ok.absorbed;
-          seen = ok.seen;
-          producer = ok.producer;
-          whole = ok.whole;
-          head = ok.head;
-          dones = refl;
-          turns = refl;
-          hand = ok.turn;
-          pieces = ok.pieces;
-          idle = ok.idle;
+          shows = shows_acked c c' s.words (max (get_or s.words ACKED 0) k) r.shows (ap (λ (y : ℕ). max y k) r.shows.acked_word) refl refl refl refl refl;
           acked_known = record {
             raised = λ e. (one, ap (λ (y : ℕ). max y k) mine.1);
             retired = ok.acked_known.retired;
@@ -79,7 +50,7 @@ module _ (o : TableOpening) where
             retired = o.retired;
             alone = λ e. let m = (o.alone e).0 in absurd (omega arith);
           };
-        },
+        }),
         (refl, refl, r.shows.acked_word ∙ sym mine.1),
       )
 
@@ -90,32 +61,13 @@ module _ (o : TableOpening) where
       let seat : c.seats id ≡ v.seat = ok.seat in let x : ℕ = get_or s.words ACKED 0 in let w : View = acked_view v x in
       let is : c.acked ≡ x = sym r.shows.acked_word in
       stays o s ACKED id me (TellsAcked (step n ACKED 0 0 none) me) w
-      (linked o s r id s.words w record {
+      (linked o s r id (record (still o s r id v has) {
+        view = w;
         core = after_load_acked numbers touches c id;
         sound = kept_load_acked numbers touches c sound id (subst Acts (sym seat) acts);
-        same_base = refl;
-        same_made = refl;
         seats = λ q. updated c.seats id (let d : SeatState = seat q in
             record d { acked = is q; counts = record d.counts { ackeds = one_more d.counts.ackeds } });
-        longer = prefix_same c.batches;
-        others = λ _. (refl, refl);
-        few = r.few;
-        small = r.small;
-        first = r.first;
         shows = shows_seats c _ s.words r.shows;
-        base_is = λ live. ok.base live;
-        known = ok.known;
-        absorbed = ok.absorbed;
-        seen = ok.seen;
-        producer = ok.producer;
-        whole = ok.whole;
-        head = ok.head;
-        dones = refl;
-        turns = refl;
-        hand = ok.turn;
-        pieces = ok.pieces;
-        idle = ok.idle;
         acked_known = record { raised = ok.acked_known.raised; retired = λ m e. absurd (calm m e); alone = ok.acked_known.alone };
-        acked_others = λ j a d ne o. o;
-      })
-      (refl, refl, subst (λ (d : SeatState). d.acked ≤ x) seat (subst (λ (y : ℕ). (c.seats id).acked ≤ y) is (sound.each_seat id).acked))
+      }))
+      (refl, refl, subst (λ (y : ℕ). v.seat.acked ≤ y) is (has_seen o s r id v has).2)

@@ -1,5 +1,5 @@
 -- The pieces of a batch are applied one after another: what each call asks, and that in the end all are applied.
-use Rattle.std.proofs.Common.{◌≡◌, ◌⊎◌, ⊎_elim, Some, None, IsTrue, true, ℕ, ◌+◌, ◌<◌, ◌≤◌, List, ◌∷◌, Option, Contains, sym, refl, ap, ◌∙◌, subst, arith}
+use Rattle.std.proofs.Common.{◌≡◌, ⊎_elim, Some, None, IsTrue, true, ℕ, ◌+◌, ◌<◌, ◌≤◌, List, ◌∷◌, Option, Contains, sym, refl, ap, ◌∙◌, subst, arith}
 use Rattle.std.proofs.lemmas.Bool.{cases_lt}
 use mathlib.Core.Option.{some, some-injective}
 use lib.ListN.{get_elem?}

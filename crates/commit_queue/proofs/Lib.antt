@@ -1,4 +1,5 @@
 pub mod Laws
+mod Words
 mod Becomes
 mod Places
 mod Publishes

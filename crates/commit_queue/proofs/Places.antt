@@ -27,7 +27,8 @@ use Rattle.commit_queue.specs.Rule.{RingState, numbers, Linked}
 use Rattle.commit_queue.specs.Views.{read_seat, read_view, placed_view, admitted_view}
 use Rattle.commit_queue.specs.Tells.{Seated, TellsSlot, TellsPlaced, TellsAdmitted}
 use Rattle.commit_queue.specs.Calls.{CanPlace, next_number}
-use Rattle.commit_queue.proofs.Becomes.{linked, turned, stays, shows_seats, shows_ring, shows_ends, put_again}
+use Rattle.commit_queue.proofs.Becomes.{still, linked, stays}
+use Rattle.commit_queue.proofs.Words.{shows_seats, shows_ends, shows_ring}
 
 module _ (o : TableOpening) where
   pub sees_slot : (n id : ℕ) (me : Seated) (at : ℕ) → at < SLOTS → Acts me.0.seat
@@ -37,30 +38,13 @@ module _ (o : TableOpening) where
       let w : View = read_view v at x in
       let back : at + RING_FROM - RING_FROM ≡ at = omega arith in
       stays o s (at + RING_FROM) id me (TellsSlot (step n (at + RING_FROM) 0 0 none) me) w
-      (turned o s r id s.words w v has record {
+      (linked o s r id (record (still o s r id v has) {
+        view = w;
         core = after_load_slot numbers touches c id at;
         sound = kept_load_slot numbers touches c r.sound id at (subst Acts (sym ok.seat) acts) small;
-        same_base = refl;
-        same_made = refl;
         seats = λ k. updated c.seats id (read_seat (ok.seat k) at (sym (r.shows.ring_word at small) k));
-        batches = refl;
-        heads = refl;
         shows = shows_seats c _ s.words r.shows;
-        base_is = (refl, refl, refl);
-        same_kind = refl;
-        known = ok.known;
-        absorbed = ok.absorbed;
-        seen = ok.seen;
-        whole = ok.whole;
-        head_is = refl;
-        taken_is = refl;
-        acked_is = (refl, refl, refl);
-        same_hand = refl;
-        pieces = ok.pieces;
-        idle = ok.idle;
-        dones = refl;
-        turns = refl;
-      })
+      }))
       (refl, ap (λ (a : ℕ). read_view v a x) (sym back))
 
   pub places : (n : ℕ) (me : Seated) (at new : ℕ) (b : Batch) → at ≡ me.0.head % SLOTS → new ≡ 2 * (b.first + numbers b)
@@ -89,11 +73,11 @@ module _ (o : TableOpening) where
         w,
         keeps,
         tt,
-        linked o s r 0 (set s.words (at + RING_FROM) new) w record {
+        linked o s r 0 (record (still o s r 0 v has) {
+          words = set s.words (at + RING_FROM) new;
+          view = w;
           core = c';
           sound = sound';
-          same_base = refl;
-          same_made = refl;
           seats = ap₂ (λ (d : SeatState) (j : ℕ). updated c.seats 0 (placed_seat numbers touches d j)) seat (sym len);
           longer = (b ∷ [], refl);
           others = λ ne. absurd (ne refl);
@@ -113,24 +97,16 @@ module _ (o : TableOpening) where
           shows = shows_ring c c' s.words at new (let m : c.head % SLOTS < SLOTS = omega arith in omega arith) r.shows refl refl
               (ends_append numbers c.base c.batches (b ∷ []) c.published (omega arith)) refl refl
               (ap₂ (updated c.ring) (sym at_head) (ap (λ (z : ℕ). 2 * (z + numbers b)) (sym first') ∙ sym new_is));
-          base_is = ok.base;
           known = subst (λ (l : List Batch). IsPrefixOf (l ++ b ∷ []) (c.batches ++ b ∷ [])) (sym hist) (prefix_same (c.batches ++ b ∷ []));
           absorbed = prefix_then v.absorbed c.batches (c.batches ++ b ∷ []) ok.absorbed (b ∷ [], refl);
           seen = λ _. omega (arith, length-append v.history (b ∷ []));
-          producer = λ _. refl;
           whole = λ _. ap (λ (l : List Batch). l ++ b ∷ []) hist;
-          head = λ z. ok.head z;
-          dones = refl;
-          turns = refl;
-          hand = ok.turn;
           pieces = λ j k e. (
             (λ a. let same : length v.history ≡ j = cc in let l = r.sound.known j k a in absurd (omega arith)),
             λ a. absurd a,
           );
           idle = λ e. let q : Some (length v.history) ≡ None = e in cc;
-          acked_known = ok.acked_known;
-          acked_others = λ j a k _ h. h;
-        },
+        }),
         (refl, refl),
       )
 
@@ -145,35 +121,17 @@ module _ (o : TableOpening) where
         w,
         keeps,
         tt,
-        linked o s r 0 (set s.words ENDS ((x + HALF) % 2 ^ 64)) w record {
+        linked o s r 0 (record (still o s r 0 v has) {
+          words = set s.words ENDS ((x + HALF) % 2 ^ 64);
+          view = w;
           core = c';
           sound = kept_admit numbers touches c r.sound more';
-          same_base = refl;
-          same_made = refl;
-          seats = put_again c.seats 0 v.seat ok.seat;
-          longer = prefix_same c.batches;
           others = λ ne. absurd (ne refl);
-          few = r.few;
-          small = r.small;
-          first = r.first;
           shows = shows_ends c c' s.words ((x + HALF) % 2 ^ 64) r.shows
               (mod-eq_of_lt (let g : x + HALF < 2 ^ 64 = omega arith in g)
               ∙ (let g : x + HALF ≡ (c.head + 1) * HALF + c.tail = omega arith in g)) refl refl refl refl;
-          base_is = ok.base;
-          known = ok.known;
-          absorbed = ok.absorbed;
-          seen = ok.seen;
-          producer = λ _. refl;
-          whole = ok.whole;
           head = λ z. ap (λ (y : ℕ). y + 1) (ok.head z);
-          dones = refl;
-          turns = refl;
-          hand = ok.turn;
-          pieces = ok.pieces;
-          idle = ok.idle;
-          acked_known = ok.acked_known;
-          acked_others = λ j a k _ h. h;
-        },
+        }),
         (refl, refl),
       )
 

@@ -1,6 +1,6 @@
 -- Marking and publishing keep the rule of the table.
 use Rattle.std.specs.Prelude.{Contains}
-use Rattle.std.proofs.Common.{◌≡◌, ℕ, suc, ◌+◌, ◌*◌, ◌%◌, ◌<◌, ◌≤◌, max, eqb, IsTrue, lt_of_not-le, List, [], ◌∷◌, length, get_or, set, Some, None, sym, refl, ap, ◌∙◌, subst, ap₂, ⊎_elim, arith, length-set, get_or-set_other, get_or-set_same}
+use Rattle.std.proofs.Common.{◌≡◌, ℕ, suc, ◌+◌, ◌*◌, ◌%◌, ◌<◌, ◌≤◌, max, eqb, IsTrue, lt_of_not-le, List, [], ◌∷◌, length, get_or, set, Some, None, sym, refl, ap, ◌∙◌, subst, ap₂, ⊎_elim, arith}
 use mathlib.Core.Logic.{dite}
 use mathlib.Core.Option.{none, some}
 use native.Mathlib.Decide.{ℕ_discrete, dec_le}
@@ -27,12 +27,13 @@ use Rattle.publish_core.proofs.Laws.{kept_load_ends, kept_load_visible, kept_cla
 use Rattle.publish_core.proofs.Laws.{has_all}
 use Rattle.commit_queue.specs.declared.pipe_table.TableOpening.{TableOpening}
 use Rattle.commit_queue.specs.declared.view.View.{View}
-use Rattle.commit_queue.specs.declared.layout.TheConstants.{ENDS, VISIBLE, ACKED, RING_FROM, TURNS_FROM, WORDS, HALF}
-use Rattle.commit_queue.specs.Rule.{RingState, TableState, numbers, turn_word, Shows, Linked}
+use Rattle.commit_queue.specs.declared.layout.TheConstants.{ENDS, VISIBLE, RING_FROM, HALF}
+use Rattle.commit_queue.specs.Rule.{RingState, TableState, numbers, Linked}
 use Rattle.commit_queue.specs.Views.{marked_view, ends_view, lost_view, won_view, emptied_view, raised_view, visible_view, settled_view}
 use Rattle.commit_queue.specs.Tells.{Seated, high, low, TellsMarked, TellsEnds, TellsClaim, TellsEmptied, TellsRaised, TellsVisible, TellsSettled, TopsAt}
 use Rattle.commit_queue.specs.Calls.{IsAppliedAll}
-use Rattle.commit_queue.proofs.Becomes.{acts_live, turned, Goes, stays, shows_seats, shows_ring, shows_ends, prefix_at}
+use Rattle.commit_queue.proofs.Becomes.{acts_live, Becomes, still, linked, has_seen, Goes, stays, prefix_at}
+use Rattle.commit_queue.proofs.Words.{shows_seats, shows_ends, shows_visible, shows_ring}
 use Rattle.commit_queue.proofs.Versioned.{in_row}
 use Rattle.commit_queue.proofs.Shown.{among, contained}
 
@@ -74,70 +75,43 @@ module _ (o : TableOpening) where
         w,
         keeps,
         tt,
-        turned o s r id (set s.words (at + RING_FROM) new) w v has record {
+        linked o s r id (record (still o s r id v has) {
+          words = set s.words (at + RING_FROM) new;
+          view = w;
           core = marked_state numbers touches c id i;
           sound = marking numbers touches c sound id i acts' holds' below knows;
-          same_base = refl;
-          same_made = refl;
           seats = ap (λ (d : SeatState). updated c.seats id (record d { held = None; own = i ∷ d.own })) seat;
-          batches = refl;
-          heads = refl;
           shows = shows_ring c (marked_state numbers touches c id i) s.words at new (omega arith) r.shows refl refl refl refl refl
               (ap₂ (updated c.ring) (sym at_is) is);
-          base_is = (refl, refl, refl);
-          same_kind = refl;
-          known = ok.known;
-          absorbed = ok.absorbed;
-          seen = ok.seen;
-          whole = ok.whole;
-          head_is = refl;
-          taken_is = refl;
-          acked_is = (refl, refl, refl);
-          same_hand = refl;
           pieces = λ j k e. let z : None ≡ Some j = e in cc;
           idle = λ _. refl;
-          dones = refl;
-          turns = refl;
-        },
+        }),
         (refl, λ j q. let same : i ≡ j = cc in ap (marked_view v) same),
       )
 
+  -- a seat that has loaded the ends
+  abbrev ends_loaded : (s : TableState) (r : Linked o s) (id : ℕ) (v : View) → get_elem? s.views id ≡ some v → Acts v.seat → (h t : ℕ)
+      → (r.core.head ≡ h) × (r.core.tail ≡ t) → Becomes o s r id
+  ends_loaded s r id v has acts h t are = record (still o s r id v has) {
+    view = ends_view v h t;
+    core = after_load_ends numbers touches r.core id;
+    sound = kept_load_ends numbers touches r.core r.sound id (subst Acts (sym (r.each_view id v has).seat) acts);
+    seats = λ k. updated r.core.seats id (let d : SeatState = (r.each_view id v has).seat k in
+        record d {
+          loaded = Some record { head = are.0 k; tail = are.1 k };
+          reading = None;
+          counts = record d.counts { ends = one_more d.counts.ends };
+        });
+    shows = shows_seats r.core _ s.words r.shows;
+  }
+
   pub sees_ends : (n id : ℕ) (me : Seated) → Acts me.0.seat → Allows (Linked o) n id me ENDS (λ x. x) (TellsEnds (step n ENDS 0 0 none) me)
   sees_ends n id me acts s r wide has _ =
-      let c : RingState = r.core in let v : View = me.0 in let ok = r.each_view id v has in let x : ℕ = get_or s.words ENDS 0 in
+      let c : RingState = r.core in let v : View = me.0 in let x : ℕ = get_or s.words ENDS 0 in
       let few = r.few in let th = r.sound.tail_head in let hl = r.sound.head_length in
-      let hv = halves x c.head c.tail r.shows.ends_word (omega arith) in let w : View = ends_view v (high x) (low x) in
-      stays o s ENDS id me (TellsEnds (step n ENDS 0 0 none) me) w
-      (turned o s r id s.words w v has record {
-        core = after_load_ends numbers touches c id;
-        sound = kept_load_ends numbers touches c r.sound id (subst Acts (sym ok.seat) acts);
-        same_base = refl;
-        same_made = refl;
-        seats = λ k. updated c.seats id (let d : SeatState = ok.seat k in
-            record d {
-              loaded = Some record { head = hv.0 k; tail = hv.1 k };
-              reading = None;
-              counts = record d.counts { ends = one_more d.counts.ends };
-            });
-        batches = refl;
-        heads = refl;
-        shows = shows_seats c _ s.words r.shows;
-        base_is = (refl, refl, refl);
-        same_kind = refl;
-        known = ok.known;
-        absorbed = ok.absorbed;
-        seen = ok.seen;
-        whole = ok.whole;
-        head_is = refl;
-        taken_is = refl;
-        acked_is = (refl, refl, refl);
-        same_hand = refl;
-        pieces = ok.pieces;
-        idle = ok.idle;
-        dones = refl;
-        turns = refl;
-      })
-      (refl, refl, omega arith)
+      let hv = halves x c.head c.tail r.shows.ends_word (omega arith) in
+      stays o s ENDS id me (TellsEnds (step n ENDS 0 0 none) me) (ends_view v (high x) (low x))
+      (linked o s r id (ends_loaded s r id v has acts (high x) (low x) hv)) (refl, refl, omega arith)
 
   pub settles : (n id : ℕ) (me : Seated) → Acts me.0.seat → Allows (Linked o) n id me ENDS (λ x. x) (TellsSettled (step n ENDS 0 0 none) me)
   settles n id me acts s r wide has _ =
@@ -145,39 +119,16 @@ module _ (o : TableOpening) where
       let few = r.few in let th = r.sound.tail_head in let hl = r.sound.head_length in let pt = r.sound.published_tail in
       let hv = halves x c.head c.tail r.shows.ends_word (omega arith) in
       let w : View = settled_view (ends_view v (high x) (low x)) c.batches in let seat : c.seats id ≡ v.seat = ok.seat in
-      let sn : v.seat.seen ≤ length c.batches = subst (λ (d : SeatState). d.seen ≤ length c.batches) seat (r.sound.each_seat id).seen in
-      let pb : v.seat.published ≤ c.published = subst (λ (d : SeatState). d.published ≤ c.published) seat
-      (r.sound.each_seat id).published.0 in
+      let sn = (has_seen o s r id v has).0 in
+      let pb = (has_seen o s r id v has).1 in
       stays o s ENDS id me (TellsSettled (step n ENDS 0 0 none) me) w
-      (turned o s r id s.words w v has record {
-        core = after_load_ends numbers touches c id;
-        sound = kept_load_ends numbers touches c r.sound id (subst Acts (sym ok.seat) acts);
-        same_base = refl;
-        same_made = refl;
-        seats = λ k. updated c.seats id (let d : SeatState = ok.seat k in
-            record d {
-              loaded = Some record { head = hv.0 k; tail = hv.1 k };
-              reading = None;
-              counts = record d.counts { ends = one_more d.counts.ends };
-            });
-        batches = refl;
-        heads = refl;
-        shows = shows_seats c _ s.words r.shows;
-        base_is = (refl, refl, refl);
-        same_kind = refl;
+      (linked o s r id (record (ends_loaded s r id v has acts (high x) (low x) hv) {
+        view = w;
         known = prefix_same c.batches;
         absorbed = (c.batches, refl);
         seen = λ _. sn;
         whole = λ z. refl;
-        head_is = refl;
-        taken_is = refl;
-        acked_is = (refl, refl, refl);
-        same_hand = refl;
-        pieces = ok.pieces;
-        idle = ok.idle;
-        dones = refl;
-        turns = refl;
-      }) (
+      })) (
         refl,
         (
           c.batches,
@@ -200,7 +151,8 @@ module _ (o : TableOpening) where
       )
 
   pub claims : (n id : ℕ) (me : Seated) (old new h t w : ℕ)
-      → old ≡ h * HALF + t → new ≡ old + 1 → t < HALF → h < HALF → Acts me.0.seat → me.0.seat.claim ≡ Free → me.0.seat.loaded ≡ Some record { head = h; tail = t } → t < h
+      → old ≡ h * HALF + t → new ≡ old + 1 → t < HALF → h < HALF → Acts me.0.seat → me.0.seat.claim ≡ Free
+      → me.0.seat.loaded ≡ Some record { head = h; tail = t } → t < h
       → me.0.seat.reading ≡ Some record {
         at = t % SLOTS;
         word = w;
@@ -223,34 +175,21 @@ module _ (o : TableOpening) where
       (λ (y : ℕ). (c.stage y ≡ Marked) × (w ≡ 2 * end_of numbers c y + 1)) (sym tt') a) front in
       let w' : View = won_view v (low x) c.batches in let low_is : c.tail ≡ low x = hx.1 in
       let near : c.tail < length c.batches = omega arith in
-      let sn : v.seat.seen ≤ length c.batches = subst (λ (d : SeatState). d.seen ≤ length c.batches) seat (sound.each_seat id).seen in (
+      let sn = (has_seen o s r id v has).0 in (
         w',
         keeps,
         tt,
-        turned o s r id (set s.words ENDS new) w' v has record {
+        linked o s r id (record (still o s r id v has) {
+          words = set s.words ENDS new;
+          view = w';
           core = after_claim_won numbers touches c id;
           sound = kept_claim_won numbers touches c sound id acts' free' (omega arith) marked'.0;
-          same_base = refl;
-          same_made = refl;
           seats = ap₂ (λ (d : SeatState) (y : ℕ). updated c.seats id (won numbers touches d y)) seat low_is;
-          batches = refl;
-          heads = refl;
           shows = shows_ends c (after_claim_won numbers touches c id) s.words new r.shows (omega arith) refl refl refl refl;
-          base_is = (refl, refl, refl);
-          same_kind = refl;
           known = prefix_same c.batches;
-          absorbed = ok.absorbed;
           seen = λ _. let q : low x ≡ c.tail = sym low_is in omega arith;
           whole = λ z. refl;
-          head_is = refl;
-          taken_is = refl;
-          acked_is = (refl, refl, refl);
-          same_hand = refl;
-          pieces = ok.pieces;
-          idle = ok.idle;
-          dones = refl;
-          turns = refl;
-        },
+        }),
         (
           refl,
           (λ _. (
@@ -265,30 +204,13 @@ module _ (o : TableOpening) where
       ))
       (λ miss. let w' : View = lost_view v (high x) (low x) in
       stays o s ENDS id me then w'
-      (turned o s r id s.words w' v has record {
+      (linked o s r id (record (still o s r id v has) {
+        view = w';
         core = after_claim_lost numbers touches c id;
         sound = kept_claim_lost numbers touches c sound id acts';
-        same_base = refl;
-        same_made = refl;
         seats = λ k. updated c.seats id (lost numbers touches (seat k) (hx.0 k) (hx.1 k));
-        batches = refl;
-        heads = refl;
         shows = shows_seats c _ s.words r.shows;
-        base_is = (refl, refl, refl);
-        same_kind = refl;
-        known = ok.known;
-        absorbed = ok.absorbed;
-        seen = ok.seen;
-        whole = ok.whole;
-        head_is = refl;
-        taken_is = refl;
-        acked_is = (refl, refl, refl);
-        same_hand = refl;
-        pieces = ok.pieces;
-        idle = ok.idle;
-        dones = refl;
-        turns = refl;
-      })
+      }))
       (refl, (λ hit. absurd (miss hit)), λ _. refl))
 
   pub empties : (n id : ℕ) (me : Seated) (at t : ℕ) → at ≡ t % SLOTS → Acts me.0.seat → me.0.seat.claim ≡ Taken t
@@ -299,31 +221,15 @@ module _ (o : TableOpening) where
         w,
         keeps,
         tt,
-        turned o s r id (set s.words (at + RING_FROM) 0) w v has record {
+        linked o s r id (record (still o s r id v has) {
+          words = set s.words (at + RING_FROM) 0;
+          view = w;
           core = emptied_state numbers touches c id t;
           sound = emptying numbers touches c r.sound id t (subst Acts (sym seat) acts) (ap (λ (d : SeatState). d.claim) seat ∙ claim);
-          same_base = refl;
-          same_made = refl;
           seats = ap (λ (d : SeatState). updated c.seats id (record d { claim = Emptied t })) seat;
-          batches = refl;
-          heads = refl;
           shows = shows_ring c (emptied_state numbers touches c id t) s.words at 0 (omega arith) r.shows refl refl refl refl refl
               (ap (λ (y : ℕ). updated c.ring y 0) (sym at_is));
-          base_is = (refl, refl, refl);
-          same_kind = refl;
-          known = ok.known;
-          absorbed = ok.absorbed;
-          seen = ok.seen;
-          whole = ok.whole;
-          head_is = refl;
-          taken_is = refl;
-          acked_is = (refl, refl, refl);
-          same_hand = refl;
-          pieces = ok.pieces;
-          idle = ok.idle;
-          dones = refl;
-          turns = refl;
-        },
+        }),
         (refl, λ j q. let same : t ≡ j = cc in ap (emptied_view v) same),
       )
 
@@ -334,19 +240,6 @@ module _ (o : TableOpening) where
       (let g : max (ends numbers v xs m) (ends numbers v xs n) ≡ ends numbers v xs n = omega arith in g) ∙ ap (ends numbers v xs) (sym b))
       (λ no. let lt = lt_of_not-le no in let a = ends_mono numbers v xs n m (omega arith) in let b : max m n ≡ m = omega arith in
       (let g : max (ends numbers v xs m) (ends numbers v xs n) ≡ ends numbers v xs m = omega arith in g) ∙ ap (ends numbers v xs) (sym b))
-
-  -- a step that writes x into the visible word
-  shows_visible : (c c' : RingState) (words : List ℕ) (x : ℕ) → Shows c words → x ≡ visible numbers c' → c'.head ≡ c.head → c'.tail ≡ c.tail
-      → c'.acked ≡ c.acked → c'.turn ≡ c.turn → c'.ring ≡ c.ring → Shows c' (set words VISIBLE x)
-  shows_visible c c' words x h is hd tl ack trn ring = let wide : length words ≡ WORDS = h.wide in record {
-    wide = length-set words VISIBLE x ∙ h.wide;
-    ends_word = get_or-set_other words VISIBLE ENDS x 0 (λ e. omega arith) ∙ h.ends_word ∙ ap₂ (λ (a b : ℕ). a * HALF + b) (sym hd) (sym tl);
-    visible_word = get_or-set_same words VISIBLE x 0 (omega arith) ∙ is;
-    acked_word = get_or-set_other words VISIBLE ACKED x 0 (λ e. omega arith) ∙ h.acked_word ∙ sym ack;
-    ring_word = λ j l. get_or-set_other words VISIBLE (j + RING_FROM) x 0 (λ e. omega arith) ∙ h.ring_word j l ∙ ap (λ (f : ℕ → ℕ). f j) (sym ring);
-    shard_word = λ j l. get_or-set_other words VISIBLE (j + TURNS_FROM) x 0 (λ e. omega arith) ∙ h.shard_word j l
-        ∙ ap (λ (f : ℕ → ℕ). turn_word (f j)) (sym trn);
-  }
 
   pub raises : (n id : ℕ) (me : Seated) (e t : ℕ) → e ≡ ends numbers me.0.base me.0.history (suc t) → suc t ≤ length me.0.history
       → Acts me.0.seat → me.0.seat.claim ≡ Emptied t → Allows (Linked o) n id me VISIBLE (λ x. max x e) (TellsRaised (step n VISIBLE e 0 none) me)
@@ -359,36 +252,22 @@ module _ (o : TableOpening) where
       ∙ ap (λ (y : ℕ). ends numbers y c.batches (suc t)) (base_of s r id v has acts) in
       let is : max x e ≡ visible numbers c' = ap₂ max r.shows.visible_word end_is ∙ max_ends c.base c.batches c.published (suc t) in
       let pl : p ≤ c.tail = sound'.published_tail in let th = sound.tail_head in let hl = sound.head_length in
-      let sn : v.seat.seen ≤ length c.batches = subst (λ (d : SeatState). d.seen ≤ length c.batches) seat (sound.each_seat id).seen in
-      let before : v.seat.published ≤ c.published = subst (λ (d : SeatState). d.published ≤ c.published) seat
-      (sound.each_seat id).published.0 in (
+      let sn = (has_seen o s r id v has).0 in
+      let before = (has_seen o s r id v has).1 in (
         w,
         keeps,
         tt,
-        turned o s r id (set s.words VISIBLE (max x e)) w v has record {
+        linked o s r id (record (still o s r id v has) {
+          words = set s.words VISIBLE (max x e);
+          view = w;
           core = c';
           sound = sound';
-          same_base = refl;
-          same_made = refl;
           seats = ap (λ (d : SeatState). updated c.seats id (record d { claim = Free; published = p; seen = max d.seen p })) seat;
-          batches = refl;
-          heads = refl;
           shows = shows_visible c c' s.words (max x e) r.shows is refl refl refl refl refl;
-          base_is = (refl, refl, refl);
-          same_kind = refl;
           known = prefix_same c.batches;
-          absorbed = ok.absorbed;
           seen = λ _. omega arith;
           whole = λ z. refl;
-          head_is = refl;
-          taken_is = refl;
-          acked_is = (refl, refl, refl);
-          same_hand = refl;
-          pieces = ok.pieces;
-          idle = ok.idle;
-          dones = refl;
-          turns = refl;
-        },
+        }),
         (
           refl,
           (
@@ -419,44 +298,30 @@ module _ (o : TableOpening) where
       let less = ends_less numbers c.base c.batches sound.counted k c.published lt (omega arith) in
       let e' : get_or s.words VISIBLE 0 ≤ ends numbers c.base c.batches k = subst (λ (y : ℕ). get_or s.words VISIBLE 0 ≤ ends numbers y c.batches k)
       vb e in absurd (omega arith)) in
-      let sn : v.seat.seen ≤ length c.batches = subst (λ (d : SeatState). d.seen ≤ length c.batches) seat (sound.each_seat id).seen in
+      let sn = (has_seen o s r id v has).0 in
       stays o s VISIBLE id me (TellsVisible (step n VISIBLE 0 0 none) me) w
-      (turned o s r id s.words w v has record {
+      (linked o s r id (record (still o s r id v has) {
+        view = w;
         core = after_load_visible numbers touches c id;
         sound = kept_load_visible numbers touches c sound id (subst Acts (sym seat) acts);
-        same_base = refl;
-        same_made = refl;
         seats = ap (λ (d : SeatState). updated c.seats id
             (record d {
               published = c.published;
               seen = max d.seen c.published;
               counts = record d.counts { visibles = one_more d.counts.visibles };
             })) seat;
-        batches = refl;
-        heads = refl;
         shows = shows_seats c _ s.words r.shows;
-        base_is = (refl, refl, refl);
-        same_kind = refl;
         known = prefix_same c.batches;
-        absorbed = ok.absorbed;
         seen = λ _. omega arith;
         whole = λ z. refl;
-        head_is = refl;
-        taken_is = refl;
-        acked_is = (refl, refl, refl);
-        same_hand = refl;
-        pieces = ok.pieces;
-        idle = ok.idle;
-        dones = refl;
-        turns = refl;
-      }) (
+      })) (
         refl,
         record {
           count = c.published;
           history = c.batches;
           view = refl;
           grew = (ok.known, omega arith, λ k. sym (ok.whole (ok.producer k)));
-          published = subst (λ (d : SeatState). d.published ≤ c.published) seat (sound.each_seat id).published.0;
+          published = (has_seen o s r id v has).1;
           end_is = r.shows.visible_word ∙ ap (λ (y : ℕ). ends numbers y c.batches c.published) (sym (base_of s r id v has acts));
           reaches = reaches;
           tops = tops;

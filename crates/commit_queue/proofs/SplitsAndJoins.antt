@@ -4,7 +4,6 @@ use mathlib.Core.Option.{some, some-injective}
 use lib.ListN.{get_elem?}
 use Rattle.atomic_table.specs.Table.{Splits, Joins}
 use Rattle.atomic_table.proofs.Lists.{at_set, set_else}
-use Rattle.wal_base.specs.Prefixes.{IsPrefixOf}
 use Rattle.batch_repr.specs.declared.batch.Batch.{Batch}
 use Rattle.batch_repr.specs.declared.limits.TheConstants.{BATCHES_MAX}
 use Rattle.memtable_shards.specs.Versions.{Version}
@@ -26,7 +25,8 @@ use Rattle.commit_queue.specs.declared.view.View.{View}
 use Rattle.commit_queue.specs.Shards.{HasVersions}
 use Rattle.commit_queue.specs.Rule.{RingState, TableState, numbers, IsSoundRing, Shows, PiecesOk, ViewOk, AckedKnownOk, Linked}
 use Rattle.commit_queue.specs.Views.{no_acked, without_batch, handed_view, shown_view, telling_view, flush_view, later, joined_view, spent_view}
-use Rattle.commit_queue.proofs.Becomes.{same_pieces}
+use Rattle.commit_queue.proofs.Becomes.{has_seen, same_pieces, same_seen}
+use Rattle.commit_queue.proofs.Words.{shows_same}
 
 -- the last of a list is known by its place
 snoc_at : {A : Type 0} (l : List A) (a b : A) (j : ℕ) → get_elem? (l ++ a ∷ []) j ≡ some b
@@ -45,7 +45,8 @@ same_versions opening c c' l d k x h = subst (λ (y : List Batch × (ℕ → Lis
 
 -- the same words and batches, other seats
 pub reseated : (o : TableOpening) (s : TableState) (r : Linked o s) (c' : RingState) (vs : List View) → IsSoundRing c'
-    → c'.base ≡ r.core.base → c'.batches ≡ r.core.batches → Shows c' s.words → c'.done ≡ r.core.done → c'.turn ≡ r.core.turn → length vs ≡ c'.made → ((j : ℕ) (v : View) → get_elem? vs j ≡ some v → ViewOk o.shards.value c' j v)
+    → c'.base ≡ r.core.base → c'.batches ≡ r.core.batches → Shows c' s.words → c'.done ≡ r.core.done → c'.turn ≡ r.core.turn
+    → length vs ≡ c'.made → ((j : ℕ) (v : View) → get_elem? vs j ≡ some v → ViewOk o.shards.value c' j v)
     → Linked o record { words = s.words; homes = s.homes; views = vs }
 reseated o s r c' vs sound b l shows dones turns made views = record {
   core = c';
@@ -66,21 +67,10 @@ reseated o s r c' vs sound b l shows dones turns made views = record {
 
 -- a view that a step does not touch, of a state with the same batches
 same_view : (opening : List (List Version)) (c c' : RingState) (j : ℕ) (v : View) → c'.seats j ≡ c.seats j → c'.base ≡ c.base
-    → c'.batches ≡ c.batches → c'.head ≡ c.head → c'.done ≡ c.done → AckedKnownOk c'.acked c'.made j v.seat.acked v.acked_known → ViewOk opening c j v → ViewOk opening c' j v
-same_view opening c c' j v seat b l h dn dk ok = record {
-  seat = seat ∙ ok.seat;
-  base = λ live. let e = ok.base live in (e.0 ∙ sym b, e.1 ∙ sym b, e.2);
-  known = subst (IsPrefixOf v.history) (sym l) ok.known;
-  absorbed = subst (IsPrefixOf v.absorbed) (sym l) ok.absorbed;
-  seen = ok.seen;
-  producer = ok.producer;
-  whole = λ z. ok.whole z ∙ sym l;
-  head = λ z. ok.head z ∙ sym h;
-  turn = λ k e. same_versions opening c c' l dn k v.taken (ok.turn k e);
-  pieces = same_pieces c c' v dn ok.pieces;
-  idle = ok.idle;
-  acked_known = dk;
-}
+    → c'.batches ≡ c.batches → c'.head ≡ c.head → c'.done ≡ c.done → AckedKnownOk c'.acked c'.made j v.seat.acked v.acked_known
+    → ViewOk opening c j v → ViewOk opening c' j v
+same_view opening c c' j v seat b l h dn dk ok = same_seen opening c c' j v v ok refl (b, l, h) (seat ∙ ok.seat)
+    (λ k e. same_versions opening c c' l dn k v.taken (ok.turn k e)) (same_pieces c c' v dn ok.pieces) ok.idle dk
 
 -- what stands in either of two lists stands in both together
 among_left : {A : Type 0} (x : A) (xs ys : List A) → Among x xs → Among x (xs ++ ys)
@@ -153,32 +143,14 @@ module _ (o : TableOpening) where
       let not_zero : c.made ≢ 0 = λ e. let q = r.sound.unmade 0 (omega arith) in
       let z : Spent ≡ Producer = ap (λ (x : SeatState). x.kind) (sym q) ∙ r.sound.producer in cc in
       reseated o s r c' (vs ++ right ∷ []) (kept_tell numbers touches c r.sound id k) refl refl
-      record {
-        wide = r.shows.wide;
-        ends_word = r.shows.ends_word;
-        visible_word = r.shows.visible_word;
-        acked_word = r.shows.acked_word;
-        ring_word = r.shows.ring_word;
-        shard_word = r.shows.shard_word;
-      } refl refl
+      (shows_same c c' s.words r.shows refl refl refl refl refl refl) refl refl
       (length-append vs (right ∷ []) ∙ ap (λ (x : ℕ). x + 1) (n ∙ r.made))
       (λ j w at. ⊎_elim
       (λ (t : (get_elem? vs j ≡ some w) × (j < length vs)). let l = t.1 in let m = r.made in
       let away : j ≢ c.made = λ e. omega arith in ⊎_elim
-      (λ (u : (j ≡ id) × (left ≡ w)). subst (λ (x : ℕ × View). ViewOk o.shards.value c' x.0 x.1) (λ i. (sym u.0 i, u.1 i)) record {
-        seat = put_else c.seats c.made new id (λ e. away (u.0 ∙ e)) ∙ ok.seat;
-        base = ok.base;
-        known = ok.known;
-        absorbed = ok.absorbed;
-        seen = ok.seen;
-        producer = ok.producer;
-        whole = ok.whole;
-        head = ok.head;
-        turn = ok.turn;
-        pieces = ok.pieces;
-        idle = ok.idle;
-        acked_known = later_acked c.acked c.made id v.seat.acked v.acked_known ok.acked_known;
-      })
+      (λ (u : (j ≡ id) × (left ≡ w)). subst (λ (x : ℕ × View). ViewOk o.shards.value c' x.0 x.1) (λ i. (sym u.0 i, u.1 i))
+      (same_seen o.shards.value c c' id v left ok refl (refl, refl, refl) (put_else c.seats c.made new id (λ e. away (u.0 ∙ e)) ∙ ok.seat)
+      ok.turn ok.pieces ok.idle (later_acked c.acked c.made id v.seat.acked v.acked_known ok.acked_known)))
       (λ (u : (j ≢ id) × (get_elem? s.views j ≡ some w)). let wo = r.each_view j w u.1 in same_view o.shards.value c c' j w
       (put_else c.seats c.made new j away) refl refl refl refl
       (made_acked c.acked c.made j w.seat.acked w.acked_known (alone s r id j v w has u.1 (λ e. u.0 (sym e))) wo.acked_known) wo)
@@ -225,32 +197,14 @@ module _ (o : TableOpening) where
       ∙ e in cc in
       let at_zero : c'.seats 0 ≡ d0 = put_else (updated c.seats 0 d0) c.made d1 0 (λ e. made (sym e)) ∙ put_here c.seats 0 d0 in
       reseated o s r c' (vs ++ handed_view v ∷ []) (kept_hand numbers touches c r.sound i holds' (omega arith)) refl refl
-      record {
-        wide = r.shows.wide;
-        ends_word = r.shows.ends_word;
-        visible_word = r.shows.visible_word;
-        acked_word = r.shows.acked_word;
-        ring_word = r.shows.ring_word;
-        shard_word = r.shows.shard_word;
-      } refl refl
+      (shows_same c c' s.words r.shows refl refl refl refl refl refl) refl refl
       (length-append vs (handed_view v ∷ []) ∙ ap (λ (x : ℕ). x + 1) (n ∙ r.made))
       (λ j w at. ⊎_elim
       (λ (t : (get_elem? vs j ≡ some w) × (j < length vs)). ⊎_elim
       (λ (u : (j ≡ id) × (without_batch v ≡ w)). subst (λ (x : ℕ × View). ViewOk o.shards.value c' x.0 x.1) (λ k. (sym (u.0 ∙ z) k, u.1 k))
-      record {
-        seat = at_zero ∙ ap (λ (d : SeatState). record d { held = None }) seat;
-        base = λ _. ok.base live;
-        known = ok.known;
-        absorbed = ok.absorbed;
-        seen = ok.seen;
-        producer = λ _. refl;
-        whole = λ _. ok.whole refl;
-        head = λ _. ok.head refl;
-        turn = ok.turn;
-        pieces = λ j q e. let z : None ≡ Some j = e in cc;
-        idle = λ _. refl;
-        acked_known = later_acked c.acked c.made 0 v.seat.acked v.acked_known ok.acked_known;
-      })
+      (same_seen o.shards.value c c' 0 v (without_batch v) ok refl (refl, refl, refl)
+      (at_zero ∙ ap (λ (d : SeatState). record d { held = None }) seat) ok.turn (λ j q e. let z : None ≡ Some j = e in cc) (λ _. refl)
+      (later_acked c.acked c.made 0 v.seat.acked v.acked_known ok.acked_known)))
       (λ (u : (j ≢ id) × (get_elem? s.views j ≡ some w)). let l = t.1 in
       let m = r.made in same_view o.shards.value c c' j w
       (put_else (updated c.seats 0 d0) c.made d1 j (λ e. omega arith) ∙ put_else c.seats 0 d0 j (λ e. u.0 (e ∙ sym z))) refl refl refl refl
@@ -326,8 +280,8 @@ module _ (o : TableOpening) where
       (λ (a : (c.seats id).kind ≡ Producer). let q : Producer ≡ Spent = sym a ∙ ap (λ (x : SeatState). x.kind) seat ∙ e in cc)
       (λ (a : (c.seats id).kind ≡ Worker). let q : Worker ≡ Spent = sym a ∙ ap (λ (x : SeatState). x.kind) seat ∙ e in cc) ask.acts in
       let at_me : c'.seats id ≡ d = put_else (updated c.seats id d) other nobody id (λ e. ne (sym e)) ∙ put_here c.seats id d in
-      let av : v.seat.acked ≤ c.acked = subst (λ (x : SeatState). x.acked ≤ c.acked) seat (r.sound.each_seat id).acked in
-      let aw : w.seat.acked ≤ c.acked = subst (λ (x : SeatState). x.acked ≤ c.acked) seat' (r.sound.each_seat other).acked in
+      let av = (has_seen o s r id v has).2 in
+      let aw = (has_seen o s r other w there).2 in
       let flushes : (n : ℕ) (b : Bool) → w.acked_known.is_flush ≡ b → cond b (Some w.acked_known.raised)
       None ≡ Some n → max v.seat.acked w.seat.acked ≤ n = λ n b q e.
       elim b as (λ (x : Bool). w.acked_known.is_flush ≡ x → cond x (Some w.acked_known.raised)
@@ -355,14 +309,7 @@ module _ (o : TableOpening) where
         };
       } in
       reseated o s r c' (set (set s.views id m) other spent_view) (kept_join numbers touches c r.sound id other ask) refl refl
-      record {
-        wide = r.shows.wide;
-        ends_word = r.shows.ends_word;
-        visible_word = r.shows.visible_word;
-        acked_word = r.shows.acked_word;
-        ring_word = r.shows.ring_word;
-        shard_word = r.shows.shard_word;
-      } refl refl
+      (shows_same c c' s.words r.shows refl refl refl refl refl refl) refl refl
       (length-set (set s.views id m) other spent_view ∙ length-set s.views id m ∙ r.made)
       (λ j x at. ⊎_elim
       (λ (t : (j ≡ other) × (spent_view ≡ x)). subst (λ (y : ℕ × View). ViewOk o.shards.value c' y.0 y.1) (λ k. (sym t.0 k, t.1 k)) record {

@@ -5,7 +5,9 @@ use Rattle.batch_repr.specs.declared.batch.Batch.{Batch}
 use Rattle.batch_repr.specs.declared.limits.TheConstants.{BATCHES_MAX}
 use Rattle.memtable_shards.specs.declared.sharding.TheConstants.{SHARDS}
 use Rattle.memtable_shards.specs.Versions.{Version}
+use Rattle.publish_core.specs.declared.seat.Kind.{Kind}
 use Rattle.publish_core.specs.declared.seat.Kind.TheVariants.{Worker}
+use Rattle.publish_core.specs.declared.seat.Claim.{Claim}
 use Rattle.publish_core.specs.declared.state.TheConstants.{END_LIMIT}
 use Rattle.publish_core.specs.Machine.{ends, both_held}
 use Rattle.publish_core.proofs.Laws.{ends_snoc}
@@ -13,9 +15,10 @@ use Rattle.commit_queue.specs.declared.view.AckedKnown.{AckedKnown}
 use Rattle.commit_queue.specs.declared.view.View.{View}
 use Rattle.commit_queue.specs.Rule.{Slot, numbers}
 use Rattle.commit_queue.specs.Views.{placed_view, admitted_view, without_batch, handed_view, telling_view, shown_view, flush_view, first_view, marked_view, but_turns}
+use Rattle.commit_queue.specs.Tables.{TableSeat}
 use Rattle.commit_queue.specs.Tells.{Seated}
 use Rattle.commit_queue.specs.Stands.{HasTicket, HoldsLast, slots_out, CarriesTurn, ProducerStands, SessionStands, NoteStands, FlushStands}
-use Rattle.commit_queue.specs.Calls.{next_number, CanPlace, HasPlaced, TakesBack, TakesIn, ViewGoesOn}
+use Rattle.commit_queue.specs.Calls.{next_number, CanPlace, HasPlaced, TakesBack, TakesIn, ViewGoesOn, EndsTurn}
 use Rattle.commit_queue.proofs.Publishes.{at_end_of}
 
 -- the producer's last batch, where neither the batch held nor the history changes
@@ -80,23 +83,41 @@ carries_shard m k small carried turn = record {
   carries = carried;
 }
 
+-- a seat has ended its turn, as another that is the same has
+pub turn_ended : (v : View) (x y : TableSeat) (a b : Bool) → x ≡ y → a ≡ b → EndsTurn v b y.me.0 → EndsTurn v a x.me.0
+turn_ended v x y a b same applied ended = subst (λ (z : TableSeat × Bool). EndsTurn v z.1 z.0.me.0) (λ k. (sym same k, sym applied k)) ended
+
 -- ---- the producer's seat
+
+-- what a producer's seat that does not take in another keeps of its view in any case
+abbrev kept_parts : View → Kind × List Batch × Claim × Option ℕ
+kept_parts v = (v.seat.kind, v.absorbed, v.seat.claim, v.seat.turn)
+
+-- the seat's view is v now, and keeps these parts; the rest is told anew
+producer_stays : (id id' : ℕ) (m m' : Seated) (v : View) (head end head' end' : ℕ) (turn : Option ℕ) → ProducerStands id m head end turn
+    → id' ≡ id → m'.1 ≡ m.1 → m'.0 ≡ v → kept_parts v ≡ kept_parts m.0 → v.head ≡ head' → v.head ≤ length v.history
+    → length v.history ≤ BATCHES_MAX → v.seat.published ≤ length v.history → HoldsLast v end' → ProducerStands id' m' head' end' turn
+producer_stays id id' m m' v head end head' end' turn p same carried e kept head_is admitted few within holds =
+    subst (λ (x : View × List (ℕ × Slot)). ProducerStands id' x head' end' turn) (λ k. (sym e k, m'.1)) record {
+      id_is = same ∙ p.id_is;
+      kind = ap (λ (x : Kind × List Batch × Claim × Option ℕ). x.0) kept ∙ p.kind;
+      head_is = head_is;
+      calm = ap (λ (x : Kind × List Batch × Claim × Option ℕ). x.1) kept ∙ p.calm;
+      free = ap (λ (x : Kind × List Batch × Claim × Option ℕ). x.2) kept ∙ p.free;
+      carries = carries_on m (v, m'.1) turn p.carries carried (ap (λ (x : Kind × List Batch × Claim × Option ℕ). x.3) kept);
+      admitted = admitted;
+      few = few;
+      within = within;
+      holds = holds;
+    }
 
 pub producer_goes_on : (id id' : ℕ) (m m' : Seated) (head end : ℕ) (turn : Option ℕ) → ProducerStands id m head end turn → id' ≡ id
     → m'.1 ≡ m.1 → ViewGoesOn m.0 m'.0 → ProducerStands id' m' head end turn
 producer_goes_on id id' m m' head end turn p same carried g = let hist : m'.0.history ≡ m.0.history = g.whole p.kind in
-    let n : length m'.0.history ≡ length m.0.history = ap length hist in let a = p.admitted in let f = p.few in let h = g.head in record {
-      id_is = same ∙ p.id_is;
-      kind = g.kind ∙ p.kind;
-      head_is = g.head ∙ p.head_is;
-      calm = g.absorbed ∙ p.calm;
-      free = g.claim p.free;
-      carries = carries_on m m' turn p.carries carried g.turn;
-      admitted = omega arith;
-      few = omega arith;
-      within = g.within p.within;
-      holds = last_same m.0 m'.0 end g.held hist g.base p.holds;
-    }
+    let n : length m'.0.history ≡ length m.0.history = ap length hist in let a = p.admitted in let f = p.few in let h = g.head in
+    let claim : m'.0.seat.claim ≡ m.0.seat.claim = g.claim p.free ∙ sym p.free in
+    producer_stays id id' m m' m'.0 head end head end turn p same carried refl (λ k. (g.kind k, g.absorbed k, claim k, g.turn k))
+    (g.head ∙ p.head_is) (omega arith) (omega arith) (g.within p.within) (last_same m.0 m'.0 end g.held hist g.base p.holds)
 
 pub producer_opens : (id : ℕ) (m : Seated) (base : ℕ) (opening : List (List Version)) → id ≡ 0 → m ≡ (first_view base opening, [])
     → ProducerStands id m 0 0 None
@@ -118,80 +139,32 @@ pub producer_places : (id id' : ℕ) (m m' : Seated) (b : Batch) (head end new :
     → ProducerStands id' m' head new turn
 producer_places id id' m m' b head end new turn p same carried e can is small = let a = p.admitted in let f = can.few in let w = p.within in
     let n : length (m.0.history ++ b ∷ []) ≡ length m.0.history + 1 = length-append m.0.history (b ∷ []) in
-    subst (λ (x : View × List (ℕ × Slot)). ProducerStands id' x head new turn) (λ k. (sym e k, m'.1)) record {
-      id_is = same ∙ p.id_is;
-      kind = p.kind;
-      head_is = p.head_is;
-      calm = p.calm;
-      free = p.free;
-      carries = carries_on m (placed_view m.0 b, m'.1) turn p.carries carried refl;
-      admitted = omega arith;
-      few = omega arith;
-      within = omega arith;
-      holds = last_placed m.0 b new can.follows is small;
-    }
+    producer_stays id id' m m' (placed_view m.0 b) head end head new turn p same carried e refl p.head_is (omega arith) (omega arith)
+    (omega arith) (last_placed m.0 b new can.follows is small)
 
 pub producer_admits : (id id' : ℕ) (m m' : Seated) (head end : ℕ) (turn : Option ℕ) → ProducerStands id m head end turn → id' ≡ id
     → m'.1 ≡ m.1 → m'.0 ≡ admitted_view m.0 → HasPlaced m.0 → ProducerStands id' m' (head + 1) end turn
-producer_admits id id' m m' head end turn p same carried e placed =
-    subst (λ (x : View × List (ℕ × Slot)). ProducerStands id' x (head + 1) end turn) (λ k. (sym e k, m'.1)) record {
-      id_is = same ∙ p.id_is;
-      kind = p.kind;
-      head_is = ap (λ (x : ℕ). x + 1) p.head_is;
-      calm = p.calm;
-      free = p.free;
-      carries = carries_on m (admitted_view m.0, m'.1) turn p.carries carried refl;
-      admitted = (let l : length m.0.history ≡ m.0.head + 1 = placed in omega arith);
-      few = p.few;
-      within = p.within;
-      holds = p.holds;
-    }
+producer_admits id id' m m' head end turn p same carried e placed = let l : length m.0.history ≡ m.0.head + 1 = placed in
+    producer_stays id id' m m' (admitted_view m.0) head end (head + 1) end turn p same carried e refl (ap (λ (x : ℕ). x + 1) p.head_is)
+    (omega arith) p.few p.within p.holds
 
 pub producer_hands : (id id' : ℕ) (m m' : Seated) (head end : ℕ) (turn : Option ℕ) → ProducerStands id m head end turn → id' ≡ id
     → m' ≡ (without_batch m.0, m.1) → ProducerStands id' m' head end turn
-producer_hands id id' m m' head end turn p same e = subst (λ (x : Seated). ProducerStands id' x head end turn) (sym e) record {
-  id_is = same ∙ p.id_is;
-  kind = p.kind;
-  head_is = p.head_is;
-  calm = p.calm;
-  free = p.free;
-  carries = carries_on m (without_batch m.0, m.1) turn p.carries refl refl;
-  admitted = p.admitted;
-  few = p.few;
-  within = p.within;
-  holds = last_none (without_batch m.0) end refl;
-}
+producer_hands id id' m m' head end turn p same e =
+    producer_stays id id' m m' (without_batch m.0) head end head end turn p same (ap (λ (x : Seated). x.1) e) (ap (λ (x : Seated). x.0) e)
+    refl p.head_is p.admitted p.few p.within (last_none (without_batch m.0) end refl)
 
 pub producer_tells : (id id' : ℕ) (m m' : Seated) (head end : ℕ) (turn : Option ℕ) → ProducerStands id m head end turn → id' ≡ id
     → m' ≡ (telling_view m.0, m.1) → ProducerStands id' m' head end turn
-producer_tells id id' m m' head end turn p same e = subst (λ (x : Seated). ProducerStands id' x head end turn) (sym e) record {
-  id_is = same ∙ p.id_is;
-  kind = p.kind;
-  head_is = p.head_is;
-  calm = p.calm;
-  free = p.free;
-  carries = carries_on m (telling_view m.0, m.1) turn p.carries refl refl;
-  admitted = p.admitted;
-  few = p.few;
-  within = p.within;
-  holds = p.holds;
-}
+producer_tells id id' m m' head end turn p same e =
+    producer_stays id id' m m' (telling_view m.0) head end head end turn p same (ap (λ (x : Seated). x.1) e) (ap (λ (x : Seated). x.0) e)
+    refl p.head_is p.admitted p.few p.within p.holds
 
 pub producer_marks : (id id' : ℕ) (m m' : Seated) (i head end : ℕ) (turn : Option ℕ) → ProducerStands id m head end turn → id' ≡ id
     → m'.1 ≡ m.1 → m'.0 ≡ marked_view m.0 i → ProducerStands id' m' head end turn
 producer_marks id id' m m' i head end turn p same carried e =
-    subst (λ (x : View × List (ℕ × Slot)). ProducerStands id' x head end turn) (λ k. (sym e k, m'.1)) record {
-      id_is = same ∙ p.id_is;
-      kind = p.kind;
-      head_is = p.head_is;
-      calm = p.calm;
-      free = p.free;
-      carries = carries_on m (marked_view m.0 i, m'.1) turn p.carries carried refl;
-      admitted = p.admitted;
-      few = p.few;
-      within = p.within;
-      holds = last_none (marked_view m.0 i) end refl;
-    }
+    producer_stays id id' m m' (marked_view m.0 i) head end head end turn p same carried e refl p.head_is p.admitted p.few p.within
+    (last_none (marked_view m.0 i) end refl)
 
 -- the seat takes a shard, or gives it back
 pub producer_turns : (id id' : ℕ) (m m' : Seated) (head end : ℕ) (turn turn' : Option ℕ) → ProducerStands id m head end turn → id' ≡ id
@@ -213,18 +186,10 @@ producer_turns id id' m m' head end turn turn' p same t carries = record {
 pub producer_takes_back : (id id' : ℕ) (m m' : Seated) (w : View) (head end : ℕ) (turn : Option ℕ) → ProducerStands id m head end turn
     → id' ≡ id → m'.1 ≡ m.1 → TakesBack m.0 w m'.0 → ProducerStands id' m' head end turn
 producer_takes_back id id' m m' w head end turn p same carried t =
-    let n : length m'.0.history ≡ length m.0.history = ap length t.history in let a = p.admitted in let f = p.few in let h = t.head in record {
-      id_is = same ∙ p.id_is;
-      kind = t.kind ∙ p.kind;
-      head_is = t.head ∙ p.head_is;
-      calm = t.calm;
-      free = t.claim ∙ p.free;
-      carries = carries_on m m' turn p.carries carried t.turn;
-      admitted = omega arith;
-      few = omega arith;
-      within = t.within;
-      holds = last_same m.0 m'.0 end t.held t.history t.base p.holds;
-    }
+    let n : length m'.0.history ≡ length m.0.history = ap length t.history in let a = p.admitted in let f = p.few in let h = t.head in
+    let calm : m'.0.absorbed ≡ m.0.absorbed = t.calm ∙ sym p.calm in
+    producer_stays id id' m m' m'.0 head end head end turn p same carried refl (λ k. (t.kind k, calm k, t.claim k, t.turn k))
+    (t.head ∙ p.head_is) (omega arith) (omega arith) t.within (last_same m.0 m'.0 end t.held t.history t.base p.holds)
 
 -- the batch that the producer's seat holds, where it is admitted, is the one before head
 pub last_index : (id : ℕ) (m : Seated) (head end i : ℕ) (turn : Option ℕ) → ProducerStands id m head end turn → m.0.seat.held ≡ Some i

@@ -1,5 +1,5 @@
 -- Taking a shard out of its slot and giving it back keep the rule of the table.
-use Rattle.std.proofs.Common.{◌≡◌, ◌≢◌, ◌⊎◌, ℕ, zero, suc, ◌+◌, ◌-◌, ◌*◌, ◌<◌, ◌≤◌, eqb, List, [], ◌∷◌, length, get_or, set, Option, Some, None, sym, refl, ap, ◌∙◌, subst, ap₂, inl, inr, ⊎_elim, arith, length-set, get_or-set_other, get_or-set_same}
+use Rattle.std.proofs.Common.{◌≡◌, ◌≢◌, ◌⊎◌, ℕ, zero, suc, ◌+◌, ◌-◌, ◌<◌, eqb, List, [], ◌∷◌, length, get_or, set, Option, Some, None, sym, refl, ap, ◌∙◌, subst, inl, inr, ⊎_elim, arith, length-set}
 use mathlib.Core.Logic.{dite}
 use mathlib.Core.Option.{none, some}
 use mathlib.Core.Option as maybe
@@ -18,18 +18,19 @@ use Rattle.publish_core.specs.declared.seat.Pair.{Pair}
 use Rattle.publish_core.specs.declared.seat.SeatState.{SeatState}
 use Rattle.publish_core.specs.declared.seat.Stage.{Stage}
 use Rattle.publish_core.specs.declared.seat.Stage.TheVariants.{Held, Marked, Claimed, Cleared, Out}
-use Rattle.publish_core.specs.Machine.{updated, Acts, Among, ends, visible, one_more, after_busy}
+use Rattle.publish_core.specs.Machine.{updated, Acts, Among, ends, one_more, after_busy}
 use Rattle.publish_core.specs.Sound.{InStage, AllDone}
 use Rattle.publish_core.proofs.Laws.{put_here, put_else, at_put}
 use Rattle.publish_core.proofs.Laws.{kept_take, kept_busy, giving, applying}
 use Rattle.commit_queue.specs.declared.pipe_table.TableOpening.{TableOpening}
 use Rattle.commit_queue.specs.declared.view.View.{View}
-use Rattle.commit_queue.specs.declared.layout.TheConstants.{ENDS, VISIBLE, ACKED, RING_FROM, TURNS_FROM, WORDS, HALF}
+use Rattle.commit_queue.specs.declared.layout.TheConstants.{TURNS_FROM}
 use Rattle.commit_queue.specs.Shards.{NumberedBelow, HasVersions, AreApplied, ShowsBelow}
 use Rattle.commit_queue.specs.Rule.{RingState, Slot, TableState, numbers, IsSoundRing, turn_word, Shows, PiecesOk, ViewOk, AtHome, Linked}
 use Rattle.commit_queue.specs.Views.{taking_view, busy_view, given_view, applied_view}
 use Rattle.commit_queue.specs.Tells.{Seated, TakesShard, TellsTaken, TellsGiven, TellsApplied}
-use Rattle.commit_queue.proofs.Becomes.{acts_live, turned, Goes, shows_seats}
+use Rattle.commit_queue.proofs.Becomes.{acts_live, still, linked, has_seen, same_seen, Goes}
+use Rattle.commit_queue.proofs.Words.{shows_seats, shows_turn}
 use Rattle.commit_queue.proofs.Versioned.{same_versions, gains_piece, shows_below, lacks_piece}
 use Rattle.commit_queue.proofs.Shown.{contained}
 
@@ -37,24 +38,6 @@ use Rattle.commit_queue.proofs.Shown.{contained}
 no_turn : (t : ℕ) → turn_word t ≡ 0 → t ≡ 0
 no_turn zero e = refl
 no_turn (suc j) e = absurd (omega arith)
-
--- a step that writes x into the word of the shard k
-shows_turn : (c c' : RingState) (words : List ℕ) (k x t : ℕ) → k < SHARDS → Shows c words → c'.head ≡ c.head → c'.tail ≡ c.tail
-    → visible numbers c' ≡ visible numbers c → c'.acked ≡ c.acked → c'.ring ≡ c.ring → c'.turn ≡ updated c.turn k t → x ≡ turn_word t
-    → Shows c' (set words (k + TURNS_FROM) x)
-shows_turn c c' words k x t small h hd tl vis ack ring trn is = let wide : length words ≡ WORDS = h.wide in record {
-  wide = length-set words (k + TURNS_FROM) x ∙ h.wide;
-  ends_word = get_or-set_other words (k + TURNS_FROM) ENDS x 0 (λ e. omega arith) ∙ h.ends_word
-      ∙ ap₂ (λ (a b : ℕ). a * HALF + b) (sym hd) (sym tl);
-  visible_word = get_or-set_other words (k + TURNS_FROM) VISIBLE x 0 (λ e. omega arith) ∙ h.visible_word ∙ sym vis;
-  acked_word = get_or-set_other words (k + TURNS_FROM) ACKED x 0 (λ e. omega arith) ∙ h.acked_word ∙ sym ack;
-  ring_word = λ j l. get_or-set_other words (k + TURNS_FROM) (j + RING_FROM) x 0 (λ e. omega arith) ∙ h.ring_word j l
-      ∙ ap (λ (f : ℕ → ℕ). f j) (sym ring);
-  shard_word = λ j l. subst (λ (f : ℕ → ℕ). get_or (set words (k + TURNS_FROM) x) (j + TURNS_FROM) 0 ≡ turn_word (f j)) (sym trn)
-      (at_put (λ (q y : ℕ). q < SHARDS → get_or (set words (k + TURNS_FROM) x) (q + TURNS_FROM) 0 ≡ turn_word y) c.turn k t j
-      (λ _. get_or-set_same words (k + TURNS_FROM) x 0 (omega arith) ∙ is)
-      (λ n l'. get_or-set_other words (k + TURNS_FROM) (j + TURNS_FROM) x 0 (λ e. n (omega arith)) ∙ h.shard_word j l') l);
-}
 
 -- ---- a step of a seat on a shard
 
@@ -106,20 +89,8 @@ module _ (o : TableOpening) (s : TableState) (r : Linked o s) (id k : ℕ) (word
 
   -- the view of the seat
   own_view : ViewOk o.shards.value new_core id new_view
-  own_view = let ok = r.each_view id v at in record {
-    seat = put_here r.core.seats id new_seat;
-    base = ok.base;
-    known = ok.known;
-    absorbed = ok.absorbed;
-    seen = ok.seen;
-    producer = ok.producer;
-    whole = ok.whole;
-    head = ok.head;
-    turn = m.has;
-    pieces = m.has_pieces;
-    idle = m.idle;
-    acked_known = ok.acked_known;
-  }
+  own_view = same_seen o.shards.value r.core new_core id v new_view (r.each_view id v at) refl (refl, refl, refl)
+      (put_here r.core.seats id new_seat) m.has m.has_pieces m.idle (r.each_view id v at).acked_known
 
   -- the view of another
   other_view : (j : ℕ) (x : View) → j ≢ id → get_elem? s.views j ≡ some x → ViewOk o.shards.value new_core j x
@@ -132,21 +103,12 @@ module _ (o : TableOpening) (s : TableState) (r : Linked o s) (id k : ℕ) (word
       let one_holds : (i : ℕ) → x.seat.held ≡ Some i → v.seat.held ≡ Some i → j ≡ id = λ i e e'.
       let its = ((r.sound.each_seat j).held i (ap (λ (d : SeatState). d.held) ok.seat ∙ e)).1 in
       let here = ((r.sound.each_seat id).held i (ap (λ (d : SeatState). d.held) mine.seat ∙ e')).1 in
-      let both : Held j ≡ Held id = sym its ∙ here in cc in record {
-        seat = put_else r.core.seats id new_seat j away ∙ ok.seat;
-        base = ok.base;
-        known = ok.known;
-        absorbed = ok.absorbed;
-        seen = ok.seen;
-        producer = ok.producer;
-        whole = ok.whole;
-        head = ok.head;
-        turn = λ q e. subst (λ (d : List ℕ). HasVersions o.shards.value r.core.batches d q x.taken) (same_done q e) (ok.turn q e);
-        pieces = λ i q e. let p = ok.pieces i q e in
-            ((λ a. ⊎_elim (λ before. p.0 before) (λ mine. absurd (away (one_holds i e mine))) (m.more i q a)), p.1);
-        idle = ok.idle;
-        acked_known = ok.acked_known;
-      }
+      let both : Held j ≡ Held id = sym its ∙ here in cc in
+      same_seen o.shards.value r.core new_core j x x ok refl (refl, refl, refl) (put_else r.core.seats id new_seat j away ∙ ok.seat)
+      (λ q e. subst (λ (d : List ℕ). HasVersions o.shards.value r.core.batches d q x.taken) (same_done q e) (ok.turn q e))
+      (λ i q e. let p = ok.pieces i q e in
+      ((λ a. ⊎_elim (λ before. p.0 before) (λ mine. absurd (away (one_holds i e mine))) (m.more i q a)), p.1))
+      ok.idle ok.acked_known
 
   moved : Linked o record {
     words = words;
@@ -196,8 +158,7 @@ module _ (o : TableOpening) where
   told_taken s r id k v y at acts has =
       let c : RingState = r.core in let ok = r.each_view id v at in let sound = r.sound in
       let same = ok.base (acts_live v.seat acts) in
-      let published : v.seat.published ≤ c.published = subst (λ (d : SeatState). d.published ≤ c.published) ok.seat
-      (sound.each_seat id).published.0 in
+      let published = (has_seen o s r id v at).1 in
       let covers : AreApplied v.history v.seat.published (c.done k) k = λ i b lt there t.
       before_tail c sound i (let l = sound.published_tail in omega arith) b k (at_prefix v.history c.batches ok.known i b there) t in record {
         view = refl;
@@ -258,30 +219,13 @@ module _ (o : TableOpening) where
       let c : RingState = r.core in let ok = r.each_view id v at in
       subst (λ (ws : List ℕ). Linked o record { words = ws; homes = s.homes; views = set s.views id (busy_view v) })
       (sym (set-get_or s.words (k + TURNS_FROM) 0))
-      (turned o s r id s.words (busy_view v) v at record {
+      (linked o s r id (record (still o s r id v at) {
+        view = busy_view v;
         core = after_busy numbers touches c id;
         sound = kept_busy numbers touches c r.sound id (subst Acts (sym ok.seat) acts);
-        same_base = refl;
-        same_made = refl;
         seats = ap (λ (d : SeatState). updated c.seats id (record d { counts = record d.counts { busy = one_more d.counts.busy } })) ok.seat;
-        batches = refl;
-        heads = refl;
         shows = shows_seats c _ s.words r.shows;
-        base_is = (refl, refl, refl);
-        same_kind = refl;
-        known = ok.known;
-        absorbed = ok.absorbed;
-        seen = ok.seen;
-        whole = ok.whole;
-        head_is = refl;
-        taken_is = refl;
-        acked_is = (refl, refl, refl);
-        same_hand = refl;
-        pieces = ok.pieces;
-        idle = ok.idle;
-        dones = refl;
-        turns = refl;
-      })
+      }))
 
   pub takes_shard : (n id : ℕ) (me : Seated) (k : ℕ) → k < SHARDS → Acts me.0.seat → me.0.seat.turn ≡ None
       → Allows (Linked o) n id me (k + TURNS_FROM) (λ x. either (eqb x 0) 1 x) (TellsTaken (step n (k + TURNS_FROM) 0 1 none) me)

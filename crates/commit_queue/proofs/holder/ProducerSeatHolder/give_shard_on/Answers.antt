@@ -2,9 +2,9 @@ use Rattle.std.proofs.Common.{◌≡◌, Bool, true, false, None, ap, sym, subst
 use Rattle.commit_queue.specs.declared.view.View.{View}
 use Rattle.commit_queue.specs.Stands.{ProducerStands}
 use Rattle.commit_queue.specs.Tables.{TableSeat}
-use Rattle.commit_queue.specs.Calls.{GivesBack, EndsTurn}
+use Rattle.commit_queue.specs.Calls.{GivesBack}
 use Rattle.commit_queue.specs.Views.{but_turns}
-use Rattle.commit_queue.proofs.Stands.{carries_none, producer_turns}
+use Rattle.commit_queue.proofs.Stands.{carries_none, producer_turns, turn_ended}
 use Rattle.commit_queue.proofs.holder.ProducerSeatHolder.give_shard_on.Goals as goal
 use Rattle.commit_queue.proofs.holder.ProducerSeatHolder.give_shard_on.Goals.{then-applied, else-applied}
 
@@ -15,23 +15,21 @@ invariant_of-self c = let s = c.args.self.now in elim c.if-applied.branch [
       let view = t.ended g.index g.shard g.holds g.turn in
       let at : c.if-applied.self.1.0 ≡ w.give_applied_at.new.seat = ap (λ x. x.1.0) w.self-is in record {
         stands = subst (λ (x : TableSeat). ProducerStands x.id x.me s.head s.end None) (sym at)
-            (producer_turns s.seat.id _ s.seat.me _ s.head s.end s.turn None s.stands t.same.1 (ap but_turns view) (carries_none _ t.home (ap (λ (v : View). v.seat.turn) view)));
+            (producer_turns s.seat.id _ s.seat.me _ s.head s.end s.turn None s.stands t.same.1 (ap but_turns view)
+            (carries_none _ t.home (ap (λ (v : View). v.seat.turn) view)));
       }
   | else-applied w ↦ let t = w.give_shard_at.ensures in
       let at : c.if-applied.self.1.0 ≡ w.give_shard_at.new.seat = ap (λ x. x.1.0) w.self-is in record {
         stands = subst (λ (x : TableSeat). ProducerStands x.id x.me s.head s.end None) (sym at)
-            (producer_turns s.seat.id _ s.seat.me _ s.head s.end s.turn None s.stands t.same.1 (ap but_turns t.ended) (carries_none _ t.home (ap (λ (v : View). v.seat.turn) t.ended)));
+            (producer_turns s.seat.id _ s.seat.me _ s.head s.end s.turn None s.stands t.same.1 (ap but_turns t.ended)
+            (carries_none _ t.home (ap (λ (v : View). v.seat.turn) t.ended)));
       }
 ]
 
 pub returns-clause-ended : goal.returns-clause-ended
 returns-clause-ended c = let s = c.args.self.now in elim c.if-applied.branch [
-  | then-applied w ↦ let at : c.if-applied.self.1.0 ≡ w.give_applied_at.new.seat = ap (λ x. x.1.0) w.self-is in
-      let ended : EndsTurn s.seat.me.0 true c.if-applied.self.1.0.me.0 =
-      subst (λ (x : TableSeat). EndsTurn s.seat.me.0 true x.me.0) (sym at) w.give_applied_at.ensures.ended in
-      subst (λ (b : Bool). EndsTurn s.seat.me.0 b c.if-applied.self.1.0.me.0) (sym w.if-applied.true) ended
-  | else-applied w ↦ let at : c.if-applied.self.1.0 ≡ w.give_shard_at.new.seat = ap (λ x. x.1.0) w.self-is in
-      let ended : EndsTurn s.seat.me.0 false c.if-applied.self.1.0.me.0 =
-      subst (λ (x : TableSeat). EndsTurn s.seat.me.0 false x.me.0) (sym at) w.give_shard_at.ensures.ended in
-      subst (λ (b : Bool). EndsTurn s.seat.me.0 b c.if-applied.self.1.0.me.0) (sym w.if-applied.false) ended
+  | then-applied w ↦ turn_ended s.seat.me.0 c.if-applied.self.1.0 w.give_applied_at.new.seat _ true (ap (λ x. x.1.0) w.self-is)
+      w.if-applied.true w.give_applied_at.ensures.ended
+  | else-applied w ↦ turn_ended s.seat.me.0 c.if-applied.self.1.0 w.give_shard_at.new.seat _ false (ap (λ x. x.1.0) w.self-is)
+      w.if-applied.false w.give_shard_at.ensures.ended
 ]
