@@ -60,6 +60,17 @@ module _ (old new : List Node) (lasts : List ℕ) (place first : ℕ) (linked : 
             | inr in_before ↦ never_before_itself (version_at old place) (all place (subst (Contains before) (sym ends ∙ e) in_before))
           ]
 
+  -- the others are where they were, and none of them is the place
+  others_in : (level : ℕ) → level < LEVELS → (before after : List ℕ) → places_on old level ≡ before ++ place ∷ after → (x : ℕ)
+      → Contains (before ++ after) x → Contains (places_on old level) x × (x ≢ place)
+  others_in level less before after is x h = (
+    subst (λ (l : List ℕ). Contains l x) (sym is) (amid_more before after place x h),
+    λ e. (distinct_out before after place
+        (follows_distinct (next_on old level) (next_on old level 0) (before ++ place ∷ after)
+        (subst (LeadsAlong (next_on old level) (next_on old level 0)) is (linked.levels level less).follows))).1
+        (subst (Contains (before ++ after)) e h),
+  )
+
   -- the level of the others
   without_is : (level : ℕ) → level < LEVELS → (before after : List ℕ) → places_on old level ≡ before ++ place ∷ after
       → slice_index lasts level ≡ last_of 0 before → next_on old level (slice_index lasts level) ≡ place → IsLevel new level (before ++ after)
@@ -68,23 +79,13 @@ module _ (old new : List Node) (lasts : List ℕ) (place first : ℕ) (linked : 
         (ap (next_on new level) (sym ends) ∙ left.to level less (last_other level less) leads)
         (λ x other last. left.others level x other (λ e _. absurd (last (e ∙ ends))))
         (follows_distinct_head (next_on old level) (next_on old level 0) (before ++ place ∷ after) follows);
-    ascends = ascend_same old new (before ++ after) (λ x h. version_kept x (apart x h))
+    ascends = ascend_same old new (before ++ after) (λ x h. version_kept x (others_in level less before after is x h).1)
         (ascend_out old before after place (subst (AscendPlaces old) is (linked.levels level less).ascends));
-    held = λ x h. there level x less (in_old x h) (apart x h);
+    held = λ x h. let at = others_in level less before after is x h in there level x less at.0 at.1;
   }
     where
       follows : LeadsAlong (next_on old level) (next_on old level 0) (before ++ place ∷ after)
       follows = subst (LeadsAlong (next_on old level) (next_on old level 0)) is (linked.levels level less).follows
-
-      in_old : (x : ℕ) → Contains (before ++ after) x → Contains (places_on old level) x
-      in_old x h = subst (λ (l : List ℕ). Contains l x) (sym is) (amid_more before after place x h)
-
-      apart : (x : ℕ) → Contains (before ++ after) x → x ≢ place
-      apart x h e =
-          (distinct_out before after place
-          (follows_distinct (next_on old level) (next_on old level 0) (before ++ place ∷ after)
-          (subst (LeadsAlong (next_on old level) (next_on old level 0)) is (linked.levels level less).follows))).1
-          (subst (Contains (before ++ after)) e h)
 
   -- where the last place before it leads on to it, the level is the others
   pub level_without : (level : ℕ) → level < LEVELS → (before after : List ℕ) → places_on old level ≡ before ++ place ∷ after
@@ -97,23 +98,13 @@ module _ (old new : List Node) (lasts : List ℕ) (place first : ℕ) (linked : 
   taken_out level less before after is ends leads = record {
     places = before ++ after;
     is = without_is level less before after is ends leads;
-    from = λ x h. (in_old x h, apart x h);
+    from = others_in level less before after is;
     to = λ x h other. elim (amid_cases before after place x (subst (λ (l : List ℕ). Contains l x) is h)) [
       | inl same ↦ absurd (other (sym same))
       | inr rest ↦ rest
     ];
     shorter = λ _. omega (arith, ap length is, length-append before (place ∷ after), length-append before after);
   }
-    where
-      in_old : (x : ℕ) → Contains (before ++ after) x → Contains (places_on old level) x
-      in_old x h = subst (λ (l : List ℕ). Contains l x) (sym is) (amid_more before after place x h)
-
-      apart : (x : ℕ) → Contains (before ++ after) x → x ≢ place
-      apart x h e =
-          (distinct_out before after place
-          (follows_distinct (next_on old level) (next_on old level 0) (before ++ place ∷ after)
-          (subst (LeadsAlong (next_on old level) (next_on old level 0)) is (linked.levels level less).follows))).1
-          (subst (Contains (before ++ after)) e h)
 
   -- where it is not in the level, the level stays
   kept : (level : ℕ) → level < LEVELS → (Contains (places_on old level) place → ⊥) → next_on old level (slice_index lasts level) ≢ place
@@ -282,53 +273,71 @@ module _ (old new : List Node) (lasts : List ℕ) (place first : ℕ) (linked : 
 
 -- ---- a removal as a whole
 
-module _ (old new : List Node) (lasts : List ℕ) (place first count : ℕ) (key : List ℕ) (seq : ℕ) (arena : IsArena old first count)
-    (lasts_are : AreLastsFor old key seq place lasts) (held : Contains (places_on old 0) place) (at : IsAt (version_at old place) key seq) where
+-- A place that holds the version of this key and number, with the last place before it on each level.
+pub record Removal (nodes : List Node) (lasts : List ℕ) (place first count : ℕ) (key : List ℕ) (seq : ℕ) : Type 0 where
+  pub arena : IsArena nodes first count
+  pub own : AreLastsFor nodes key seq place lasts
+  pub held : Contains (places_on nodes 0) place
+  pub at : IsAt (version_at nodes place) key seq
+
+-- what is told of nodes that were read holds of those that are the same
+pub removal_of : (read nodes : List Node) (lasts : List ℕ) (place first count : ℕ) (key : List ℕ) (seq : ℕ) → read ≡ nodes
+    → IsArena nodes first count → AreLastsFor read key seq place lasts → Contains (places_on read 0) place → IsAt (version_at read place) key seq
+    → Removal nodes lasts place first count key seq
+removal_of read nodes lasts place first count key seq is arena own held at = record {
+  arena = arena;
+  own = subst (λ (ns : List Node). AreLastsFor ns key seq place lasts) is own;
+  held = subst (λ (ns : List Node). Contains (places_on ns 0) place) is held;
+  at = subst (λ (ns : List Node). IsAt (version_at ns place) key seq) is at;
+}
+
+module _ {old : List Node} {lasts : List ℕ} {place first count : ℕ} {key : List ℕ} {seq : ℕ} (r : Removal old lasts place first count key seq) where
   own_lasts : AreLastsFor old (version_at old place).key (version_at old place).number place lasts
   own_lasts =
-      subst (λ (k : List ℕ). AreLastsFor old k (version_at old place).number place lasts) (sym at.0)
-      (subst (λ (n : ℕ). AreLastsFor old key n place lasts) (sym at.1) lasts_are)
+      subst (λ (k : List ℕ). AreLastsFor old k (version_at old place).number place lasts) (sym r.at.0)
+      (subst (λ (n : ℕ). AreLastsFor old key n place lasts) (sym r.at.1) r.own)
 
   pub held_within : place < length old
-  held_within = ((arena.linked.levels 0 (omega arith)).held place held).0
+  held_within = ((r.arena.linked.levels 0 (omega arith)).held place r.held).0
 
   pub lasts_within : AreWithin old lasts
-  lasts_within level less = elim (last_for old key seq place lasts lasts_are level less) [
-    | inl head ↦ omega (arith, head, arena.all)
-    | inr there ↦ ((arena.linked.levels level less).held (slice_index lasts level) there).0
+  lasts_within level less = elim (last_for old key seq place lasts r.own level less) [
+    | inl head ↦ omega (arith, head, r.arena.all)
+    | inr there ↦ ((r.arena.linked.levels level less).held (slice_index lasts level) there).0
   ]
 
-  pub removal_arena : TakesOut old lasts place first new → IsArena new place (count + 1)
-  removal_arena left = record {
-    linked = left_linked old new lasts place first arena.linked own_lasts held left;
-    frees = place ∷ arena.frees;
-    free = left_free old new lasts place first arena.linked own_lasts held left count arena.frees arena.free;
-    all = omega (arith, left_shorter old new lasts place first arena.linked own_lasts held left, left.len, arena.all);
-    few = omega (arith, left.len, arena.few);
-  }
+  module _ {new : List Node} (left : TakesOut old lasts place first new) where
+    pub removal_arena : IsArena new place (count + 1)
+    removal_arena = record {
+      linked = left_linked old new lasts place first r.arena.linked own_lasts r.held left;
+      frees = place ∷ r.arena.frees;
+      free = left_free old new lasts place first r.arena.linked own_lasts r.held left count r.arena.frees r.arena.free;
+      all = omega (arith, left_shorter old new lasts place first r.arena.linked own_lasts r.held left, left.len, r.arena.all);
+      few = omega (arith, left.len, r.arena.few);
+    }
 
-  pub removal_leaves : TakesOut old lasts place first new → LeavesOut (versions_on old 0) key seq (versions_on new 0)
-  removal_leaves left =
-      subst (λ (k : List ℕ). LeavesOut (versions_on old 0) k seq (versions_on new 0)) at.0
-      (subst (λ (n : ℕ). LeavesOut (versions_on old 0) (version_at old place).key n (versions_on new 0)) at.1
-      (left_leaves old new lasts place first arena.linked own_lasts held left))
+    pub removal_leaves : LeavesOut (versions_on old 0) key seq (versions_on new 0)
+    removal_leaves =
+        subst (λ (k : List ℕ). LeavesOut (versions_on old 0) k seq (versions_on new 0)) r.at.0
+        (subst (λ (n : ℕ). LeavesOut (versions_on old 0) (version_at old place).key n (versions_on new 0)) r.at.1
+        (left_leaves old new lasts place first r.arena.linked own_lasts r.held left))
 
-  pub removal_places : TakesOut old lasts place first new → places_in (arena_of new (count + 1)) ≡ places_in (arena_of old count)
-  removal_places left =
-      omega (
-        arith,
-        left_shorter old new lasts place first arena.linked own_lasts held left,
-        length-map (places_on new 0) (version_at new),
-        length-map (places_on old 0) (version_at old),
-      )
+    pub removal_places : places_in (arena_of new (count + 1)) ≡ places_in (arena_of old count)
+    removal_places =
+        omega (
+          arith,
+          left_shorter old new lasts place first r.arena.linked own_lasts r.held left,
+          length-map (places_on new 0) (version_at new),
+          length-map (places_on old 0) (version_at old),
+        )
 
-  -- the entries that a search looks at first
-  pub removal_top : (top left_top : List Guide) (index : ℕ) → IsTop old top → IsTopCut old (places_of top) key seq index
-      → TakesFromTop top index place left_top → TakesOut old lasts place first new → IsTop new left_top
-  removal_top top left_top index is cut drops left = top_less old new top is place index left_top
-      (subst (λ (k : List ℕ). IsTopCut old (places_of top) k (version_at old place).number index) (sym at.0)
-      (subst (λ (n : ℕ). IsTopCut old (places_of top) key n index) (sym at.1) cut)) drops
-      (λ x h other. (
-        version_kept old new lasts place first arena.linked own_lasts held left x other,
-        λ level less there. left_more old new lasts place first arena.linked own_lasts held left level x less there other,
-      ))
+    -- the entries that a search looks at first
+    pub removal_top : (top left_top : List Guide) (index : ℕ) → IsTop old top → IsTopCut old (places_of top) key seq index
+        → TakesFromTop top index place left_top → IsTop new left_top
+    removal_top top left_top index is cut drops = top_less old new top is place index left_top
+        (subst (λ (k : List ℕ). IsTopCut old (places_of top) k (version_at old place).number index) (sym r.at.0)
+        (subst (λ (n : ℕ). IsTopCut old (places_of top) key n index) (sym r.at.1) cut)) drops
+        (λ x h other. (
+          version_kept old new lasts place first r.arena.linked own_lasts r.held left x other,
+          λ level less there. left_more old new lasts place first r.arena.linked own_lasts r.held left level x less there other,
+        ))

@@ -1,5 +1,5 @@
 -- What stands on either side of a cut: the last version before it, and the first one after it.
-use Rattle.std.proofs.Common.{◌≡◌, ◌≢◌, ◌⊎◌, inl, inr, ℕ, ◌-◌, ◌<◌, false, List, [], ◌∷◌, ◌++◌, length, Contains, Option, sym, ap, ◌∙◌, subst, arith, Some, None, take, drop, slice_index, slice_index_or}
+use Rattle.std.proofs.Common.{◌≡◌, ◌≢◌, ◌⊎◌, inl, inr, ℕ, ◌-◌, ◌<◌, false, List, [], ◌∷◌, ◌++◌, length, Contains, Option, refl, sym, ap, ◌∙◌, subst, arith, Some, None, take, drop, slice_index, slice_index_or}
 use Rattle.std.specs.Prelude.{unwrap_or}
 use Rattle.std.proofs.lemmas.List.Elements.{Contains-append_left, Contains-append_right}
 use Rattle.std.proofs.lemmas.List.{take-append-drop}
@@ -12,14 +12,15 @@ use Rattle.arena_list.specs.declared.guide.Guide.{Guide}
 use Rattle.arena_list.specs.Versions.{KeyVersion, version_with, GoesBefore, Precedes}
 use Rattle.arena_list.specs.Spots.{IsLastBefore, IsFirstFrom}
 use Rattle.arena_list.specs.Chains.{last_of}
-use Rattle.arena_list.specs.Nodes.{key_of, value_of, is_vacant, held_of, unless_vacant, version_in, node_at, version_at, next_on, places_on, versions_on, AscendPlaces, IsLinked, IsArena}
+use Rattle.arena_list.specs.Nodes.{key_of, value_of, is_vacant, held_of, unless_vacant, version_in, no_node, node_at, version_at, next_on, places_on, versions_on, AscendPlaces, IsLinked, IsArena}
 use Rattle.arena_list.specs.Steps.{IsCut, AreLastsFor}
 use Rattle.arena_list.specs.Tops.{places_of, IsTop, IsTopCut}
 use Rattle.arena_list.proofs.Chains.{last_cases, not_the_end}
 use Rattle.arena_list.proofs.Orders.{before_along, never_before_itself}
-use Rattle.arena_list.proofs.Levels.{mapped, unmapped, ascend_across, within_lowest, read_at}
+use Rattle.arena_list.proofs.Levels.{mapped, unmapped, ascend_across, within_lowest, read_at, version_read}
 use Rattle.arena_list.proofs.Cuts.{cut_last, sides, after_sides, next_after, next_held}
 use Rattle.arena_list.proofs.Arenas.{lands_at}
+use Rattle.arena_list.proofs.Left.{Removal}
 
 -- of places in order, each is the last one or goes before it
 before_last : (nodes : List Node) (start : ℕ) (xs ys : List ℕ) → AscendPlaces nodes (xs ++ ys) → (p : ℕ) → Contains xs p
@@ -159,51 +160,6 @@ module _ (nodes : List Node) (linked : IsLinked nodes) (key : List ℕ) (number 
       low p h = within_lowest nodes linked (GUIDE_HEIGHT - 1) p (omega arith)
           (is.places.linked p (subst (λ (l : List ℕ). Contains l p) (take-append-drop index (places_of top)) h))
 
--- ---- what is taken out where a search lands
-
--- what an index reads there
-pub reads_next : (read nodes : List Node) (key : List ℕ) (number last : ℕ) (default : Node) → read ≡ nodes → IsLinked nodes → 0 < length nodes
-    → IsCut nodes 0 key number last → slice_index (slice_index_or read last default).links 0 ≡ next_on nodes 0 last
-reads_next read nodes key number last default is linked some cut =
-    ap (λ (ns : List Node). slice_index (slice_index_or ns last default).links 0) is
-    ∙ (lands_at nodes key number last default linked some cut).is
-
-module _ (nodes : List Node) (first count : ℕ) (arena : IsArena nodes first count) (key : List ℕ) (seq last : ℕ) (cut : IsCut nodes 0 key seq last)
-    (place : ℕ) (next_is : place ≡ next_on nodes 0 last) where
-  pub found_none : place ≡ 0 → IsFirstFrom (versions_on nodes 0) key seq None
-  found_none end = none_from nodes arena.linked key seq last cut (sym next_is ∙ end)
-
-  module _ (some : place ≢ 0) where
-    goes_on : next_on nodes 0 last ≢ 0
-    goes_on e = some (next_is ∙ e)
-
-    pub found_held : Contains (places_on nodes 0) place
-    found_held = subst (Contains (places_on nodes 0)) (sym next_is) (next_held nodes arena.linked key seq last cut goes_on)
-
-    pub found_within : place < length nodes
-    found_within = ((arena.linked.levels 0 (omega arith)).held place found_held).0
-
-    pub found_filled : is_vacant (node_at nodes place).held ≡ false
-    found_filled = ((arena.linked.levels 0 (omega arith)).held place found_held).1
-
-    pub found_first : IsFirstFrom (versions_on nodes 0) key seq (Some (version_at nodes place))
-    found_first = subst (λ (p : ℕ). IsFirstFrom (versions_on nodes 0) key seq (Some (version_at nodes p))) (sym next_is)
-        (some_from nodes arena.linked key seq last cut goes_on)
-
-    pub found_lasts : (lasts : List ℕ) → AreLastsFor nodes key seq place lasts
-        → AreLastsFor nodes (version_at nodes place).key (version_at nodes place).number place lasts
-    found_lasts lasts own level less = elim (own level less) [
-      | inl one ↦ inl (subst (λ (p : ℕ). IsCut nodes level (version_at nodes p).key (version_at nodes p).number (slice_index lasts level)) (sym next_is)
-          (same_cut nodes arena.linked key seq last cut goes_on level (slice_index lasts level) less one))
-      | inr none ↦ inr none
-    ]
-
-    pub found_top : (top : List Guide) (index : ℕ) → IsTop nodes top → IsTopCut nodes (places_of top) key seq index
-        → IsTopCut nodes (places_of top) (version_at nodes place).key (version_at nodes place).number index
-    found_top top index top_is top_cut =
-        subst (λ (p : ℕ). IsTopCut nodes (places_of top) (version_at nodes p).key (version_at nodes p).number index) (sym next_is)
-        (same_top_cut nodes arena.linked key seq last cut goes_on top index top_is top_cut)
-
 -- ---- what a node hands over
 
 handed : (held : Held) (key : List ℕ) (value : Option (List ℕ)) → Some (held_of key value) ≡ unless_vacant held → held_of key value ≡ held
@@ -222,9 +178,97 @@ handed_version node key None is =
 handed_version node key (Some bytes) is =
     ap (λ (h : Held). let v : KeyVersion = record { key = key_of h; number = node.seq; value = value_of h } in v) is
 
-pub handed_over : (nodes : List Node) (place : ℕ) (node : Node) (held : Held) (key : List ℕ) (value : Option (List ℕ)) → place < length nodes
+handed_over : (nodes : List Node) (place : ℕ) (node : Node) (held : Held) (key : List ℕ) (value : Option (List ℕ)) → place < length nodes
     → node ≡ slice_index_or nodes place node → held ≡ (node_at nodes place).held → Some (held_of key value) ≡ unless_vacant held
     → version_with key node.seq value ≡ version_at nodes place
 handed_over nodes place node held key value less is was e =
     let same : node ≡ node_at nodes place = is ∙ read_at nodes place node less in
     handed_version node key value (handed held key value e ∙ was ∙ ap (λ (n : Node). n.held) (sym same)) ∙ ap version_in same
+
+-- ---- what is taken out where a search lands
+
+-- The last place before a cut leads on to this place.
+pub record LandsOn (nodes : List Node) (first count : ℕ) (key : List ℕ) (seq last place : ℕ) : Type 0 where
+  pub arena : IsArena nodes first count
+  pub cut : IsCut nodes 0 key seq last
+  pub next_is : place ≡ next_on nodes 0 last
+
+-- what an index reads there, in nodes that are the same
+pub lands_on : (read nodes : List Node) (first count : ℕ) (key : List ℕ) (seq last : ℕ) (default : Node) → read ≡ nodes
+    → IsArena nodes first count → IsCut read 0 key seq last
+    → LandsOn nodes first count key seq last (slice_index (slice_index_or read last default).links 0)
+lands_on read nodes first count key seq last default is arena cut =
+    let here : IsCut nodes 0 key seq last = subst (λ (ns : List Node). IsCut ns 0 key seq last) is cut in record {
+      arena = arena;
+      cut = here;
+      next_is = ap (λ (ns : List Node). slice_index (slice_index_or ns last default).links 0) is
+          ∙ (lands_at nodes key seq last default arena.linked (omega (arith, arena.all)) here).is;
+    }
+
+-- the same of the nodes that were read
+pub read_lands : (read nodes : List Node) (first count : ℕ) (key : List ℕ) (seq last : ℕ) (default : Node) → read ≡ nodes
+    → IsArena nodes first count → IsCut read 0 key seq last
+    → LandsOn read first count key seq last (slice_index (slice_index_or read last default).links 0)
+read_lands read nodes first count key seq last default is arena cut =
+    lands_on read read first count key seq last default refl (subst (λ (ns : List Node). IsArena ns first count) (sym is) arena) cut
+
+-- the last place before a cut is one of those that were read
+pub spot_within : (read nodes : List Node) (first count : ℕ) (key : List ℕ) (seq last : ℕ) → read ≡ nodes → IsArena nodes first count
+    → IsCut read 0 key seq last → last < length read
+spot_within read nodes first count key seq last is arena cut =
+    let here : IsArena read first count = subst (λ (ns : List Node). IsArena ns first count) (sym is) arena in
+    (lands_at read key seq last no_node here.linked (omega (arith, here.all)) cut).within
+
+module _ {nodes : List Node} {first count : ℕ} {key : List ℕ} {seq last place : ℕ} (at : LandsOn nodes first count key seq last place) where
+  pub found_none : place ≡ 0 → IsFirstFrom (versions_on nodes 0) key seq None
+  found_none end = none_from nodes at.arena.linked key seq last at.cut (sym at.next_is ∙ end)
+
+  module _ (some : place ≢ 0) where
+    goes_on : next_on nodes 0 last ≢ 0
+    goes_on e = some (at.next_is ∙ e)
+
+    found_held : Contains (places_on nodes 0) place
+    found_held = subst (Contains (places_on nodes 0)) (sym at.next_is) (next_held nodes at.arena.linked key seq last at.cut goes_on)
+
+    pub found_within : place < length nodes
+    found_within = ((at.arena.linked.levels 0 (omega arith)).held place found_held).0
+
+    pub found_read : (read : List Node) (node : Node) → read ≡ nodes → node ≡ slice_index_or read place node → version_in node ≡ version_at nodes place
+    found_read read node same is = version_read nodes place node (is ∙ ap (λ (ns : List Node). slice_index_or ns place node) same) found_within
+
+    pub found_filled : is_vacant (node_at nodes place).held ≡ false
+    found_filled = ((at.arena.linked.levels 0 (omega arith)).held place found_held).1
+
+    pub found_first : IsFirstFrom (versions_on nodes 0) key seq (Some (version_at nodes place))
+    found_first = subst (λ (p : ℕ). IsFirstFrom (versions_on nodes 0) key seq (Some (version_at nodes p))) (sym at.next_is)
+        (some_from nodes at.arena.linked key seq last at.cut goes_on)
+
+    -- it can be taken out
+    pub found_removal : (read : List Node) (lasts : List ℕ) → read ≡ nodes → AreLastsFor read key seq place lasts
+        → Removal nodes lasts place first count (version_at nodes place).key (version_at nodes place).number
+    found_removal read lasts is own =
+        let here : AreLastsFor nodes key seq place lasts = subst (λ (ns : List Node). AreLastsFor ns key seq place lasts) is own in record {
+          arena = at.arena;
+          own = λ level less. elim (here level less) [
+            | inl one ↦ inl (subst (λ (p : ℕ). IsCut nodes level (version_at nodes p).key (version_at nodes p).number (slice_index lasts level)) (sym at.next_is)
+                (same_cut nodes at.arena.linked key seq last at.cut goes_on level (slice_index lasts level) less one))
+            | inr none ↦ inr none
+          ];
+          held = found_held;
+          at = (refl, refl);
+        }
+
+    pub found_top : (top : List Guide) (index : ℕ) → IsTop nodes top → IsTopCut nodes (places_of top) key seq index
+        → IsTopCut nodes (places_of top) (version_at nodes place).key (version_at nodes place).number index
+    found_top top index top_is top_cut =
+        subst (λ (p : ℕ). IsTopCut nodes (places_of top) (version_at nodes p).key (version_at nodes p).number index) (sym at.next_is)
+        (same_top_cut nodes at.arena.linked key seq last at.cut goes_on top index top_is top_cut)
+
+    -- what it hands over is its version
+    pub found_handed : (read mid : List Node) (node : Node) (held : Held) (key : List ℕ) (value : Option (List ℕ)) → read ≡ nodes → mid ≡ nodes
+        → node ≡ slice_index_or read place node → held ≡ (node_at mid place).held → Some (held_of key value) ≡ unless_vacant held
+        → version_with key (slice_index_or read place node).seq value ≡ version_at nodes place
+    found_handed read mid node held key value same mid_same is was e =
+        ap (λ (n : Node). version_with key n.seq value) (sym is)
+        ∙ handed_over nodes place node held key value found_within (is ∙ ap (λ (ns : List Node). slice_index_or ns place node) same)
+        (was ∙ ap (λ (ns : List Node). (node_at ns place).held) mid_same) e

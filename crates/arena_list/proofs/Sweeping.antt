@@ -19,7 +19,7 @@ use Rattle.arena_list.proofs.Chains.{follows_distinct, distinct_out, follows_aft
 use Rattle.arena_list.proofs.Orders.{before_along, before_cases, never_before_itself, keys_tied}
 use Rattle.arena_list.proofs.Levels.{map_same, ascend_across, ascend_back, ascend_versions, within_lowest, read_next, version_read}
 use Rattle.arena_list.proofs.Cuts.{next_there}
-use Rattle.arena_list.proofs.Left.{version_kept, left_more, level_without, lasts_within, removal_arena}
+use Rattle.arena_list.proofs.Left.{version_kept, left_more, level_without, Removal, lasts_within, removal_arena}
 use Rattle.arena_list.proofs.Passing.{cut_past, cut_left}
 
 -- ---- which versions a mark keeps
@@ -428,8 +428,11 @@ module _ (old : List Node) (free : FreeList) (marks : List ℕ) (nodes : List No
           (λ p h. subst (λ (n : ℕ). p < n) (sym left.len) (below p (within_tail place rest p h)))),
     )
 
+    removal_here : Removal nodes lasts place now_free.first now_free.count v.key v.number
+    removal_here = record { arena = at.arena; own = own_here; held = place_held; at = (refl, refl) }
+
     pub sweep_within : AreWithin nodes lasts
-    sweep_within = lasts_within nodes nodes lasts place now_free.first now_free.count v.key v.number at.arena own_here place_held (refl, refl)
+    sweep_within = lasts_within removal_here
 
     -- the place is taken out
     pub swept_out : (IsBetween marks v.number newer → ⊥) → (new : List Node) (new_free : FreeList) → TakesOut nodes lasts place now_free.first new
@@ -439,7 +442,7 @@ module _ (old : List Node) (free : FreeList) (marks : List ℕ) (nodes : List No
     swept_out not_wanted new new_free left first_is count_is new_newer newer_for = record {
       arena = subst (λ (p : ℕ). IsArena new p new_free.count) (sym first_is)
           (subst (λ (n : ℕ). IsArena new place n) (sym count_is)
-          (removal_arena nodes new lasts place now_free.first now_free.count v.key v.number at.arena own_here place_held (refl, refl) left));
+          (removal_arena removal_here left));
       len = left.len ∙ at.len;
       done = at.done;
       rest = rest;

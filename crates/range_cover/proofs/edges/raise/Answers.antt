@@ -1,7 +1,7 @@
 -- Edge by edge from the start to the end, with one in hand.
 use Rattle.std.proofs.Common.{◌≡◌, ℕ, ◌-◌, ◌^◌, ◌<◌, ◌≤◌, max, List, None, sym, ap, ◌∙◌, subst, arith}
 use Rattle.arena_list.specs.Arena.{Arena}
-use Rattle.arena_list.specs.Versions.{version_with, HoldsVersion, Adds}
+use Rattle.arena_list.specs.Versions.{KeyVersion, version_with, HoldsVersion, Adds}
 use Rattle.range_cover.specs.declared.edges.Edge.{Edge}
 use Rattle.range_cover.specs.Marks.{StandsBefore}
 use Rattle.range_cover.specs.Edges.{IsUpTo, top_of}
@@ -9,6 +9,12 @@ use Rattle.range_cover.specs.Steps.{HandsEdgeOver, HandsNext, IsMarkHeld, count_
 use Rattle.range_cover.proofs.Telling.{cover_tops}
 use Rattle.range_cover.proofs.Held.{held_begins, held_raised, held_dropped, held_ends, held_absent, next_fits, fewer_raised, fewer_dropped}
 use Rattle.range_cover.proofs.edges.raise.Goals as goal
+
+-- what is handed over between two keys is so between two that are the same
+hands_same : (edges mid : List KeyVersion) (key key' end end' next : List ℕ) (top : ℕ) → key' ≡ key → end' ≡ end
+    → HandsNext edges key' end' next top mid → HandsNext edges key end next top mid
+hands_same edges mid key key' end end' next top same_key same_end hands =
+    subst (λ (k : List ℕ × List ℕ). HandsNext edges k.0 k.1 next top mid) (λ i. (same_key i, same_end i)) hands
 
 pub take_at-held-requires-clause-tops : goal.take_at-held-requires-clause-tops
 take_at-held-requires-clause-tops c = cover_tops c.args.edges.now.versions c.requires.covers.0 c.requires.covers.1
@@ -35,10 +41,8 @@ put_back-requires-clause-absent c =
     let held = c.loop-next.held in
     let mark = c.args.mark.now in
     let mid = c.take_next.new.edges.versions in
-    let hands : HandsNext edges held.key mark.end c.in-Some.next.key c.in-Some.next.top mid =
-    subst (λ (k : List ℕ). HandsNext edges k mark.end c.in-Some.next.key c.in-Some.next.top mid) c.as_slice-in-loop-next.ensures
-    (subst (λ (k : List ℕ). HandsNext edges c.as_slice-in-loop-next.result.now k c.in-Some.next.key c.in-Some.next.top mid) c.as_slice-in-loop-next-2.ensures
-    c.in-Some.ensures.taken) in
+    let hands = hands_same edges mid held.key _ mark.end _ c.in-Some.next.key c.in-Some.next.top c.as_slice-in-loop-next.ensures
+    c.as_slice-in-loop-next-2.ensures c.in-Some.ensures.taken in
     subst (λ (e : Edge). HoldsVersion mid e.key e.top → ⊥) (sym c.replace.ensures.value)
     (held_absent c.args.edges.now.versions edges held.key held.top mark c.loop-next.invariant.held c.requires.covers c.in-Some.next.key c.in-Some.next.top mid hands)
 
@@ -49,10 +53,8 @@ loop-next-smaller-then-raised-held c =
     let mark = c.args.mark.now in
     let mid = c.take_next.new.edges.versions in
     let new = c.put_back.new.edges.versions in
-    let hands : HandsNext edges held.key mark.end c.in-Some.next.key c.in-Some.next.top mid =
-    subst (λ (k : List ℕ). HandsNext edges k mark.end c.in-Some.next.key c.in-Some.next.top mid) c.as_slice-in-loop-next.ensures
-    (subst (λ (k : List ℕ). HandsNext edges c.as_slice-in-loop-next.result.now k c.in-Some.next.key c.in-Some.next.top mid) c.as_slice-in-loop-next-2.ensures
-    c.in-Some.ensures.taken) in
+    let hands = hands_same edges mid held.key _ mark.end _ c.in-Some.next.key c.in-Some.next.top c.as_slice-in-loop-next.ensures
+    c.as_slice-in-loop-next-2.ensures c.in-Some.ensures.taken in
     subst (λ (e : Edge). count_behind e.key new < count_behind held.key edges) (sym c.replace.ensures.after)
     (fewer_raised c.args.edges.now.versions edges held.key held.top mark c.loop-next.invariant.held c.requires.covers c.in-Some.next.key c.in-Some.next.top mid
     hands new c.put_back.ensures.ascend
@@ -66,10 +68,8 @@ loop-next-preserved-then-raised-held c =
     let mark = c.args.mark.now in
     let mid = c.take_next.new.edges.versions in
     let new = c.put_back.new.edges.versions in
-    let hands : HandsNext edges held.key mark.end c.in-Some.next.key c.in-Some.next.top mid =
-    subst (λ (k : List ℕ). HandsNext edges k mark.end c.in-Some.next.key c.in-Some.next.top mid) c.as_slice-in-loop-next.ensures
-    (subst (λ (k : List ℕ). HandsNext edges c.as_slice-in-loop-next.result.now k c.in-Some.next.key c.in-Some.next.top mid) c.as_slice-in-loop-next-2.ensures
-    c.in-Some.ensures.taken) in
+    let hands = hands_same edges mid held.key _ mark.end _ c.in-Some.next.key c.in-Some.next.top c.as_slice-in-loop-next.ensures
+    c.as_slice-in-loop-next-2.ensures c.in-Some.ensures.taken in
     let up : c.max-raised.result ≡ max c.in-Some.next.top (top_of mark.number) = c.max-raised.ensures ∙ ap (max c.in-Some.next.top) c.top_of-top.ensures in
     let next_fits =
     next_fits first edges held.key held.top mark c.loop-next.invariant.held c.requires.covers c.in-Some.next.key c.in-Some.next.top mid hands in record {
@@ -88,10 +88,8 @@ loop-next-smaller c =
     let held = c.loop-next.held in
     let mark = c.args.mark.now in
     let mid = c.take_next.new.edges.versions in
-    let hands : HandsNext edges held.key mark.end c.in-Some.next.key c.in-Some.next.top mid =
-    subst (λ (k : List ℕ). HandsNext edges k mark.end c.in-Some.next.key c.in-Some.next.top mid) c.as_slice-in-loop-next.ensures
-    (subst (λ (k : List ℕ). HandsNext edges c.as_slice-in-loop-next.result.now k c.in-Some.next.key c.in-Some.next.top mid) c.as_slice-in-loop-next-2.ensures
-    c.in-Some.ensures.taken) in
+    let hands = hands_same edges mid held.key _ mark.end _ c.in-Some.next.key c.in-Some.next.top c.as_slice-in-loop-next.ensures
+    c.as_slice-in-loop-next-2.ensures c.in-Some.ensures.taken in
     fewer_dropped c.args.edges.now.versions edges held.key held.top mark c.loop-next.invariant.held c.requires.covers c.in-Some.next.key c.in-Some.next.top mid
     hands c.in-Some.ensures.ascend
 
@@ -101,10 +99,8 @@ loop-next-preserved c =
     let held = c.loop-next.held in
     let mark = c.args.mark.now in
     let mid = c.take_next.new.edges.versions in
-    let hands : HandsNext edges held.key mark.end c.in-Some.next.key c.in-Some.next.top mid =
-    subst (λ (k : List ℕ). HandsNext edges k mark.end c.in-Some.next.key c.in-Some.next.top mid) c.as_slice-in-loop-next.ensures
-    (subst (λ (k : List ℕ). HandsNext edges c.as_slice-in-loop-next.result.now k c.in-Some.next.key c.in-Some.next.top mid) c.as_slice-in-loop-next-2.ensures
-    c.in-Some.ensures.taken) in
+    let hands = hands_same edges mid held.key _ mark.end _ c.in-Some.next.key c.in-Some.next.top c.as_slice-in-loop-next.ensures
+    c.as_slice-in-loop-next-2.ensures c.in-Some.ensures.taken in
     let up : c.max-raised.result ≡ max c.in-Some.next.top (top_of mark.number) = c.max-raised.ensures ∙ ap (max c.in-Some.next.top) c.top_of-top.ensures in record {
       held = held_dropped c.args.edges.now.versions edges held.key held.top mark c.loop-next.invariant.held c.requires.covers c.in-Some.next.key
           c.in-Some.next.top mid hands (omega (arith, up, c.if-raised-held.false));

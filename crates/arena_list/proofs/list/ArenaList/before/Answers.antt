@@ -1,22 +1,18 @@
 -- The last place before the cut holds the version, where it is not the head.
-use Rattle.std.proofs.Common.{◌≡◌, ℕ, ◌<◌, List, Some, None, length, sym, ap, ◌∙◌, subst, subst₂, arith, slice_index}
+use Rattle.std.proofs.Common.{◌≡◌, ℕ, List, Some, None, sym, ap, ◌∙◌, subst, subst₂, arith, slice_index}
 use Rattle.arena_list.specs.declared.node.Node.{Node}
 use Rattle.arena_list.specs.Versions.{KeyVersion, version_shown}
 use Rattle.arena_list.specs.Spots.{IsLastBefore}
 use Rattle.arena_list.specs.Arena.{Arena}
-use Rattle.arena_list.specs.Nodes.{IsLinked, no_node, versions_on, arena_of}
+use Rattle.arena_list.specs.Nodes.{IsLinked, versions_on, arena_of}
 use Rattle.arena_list.proofs.Levels.{version_read}
-use Rattle.arena_list.proofs.Arenas.{lands_at}
-use Rattle.arena_list.proofs.Spots.{some_before, none_before}
+use Rattle.arena_list.proofs.Spots.{some_before, none_before, spot_within}
 use Rattle.arena_list.proofs.list.ArenaList.before.Goals as goal
 
 pub bounds-nodes-place : goal.bounds-nodes-place
-bounds-nodes-place c =
-    let sought = c.new-sought.result in
-    let is : c.as_slice-nodes.result.now ≡ c.self.inside.nodes.items = c.as_slice-nodes.ensures.value in
-    let some : 0 < length c.as_slice-nodes.result.now = omega (arith, c.self.invariant.0.all, ap length is) in
-    (lands_at c.as_slice-nodes.result.now sought.key.now sought.number (slice_index c.find_spot-spot.result.lasts 0) no_node
-    (subst IsLinked (sym is) c.self.invariant.0.linked) some (c.find_spot-spot.ensures.lasts.low 0 (omega arith))).within
+bounds-nodes-place c = let sought = c.new-sought.result in
+    spot_within c.as_slice-nodes.result.now _ _ _ sought.key.now sought.number _ c.as_slice-nodes.ensures.value c.self.invariant.0
+    (c.find_spot-spot.ensures.lasts.low 0 (omega arith))
 
 pub returns-then-place-eq0 : goal.returns-then-place-eq0
 returns-then-place-eq0 c =
@@ -34,11 +30,10 @@ returns c =
     let sought = c.new-sought.result in
     let nodes = c.as_slice-nodes.result.now in
     let is : nodes ≡ c.self.inside.nodes.items = c.as_slice-nodes.ensures.value in
-    let some : 0 < length nodes = omega (arith, c.self.invariant.0.all, ap length is) in
     let linked : IsLinked nodes = subst IsLinked (sym is) c.self.invariant.0.linked in
     let last = slice_index c.find_spot-spot.result.lasts 0 in
     let cut = c.find_spot-spot.ensures.lasts.low 0 (omega arith) in
-    let within : last < length nodes = (lands_at nodes sought.key.now sought.number last no_node linked some cut).within in
+    let within = spot_within nodes _ _ _ sought.key.now sought.number last is c.self.invariant.0 cut in
     subst₂ (λ (k : List ℕ) (n : ℕ). IsLastBefore c.args.self.now.versions k n (Some (version_shown c.version.result)))
     c.new-sought.ensures.key c.new-sought.ensures.number
     (subst (λ (a : Arena). IsLastBefore a.versions sought.key.now sought.number (Some (version_shown c.version.result)))

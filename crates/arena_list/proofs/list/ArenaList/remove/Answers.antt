@@ -1,49 +1,35 @@
 -- The place is linked out of each level and freed.
-use Rattle.std.proofs.Common.{◌≡◌, ℕ, ◌+◌, ◌<◌, List, length, Contains, refl, sym, ap, ◌∙◌, subst, subst₂, vec_len}
+use Rattle.std.proofs.Common.{◌≡◌, ℕ, ◌+◌, ◌<◌, List, length, refl, sym, ap, ◌∙◌, subst, subst₂, vec_len}
 use Rattle.std.specs.Vec.{with_items}
 use Rattle.std.proofs.lemmas.List.{with_items_is}
 use Rattle.arena_list.specs.declared.node.Node.{Node}
 use Rattle.arena_list.specs.declared.guide.Guide.{Guide}
-use Rattle.arena_list.specs.Versions.{IsAt, HoldsVersion, LeavesOut}
+use Rattle.arena_list.specs.Versions.{HoldsVersion, LeavesOut}
 use Rattle.arena_list.specs.Arena.{Arena, places_in}
 use Rattle.arena_list.specs.Nodes.{version_at, places_on, versions_on, arena_of, IsArena}
-use Rattle.arena_list.specs.Steps.{AreLastsFor, AreWithin, TakesOut}
+use Rattle.arena_list.specs.Steps.{AreWithin, TakesOut}
 use Rattle.arena_list.specs.Tops.{places_of, IsTop, IsTopCut}
 use Rattle.arena_list.proofs.Levels.{mapped}
-use Rattle.arena_list.proofs.Left.{held_within, lasts_within, removal_arena, removal_leaves, removal_places, removal_top}
+use Rattle.arena_list.proofs.Left.{removal_of, held_within, lasts_within, removal_arena, removal_leaves, removal_places, removal_top}
 use Rattle.arena_list.proofs.list.ArenaList.remove.Goals as goal
 
 pub take_out-requires-clause-within : goal.take_out-requires-clause-within
 take_out-requires-clause-within c =
     let sought = c.new-sought.result in
-    let items = c.self.inside.nodes.items in
     let lasts = c.lasts_for-lasts.result in
-    let place = c.in-Some.place in
-    let own : AreLastsFor items sought.key.now sought.number place lasts =
-    subst (λ (ns : List Node). AreLastsFor ns sought.key.now sought.number place lasts) c.as_slice-nodes.ensures.value c.lasts_for-lasts.ensures in
-    let held : Contains (places_on items 0) place =
-    subst (λ (ns : List Node). Contains (places_on ns 0) place) c.as_slice-nodes.ensures.value c.in-Some.ensures.held in
-    let at : IsAt (version_at items place) sought.key.now sought.number =
-    subst (λ (ns : List Node). IsAt (version_at ns place) sought.key.now sought.number) c.as_slice-nodes.ensures.value c.in-Some.ensures.at in
+    let r = removal_of c.as_slice-nodes.result.now _ _ _ _ _ sought.key.now sought.number c.as_slice-nodes.ensures.value
+    c.self.invariant.0 c.lasts_for-lasts.ensures c.in-Some.ensures.held c.in-Some.ensures.at in
     subst (λ (ns : List Node). AreWithin ns lasts) (sym c.as_mut_slice.ensures.value)
-    (lasts_within items items lasts place c.self.inside.free.first c.self.inside.free.count sought.key.now
-    sought.number c.self.invariant.0 own held at)
+    (lasts_within r)
 
 pub take_out-requires-clause-place : goal.take_out-requires-clause-place
 take_out-requires-clause-place c =
     let sought = c.new-sought.result in
-    let items = c.self.inside.nodes.items in
-    let lasts = c.lasts_for-lasts.result in
     let place = c.in-Some.place in
-    let own : AreLastsFor items sought.key.now sought.number place lasts =
-    subst (λ (ns : List Node). AreLastsFor ns sought.key.now sought.number place lasts) c.as_slice-nodes.ensures.value c.lasts_for-lasts.ensures in
-    let held : Contains (places_on items 0) place =
-    subst (λ (ns : List Node). Contains (places_on ns 0) place) c.as_slice-nodes.ensures.value c.in-Some.ensures.held in
-    let at : IsAt (version_at items place) sought.key.now sought.number =
-    subst (λ (ns : List Node). IsAt (version_at ns place) sought.key.now sought.number) c.as_slice-nodes.ensures.value c.in-Some.ensures.at in
+    let r = removal_of c.as_slice-nodes.result.now _ _ _ _ _ sought.key.now sought.number c.as_slice-nodes.ensures.value
+    c.self.invariant.0 c.lasts_for-lasts.ensures c.in-Some.ensures.held c.in-Some.ensures.at in
     subst (λ (ns : List Node). place < length ns) (sym c.as_mut_slice.ensures.value)
-    (held_within items items lasts place c.self.inside.free.first c.self.inside.free.count sought.key.now
-    sought.number c.self.invariant.0 own held at)
+    (held_within r)
 
 pub invariant_of-self : goal.invariant_of-self
 invariant_of-self c =
@@ -51,12 +37,8 @@ invariant_of-self c =
     let items = c.self.inside.nodes.items in
     let lasts = c.lasts_for-lasts.result in
     let place = c.in-Some.place in
-    let own : AreLastsFor items sought.key.now sought.number place lasts =
-    subst (λ (ns : List Node). AreLastsFor ns sought.key.now sought.number place lasts) c.as_slice-nodes.ensures.value c.lasts_for-lasts.ensures in
-    let held : Contains (places_on items 0) place =
-    subst (λ (ns : List Node). Contains (places_on ns 0) place) c.as_slice-nodes.ensures.value c.in-Some.ensures.held in
-    let at : IsAt (version_at items place) sought.key.now sought.number =
-    subst (λ (ns : List Node). IsAt (version_at ns place) sought.key.now sought.number) c.as_slice-nodes.ensures.value c.in-Some.ensures.at in
+    let r = removal_of c.as_slice-nodes.result.now _ _ _ _ _ sought.key.now sought.number c.as_slice-nodes.ensures.value
+    c.self.invariant.0 c.lasts_for-lasts.ensures c.in-Some.ensures.held c.in-Some.ensures.at in
     let new = c.take_out.new.nodes in
     let out : TakesOut items lasts place c.self.inside.free.first new =
     subst (λ (ns : List Node). TakesOut ns lasts place c.self.inside.free.first new) c.as_mut_slice.ensures.value c.take_out.ensures.out in
@@ -68,28 +50,21 @@ invariant_of-self c =
     (subst (λ (t : List Guide). IsTopCut c.as_slice-nodes.result.now (places_of t) sought.key.now sought.number index) c.as_slice-top.ensures.value
     c.find_spot-spot.ensures.index) in (
       subst (λ (ns : List Node). IsArena ns place (c.self.inside.free.count + 1)) (sym (with_items_is c.self.inside.nodes new new_len))
-          (removal_arena items c.take_out.new.nodes lasts place c.self.inside.free.first c.self.inside.free.count sought.key.now
-          sought.number c.self.invariant.0 own held at out),
+          (removal_arena r out),
       subst (λ (ns : List Node). IsTop ns c.take_from_top.new.top.items) (sym (with_items_is c.self.inside.nodes new new_len))
-          (removal_top items c.take_out.new.nodes lasts place c.self.inside.free.first c.self.inside.free.count sought.key.now
-          sought.number c.self.invariant.0 own held at top c.take_from_top.new.top.items index c.self.invariant.1 top_cut c.take_from_top.ensures out),
+          (removal_top r out top c.take_from_top.new.top.items index c.self.invariant.1 top_cut c.take_from_top.ensures),
     )
 
 pub returns-clause-held : goal.returns-clause-held
 returns-clause-held c =
     let sought = c.new-sought.result in
     let items = c.self.inside.nodes.items in
-    let lasts = c.lasts_for-lasts.result in
     let place = c.in-Some.place in
-    let own : AreLastsFor items sought.key.now sought.number place lasts =
-    subst (λ (ns : List Node). AreLastsFor ns sought.key.now sought.number place lasts) c.as_slice-nodes.ensures.value c.lasts_for-lasts.ensures in
-    let held : Contains (places_on items 0) place =
-    subst (λ (ns : List Node). Contains (places_on ns 0) place) c.as_slice-nodes.ensures.value c.in-Some.ensures.held in
-    let at : IsAt (version_at items place) sought.key.now sought.number =
-    subst (λ (ns : List Node). IsAt (version_at ns place) sought.key.now sought.number) c.as_slice-nodes.ensures.value c.in-Some.ensures.at in (
+    let r = removal_of c.as_slice-nodes.result.now _ _ _ _ _ sought.key.now sought.number c.as_slice-nodes.ensures.value
+    c.self.invariant.0 c.lasts_for-lasts.ensures c.in-Some.ensures.held c.in-Some.ensures.at in (
       λ _. subst₂ (λ (k : List ℕ) (n : ℕ). HoldsVersion c.args.self.now.versions k n) c.new-sought.ensures.key c.new-sought.ensures.number
           (subst (λ (a : Arena). HoldsVersion a.versions sought.key.now sought.number) c.self.view_is
-          (version_at items place, mapped (version_at items) (places_on items 0) place held, at)),
+          (version_at items place, mapped (version_at items) (places_on items 0) place r.held, r.at)),
       λ _. refl,
     )
 
@@ -99,12 +74,8 @@ returns-clause-versions c =
     let items = c.self.inside.nodes.items in
     let lasts = c.lasts_for-lasts.result in
     let place = c.in-Some.place in
-    let own : AreLastsFor items sought.key.now sought.number place lasts =
-    subst (λ (ns : List Node). AreLastsFor ns sought.key.now sought.number place lasts) c.as_slice-nodes.ensures.value c.lasts_for-lasts.ensures in
-    let held : Contains (places_on items 0) place =
-    subst (λ (ns : List Node). Contains (places_on ns 0) place) c.as_slice-nodes.ensures.value c.in-Some.ensures.held in
-    let at : IsAt (version_at items place) sought.key.now sought.number =
-    subst (λ (ns : List Node). IsAt (version_at ns place) sought.key.now sought.number) c.as_slice-nodes.ensures.value c.in-Some.ensures.at in
+    let r = removal_of c.as_slice-nodes.result.now _ _ _ _ _ sought.key.now sought.number c.as_slice-nodes.ensures.value
+    c.self.invariant.0 c.lasts_for-lasts.ensures c.in-Some.ensures.held c.in-Some.ensures.at in
     let new = c.take_out.new.nodes in
     let out : TakesOut items lasts place c.self.inside.free.first new =
     subst (λ (ns : List Node). TakesOut ns lasts place c.self.inside.free.first new) c.as_mut_slice.ensures.value c.take_out.ensures.out in
@@ -114,8 +85,7 @@ returns-clause-versions c =
     (subst (λ (a : Arena). LeavesOut a.versions sought.key.now sought.number (versions_on (with_items c.self.inside.nodes new).items 0)) c.self.view_is
     (subst (λ (ns : List Node). LeavesOut (versions_on items 0) sought.key.now sought.number (versions_on ns 0))
     (sym (with_items_is c.self.inside.nodes new new_len))
-    (removal_leaves items c.take_out.new.nodes lasts place c.self.inside.free.first c.self.inside.free.count sought.key.now
-    sought.number c.self.invariant.0 own held at out)))
+    (removal_leaves r out)))
 
 pub returns-clause-places : goal.returns-clause-places
 returns-clause-places c =
@@ -123,16 +93,11 @@ returns-clause-places c =
     let items = c.self.inside.nodes.items in
     let lasts = c.lasts_for-lasts.result in
     let place = c.in-Some.place in
-    let own : AreLastsFor items sought.key.now sought.number place lasts =
-    subst (λ (ns : List Node). AreLastsFor ns sought.key.now sought.number place lasts) c.as_slice-nodes.ensures.value c.lasts_for-lasts.ensures in
-    let held : Contains (places_on items 0) place =
-    subst (λ (ns : List Node). Contains (places_on ns 0) place) c.as_slice-nodes.ensures.value c.in-Some.ensures.held in
-    let at : IsAt (version_at items place) sought.key.now sought.number =
-    subst (λ (ns : List Node). IsAt (version_at ns place) sought.key.now sought.number) c.as_slice-nodes.ensures.value c.in-Some.ensures.at in
+    let r = removal_of c.as_slice-nodes.result.now _ _ _ _ _ sought.key.now sought.number c.as_slice-nodes.ensures.value
+    c.self.invariant.0 c.lasts_for-lasts.ensures c.in-Some.ensures.held c.in-Some.ensures.at in
     let new = c.take_out.new.nodes in
     let out : TakesOut items lasts place c.self.inside.free.first new =
     subst (λ (ns : List Node). TakesOut ns lasts place c.self.inside.free.first new) c.as_mut_slice.ensures.value c.take_out.ensures.out in
     let new_len : length new ≡ vec_len c.self.inside.nodes = c.take_out.ensures.out.len ∙ c.as_mut_slice.ensures.len in
     ap (λ (ns : List Node). places_in (arena_of ns (c.self.inside.free.count + 1))) (with_items_is c.self.inside.nodes new new_len)
-    ∙ removal_places items c.take_out.new.nodes lasts place c.self.inside.free.first c.self.inside.free.count sought.key.now
-    sought.number c.self.invariant.0 own held at out ∙ ap places_in c.self.view_is
+    ∙ removal_places r out ∙ ap places_in c.self.view_is
