@@ -90,14 +90,19 @@ failed_image p writing (Some f) g o after im = same_image p f f.done after.0 o (
 failed_image p syncing (Some f) g o after im = subst (λ (h : Option File). IsImageOf p h o) after im
 
 -- what a read finds of a sound file is one of its images
-pub read_image : (p : Place) (f : Option File) → ((g : File) → f ≡ Some g → IsSound p g) → IsImageOf p f (as_read f)
+pub read_image : (p : Place) (f : Option File) → ((g : File) → f ≡ Some g → IsSound p g) → IsImageOf p f (as_read p f)
 read_image p None sound = tt
-read_image p (Some f) sound = go p f.created refl (sound f refl)
+read_image (table upto) (Some f) sound = (sound f refl).1
+read_image (segment side name) (Some f) sound = go f.created refl (sound f refl)
   where
-    go : (q : Place) (made : Bool) → f.created ≡ made → IsSound q f → IsImageOf q (Some f) (as_read (Some f))
-    go q false is s = rw is (λ e. cc)
-    go (segment side name) true is s = rw is (λ e. begins_shorter f.stable f.done f.sent f.reads s.0.stable s.0.reads)
-    go (table upto) true is s = rw is (λ e. s.1 is)
+    go : (made : Bool) → f.created ≡ made → IsSound (segment side name) f → IsImageOf (segment side name) (Some f) (as_read (segment side name) (Some f))
+    go false is s = rw is (λ e. cc)
+    go true is s = rw is (λ e. begins_shorter f.stable f.done f.sent f.reads s.0.stable s.0.reads)
+
+-- a created file reads as it stands
+pub read_created : (p : Place) (o : Option File) (f : File) → o ≡ Some f → f.created ≡ true → as_read p o ≡ Some f.reads
+read_created (segment side name) o f is created = ap (as_read (segment side name)) is ∙ rw created refl
+read_created (table upto) o f is created = ap (as_read (table upto)) is
 
 -- a disk as it reads is one of its images
 pub reads_as_image : (files : Files) → ((p : Place) (f : File) → files p ≡ Some f → IsSound p f) → IsImage files (dirs_as_read files)
@@ -107,7 +112,7 @@ reads_as_image files sound p = read_image p (files p) (sound p)
 pub rested_chance_free : (Chunk : List ℕ → ℕ → ℕ → ℕ → Type 0) (files : Files) → IsRested files → IsChanceFree Chunk files (dirs_as_read files)
 rested_chance_free Chunk files rested p f bytes at size is read chunk =
     let rests = rested p f is in
-    let found : as_read (files p) ≡ Some f.reads = ap as_read is ∙ rw rests.created refl in
+    let found = read_created p (files p) f is rests.created in
     let same : Some bytes ≡ Some f.reads = sym read ∙ found in
     let bytes_are : bytes ≡ f.reads = cc in
     ap (λ (l : List ℕ). take size (drop at l)) (bytes_are ∙ rests.reads)

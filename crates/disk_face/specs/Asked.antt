@@ -6,10 +6,10 @@ use Rattle.disk_face.specs.declared.Listed.{Listed}
 use Rattle.disk_face.specs.declared.DiskErr.{DiskErr}
 use Rattle.disk_face.specs.declared.OpId.{OpId}
 use Rattle.disk_face.specs.declared.Progress.TheVariants.{Failed}
-use Rattle.disk_face.specs.View.{Act, creating, writing, syncing, Flight, Call, was_listed, was_read, was_started, was_polled, side_eq}
+use Rattle.disk_face.specs.View.{Act, creating, writing, syncing, Flight, Call, was_listed, was_read, tables_were_listed, table_was_read, table_was_put, was_removed, was_started, was_polled, side_eq}
 
 -- what a listing answered: nothing where it failed
-abbrev pub answered : Result (List Listed) DiskErr → List Listed
+abbrev pub answered : {T : Type 0} → Result (List T) DiskErr → List T
 answered (Ok names) = names
 answered (Err err) = []
 
@@ -21,6 +21,10 @@ name_eq a b = a.wal == b.wal && a.index == b.index
 abbrev pub lists_in : Side → Call → ℕ
 lists_in side (was_listed s names) = if side_eq side s then 1 else 0
 lists_in side (was_read s name len) = 0
+lists_in side (tables_were_listed tables) = 0
+lists_in side (table_was_read upto len) = 0
+lists_in side (table_was_put upto bytes ok) = 0
+lists_in side (was_removed place ok) = 0
 lists_in side (was_started id flight) = 0
 lists_in side (was_polled id answer) = 0
 
@@ -32,6 +36,10 @@ listings side = sum_by (lists_in side)
 abbrev pub bytes_in : Side → SegName → Call → ℕ
 bytes_in side name (was_listed s names) = 0
 bytes_in side name (was_read s n len) = if side_eq side s && name_eq name n then len else 0
+bytes_in side name (tables_were_listed tables) = 0
+bytes_in side name (table_was_read upto len) = 0
+bytes_in side name (table_was_put upto bytes ok) = 0
+bytes_in side name (was_removed place ok) = 0
 bytes_in side name (was_started id flight) = 0
 bytes_in side name (was_polled id answer) = 0
 
@@ -47,6 +55,10 @@ length_among name = sum_by (λ item. if name_eq name item.name then item.len els
 abbrev pub length_in : Side → SegName → Call → ℕ
 length_in side name (was_listed s names) = if side_eq side s then length_among name names else 0
 length_in side name (was_read s n len) = 0
+length_in side name (tables_were_listed tables) = 0
+length_in side name (table_was_read upto len) = 0
+length_in side name (table_was_put upto bytes ok) = 0
+length_in side name (was_removed place ok) = 0
 length_in side name (was_started id flight) = 0
 length_in side name (was_polled id answer) = 0
 
@@ -71,6 +83,10 @@ creates syncing = 0
 abbrev pub creates_in : Call → ℕ
 creates_in (was_listed s names) = 0
 creates_in (was_read s name len) = 0
+creates_in (tables_were_listed tables) = 0
+creates_in (table_was_read upto len) = 0
+creates_in (table_was_put upto bytes ok) = 0
+creates_in (was_removed place ok) = 0
 creates_in (was_started id flight) = creates flight.act
 creates_in (was_polled id answer) = 0
 

@@ -55,14 +55,15 @@ pub record IsRestedFile (f : File) : Type 0 where
 abbrev pub IsRested : Files → Type 0
 IsRested files = (p : Place) (f : File) → files p ≡ Some f → IsRestedFile f
 
--- what a read finds of a file: its creation must be completed
-abbrev pub as_read : Option File → Option (List ℕ)
-as_read None = None
-as_read (Some f) = if f.created then Some f.reads else None
+-- What a read finds of the file at a place. The creation of a segment must be completed; a table reads as it stands, whole or not.
+abbrev pub as_read : Place → Option File → Option (List ℕ)
+as_read p None = None
+as_read (segment s n) (Some f) = if f.created then Some f.reads else None
+as_read (table n) (Some f) = Some f.reads
 
 -- the directories as they read now
 abbrev pub dirs_as_read : Files → Dirs
-dirs_as_read files p = as_read (files p)
+dirs_as_read files p = as_read p (files p)
 
 -- the directories of a disk, as they read
 abbrev pub directories : DiskView → Dirs

@@ -43,6 +43,10 @@ IsTableNumber upto = upto ≤ WAL_MAX
 abbrev pub AreTableNumbers : List TableListed → Type 0
 AreTableNumbers = All (λ t. IsTableNumber t.upto)
 
--- the list has the tables of such numbers, each with its length, and nothing else
+-- a table stands there, whole or not, of which a read gives so many bytes
+abbrev pub HasTable : Files → ℕ → ℕ → Type 0
+HasTable files upto len = (f : File) × (files (table upto) ≡ Some f) × (length f.reads ≡ len)
+
+-- The list has the tables of such numbers, each with its length, and nothing else. One whose put failed is among them.
 abbrev pub IsTableListing : Files → List TableListed → Type 0
-IsTableListing files tables = (item : TableListed) → Contains tables item ↔ (IsTableNumber item.upto × HasLength files (table item.upto) item.len)
+IsTableListing files tables = (item : TableListed) → Contains tables item ↔ (IsTableNumber item.upto × HasTable files item.upto item.len)

@@ -1,11 +1,13 @@
 -- What the calls on tables and the removals do to a disk, over the same view (docs/formats/disk.md, "Tables").
-use Rattle.std.specs.Prelude.{◌≡◌, ◌≢◌, ℕ, ◌<◌, ◌≤◌, Bool, true, false, List, length, Option, Some, None, Result, IfOk, OnOk, IsSome, IsTrue}
+use Rattle.std.specs.Prelude.{◌≡◌, ◌≢◌, ℕ, ◌<◌, ◌≤◌, Bool, true, false, List, length, Option, Some, None, Result, is_ok, IfOk, OnOk, IsSome, IsTrue}
 use Rattle.disk_face.specs.declared.Side.{Side}
 use Rattle.disk_face.specs.declared.SegName.{SegName}
 use Rattle.disk_face.specs.declared.TableListed.{TableListed}
 use Rattle.disk_face.specs.declared.DiskErr.{DiskErr}
-use Rattle.disk_face.specs.View.{Place, segment, table, File, DiskView, files}
+use Rattle.disk_face.specs.View.{Place, segment, table, File, DiskView, files, tables_were_listed, table_was_read, table_was_put, was_removed}
 use Rattle.disk_face.specs.Listing.{IsTableListing}
+use Rattle.disk_face.specs.Asked.{answered}
+use Rattle.disk_face.specs.Calls.{Notes}
 
 -- a file that stands whole in each image
 abbrev pub whole : List ℕ → File
@@ -16,6 +18,22 @@ pub record ChangesInCall (place : Place) (Form : Option File → Type 0) (old ne
   pub later : old.clock < new.clock
   pub here : (k : ℕ) → old.clock < k → k ≤ new.clock → Form (new.history k place)
   pub others : (k : ℕ) → old.clock < k → k ≤ new.clock → (q : Place) → q ≢ place → new.history k q ≡ files old q
+
+-- a listing of the tables is noted, with its answer
+abbrev pub NotesTables : Result (List TableListed) DiskErr → DiskView → DiskView → Type 0
+NotesTables result = Notes (tables_were_listed (answered result))
+
+-- a read of a table is noted, which asks for as many bytes as its buffer has
+abbrev pub AsksForTable : ℕ → List ℕ → DiskView → DiskView → Type 0
+AsksForTable upto buffer = Notes (table_was_read upto (length buffer))
+
+-- a put of a table is noted
+abbrev pub NotesPut : {T : Type 0} → ℕ → List ℕ → Result T DiskErr → DiskView → DiskView → Type 0
+NotesPut upto bytes result = Notes (table_was_put upto bytes (is_ok result))
+
+-- the removal of a file is noted
+abbrev pub NotesRemoval : {T : Type 0} → Place → Result T DiskErr → DiskView → DiskView → Type 0
+NotesRemoval place result = Notes (was_removed place (is_ok result))
 
 -- a table that is being put: absent, or sent and not created (any bytes in an image), or whole
 abbrev pub IsBeingPut : List ℕ → Option File → Type 0

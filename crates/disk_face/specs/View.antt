@@ -4,6 +4,7 @@ use Rattle.disk_face.specs.declared.Side.{Side}
 use Rattle.disk_face.specs.declared.Side.TheVariants.{Primary, Secondary}
 use Rattle.disk_face.specs.declared.SegName.{SegName}
 use Rattle.disk_face.specs.declared.Listed.{Listed}
+use Rattle.disk_face.specs.declared.TableListed.{TableListed}
 use Rattle.disk_face.specs.declared.OpId.{OpId}
 use Rattle.disk_face.specs.declared.Progress.{Progress}
 
@@ -52,6 +53,14 @@ pub data Call : Type 0 where
   was_listed : Side → List Listed → Call
   -- so many bytes of a segment were asked for
   was_read : Side → SegName → ℕ → Call
+  -- the tables were listed, with what was answered: nothing where it failed
+  tables_were_listed : List TableListed → Call
+  -- so many bytes of a table were asked for
+  table_was_read : ℕ → ℕ → Call
+  -- a table was to be put with these bytes, and whether that was answered Ok
+  table_was_put : ℕ → List ℕ → Bool → Call
+  -- a file was to be removed, and whether that was answered Ok
+  was_removed : Place → Bool → Call
   -- an operation was put in flight: which file it is on, and what it does to it
   was_started : OpId → Flight → Call
   -- it was asked how an operation stands, and gave this answer

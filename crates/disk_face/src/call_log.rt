@@ -1,12 +1,13 @@
 //! The calls that were made of a disk, for its view. Only proofs read them.
 
-ghost use Rattle.std.specs.Prelude.{◌≡◌, List, [], ◌∷◌};
+ghost use Rattle.std.specs.Prelude.{◌≡◌, List, [], ◌∷◌, is_ok};
 ghost use Rattle.std.specs.Borrow.{ftrue};
-ghost use Rattle.disk_face.specs.View.{Call, was_listed, was_read, was_started, was_polled};
+ghost use Rattle.disk_face.specs.View.{segment, table, Call, was_listed, was_read, was_started, was_polled};
+ghost use Rattle.disk_face.specs.View.{tables_were_listed, table_was_read, table_was_put, was_removed};
 ghost use Rattle.disk_face.specs.Asked.{answered};
 ghost use Rattle.disk_face.specs.Calls.{flight_of};
 
-use crate::{Disk, DiskErr, DiskOp, Names, OpId, Progress, SegName, Side};
+use crate::{Disk, DiskErr, DiskOp, Names, OpId, Progress, SegName, Side, TableNames};
 use std::fmt;
 use std::marker::Model;
 
@@ -50,6 +51,41 @@ impl CallLog {
         ensures { self.new.calls ≡ was_read side name len ∷ self.old.calls }
     {
         *self = self.made(&side, &(name, len));
+    }
+
+    /// The tables were listed, with this answer.
+    pub fn note_tables(&mut self, answer: &Result<TableNames, DiskErr>)
+        ensures { self.new.calls ≡ tables_were_listed (answered answer.now) ∷ self.old.calls }
+    {
+        *self = self.made(answer, &());
+    }
+
+    /// So many bytes of a table were asked for.
+    pub fn note_table_read(&mut self, upto: u64, len: usize)
+        ensures { self.new.calls ≡ table_was_read upto len ∷ self.old.calls }
+    {
+        *self = self.made(&upto, &len);
+    }
+
+    /// A table was to be put with these bytes, with this answer.
+    pub fn note_put(&mut self, upto: u64, bytes: &[u8], answer: &Result<(), DiskErr>)
+        ensures { self.new.calls ≡ table_was_put upto bytes.now (is_ok answer.now) ∷ self.old.calls }
+    {
+        *self = self.made(&(upto, bytes), answer);
+    }
+
+    /// A segment was to be removed, with this answer.
+    pub fn note_drop(&mut self, side: Side, name: SegName, answer: &Result<(), DiskErr>)
+        ensures { self.new.calls ≡ was_removed (segment side name) (is_ok answer.now) ∷ self.old.calls }
+    {
+        *self = self.made(&(side, name), answer);
+    }
+
+    /// A table was to be removed, with this answer.
+    pub fn note_table_drop(&mut self, upto: u64, answer: &Result<(), DiskErr>)
+        ensures { self.new.calls ≡ was_removed (table upto) (is_ok answer.now) ∷ self.old.calls }
+    {
+        *self = self.made(&upto, answer);
     }
 
     /// This operation was put in flight.

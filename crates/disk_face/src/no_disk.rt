@@ -2,9 +2,10 @@
 
 ghost use Rattle.std.specs.Prelude.{◌≡◌, false, [], IsErr, IsErrOf};
 ghost use Rattle.disk_face.specs.declared.Side.{Side};
-ghost use Rattle.disk_face.specs.View.{was_listed, was_polled, NothingInFlight};
+ghost use Rattle.disk_face.specs.View.{segment, table, was_listed, was_polled, tables_were_listed, NothingInFlight};
 ghost use Rattle.disk_face.specs.Calls.{GoesOn, StallsStay, Notes};
 ghost use Rattle.disk_face.specs.Answers.{AsksFor};
+ghost use Rattle.disk_face.specs.Tables.{AsksForTable, NotesPut, NotesRemoval};
 ghost use Rattle.disk_face.specs.Seen.{bare};
 
 use crate::{
@@ -108,40 +109,60 @@ impl StallDisk for NoDisk {
 impl TableDisk for NoDisk {
     fn tables(&mut self) -> Result<TableNames, DiskErr>
         ensures nothing { result ≡ Ok [] }
-        ensures unchanged { self.new ≡ self.old }
+        ensures goes_on { GoesOn (bare self.old) (bare self.new) }
+        ensures stalls { StallsStay (bare self.old) (bare self.new) }
+        ensures noted { Notes (tables_were_listed []) (bare self.old) (bare self.new) }
     {
-        Ok(TableNames::new(self.alloc))
+        let answer = Ok(TableNames::new(self.alloc));
+        self.log.note_tables(&answer);
+        answer
     }
 
-    fn read_table(&mut self, _upto: u64, _at: u64, buf: &mut [u8]) -> Result<usize, DiskErr>
+    fn read_table(&mut self, upto: u64, _at: u64, buf: &mut [u8]) -> Result<usize, DiskErr>
         ensures nothing { result ≡ Ok 0 }
         ensures buffer { buf.new ≡ buf.old }
-        ensures unchanged { self.new ≡ self.old }
+        ensures goes_on { GoesOn (bare self.old) (bare self.new) }
+        ensures stalls { StallsStay (bare self.old) (bare self.new) }
+        ensures noted { AsksForTable upto buf.old (bare self.old) (bare self.new) }
     {
+        self.log.note_table_read(upto, buf.len());
+        // There is no table to read.
         Ok(0)
     }
 
-    fn put_table(&mut self, _upto: u64, _bytes: &[u8]) -> Result<(), DiskErr>
+    fn put_table(&mut self, upto: u64, bytes: &[u8]) -> Result<(), DiskErr>
         ensures no_memory { IsErrOf result DiskErr.NoMemory }
-        ensures unchanged { self.new ≡ self.old }
+        ensures goes_on { GoesOn (bare self.old) (bare self.new) }
+        ensures stalls { StallsStay (bare self.old) (bare self.new) }
+        ensures noted { NotesPut upto bytes.now result (bare self.old) (bare self.new) }
     {
         // There is room for no table.
-        Err(DiskErr::NoMemory)
+        let answer = Err(DiskErr::NoMemory);
+        self.log.note_put(upto, bytes, &answer);
+        answer
     }
 
-    fn drop_segment(&mut self, _side: Side, _name: SegName) -> Result<(), DiskErr>
+    fn drop_segment(&mut self, side: Side, name: SegName) -> Result<(), DiskErr>
         ensures no_memory { IsErrOf result DiskErr.NoMemory }
-        ensures unchanged { self.new ≡ self.old }
+        ensures goes_on { GoesOn (bare self.old) (bare self.new) }
+        ensures stalls { StallsStay (bare self.old) (bare self.new) }
+        ensures noted { NotesRemoval (segment side name) result (bare self.old) (bare self.new) }
     {
         // There is no segment to remove.
-        Err(DiskErr::NoMemory)
+        let answer = Err(DiskErr::NoMemory);
+        self.log.note_drop(side, name, &answer);
+        answer
     }
 
-    fn drop_table(&mut self, _upto: u64) -> Result<(), DiskErr>
+    fn drop_table(&mut self, upto: u64) -> Result<(), DiskErr>
         ensures no_memory { IsErrOf result DiskErr.NoMemory }
-        ensures unchanged { self.new ≡ self.old }
+        ensures goes_on { GoesOn (bare self.old) (bare self.new) }
+        ensures stalls { StallsStay (bare self.old) (bare self.new) }
+        ensures noted { NotesRemoval (table upto) result (bare self.old) (bare self.new) }
     {
         // There is no table to remove.
-        Err(DiskErr::NoMemory)
+        let answer = Err(DiskErr::NoMemory);
+        self.log.note_table_drop(upto, &answer);
+        answer
     }
 }

@@ -4,9 +4,9 @@ ghost use Rattle.std.specs.Prelude.{◌≡◌, ◌≤◌, length, drop, IfOk};
 ghost use Rattle.disk_face.specs.declared.Side.TheVariants.{Primary};
 ghost use Rattle.disk_face.specs.View.{segment, table, IsFree};
 ghost use Rattle.disk_face.specs.Listing.{AreTablesAscending, AreTableNumbers, IsTableNumber};
-ghost use Rattle.disk_face.specs.Calls.{GoesOn, SameDisk};
-ghost use Rattle.disk_face.specs.Answers.{CountsFailure, ReadsFile, ReadsNoFile};
-ghost use Rattle.disk_face.specs.Tables.{ListsTables, Puts, Drops, DropsTable, StandsWhole, IsGone, IsThere};
+ghost use Rattle.disk_face.specs.Calls.{GoesOn, SameDisk, StallsStay};
+ghost use Rattle.disk_face.specs.Answers.{CountsFailure, CountsNoOther, ReadsFile, ReadsNoFile};
+ghost use Rattle.disk_face.specs.Tables.{NotesTables, AsksForTable, NotesPut, NotesRemoval, ListsTables, Puts, Drops, DropsTable, StandsWhole, IsGone, IsThere};
 
 use crate::{Disk, DiskErr, SegName, Side, TableNames};
 
@@ -19,6 +19,9 @@ pub trait TableDisk: Disk {
         ensures goes_on { GoesOn (Self.view self.old) (Self.view self.new) }
         ensures same { SameDisk (Self.view self.old) (Self.view self.new) }
         ensures failed { CountsFailure Primary result (Self.view self.old) (Self.view self.new) }
+        ensures steady { CountsNoOther Primary result (Self.view self.old) (Self.view self.new) }
+        ensures stalls { StallsStay (Self.view self.old) (Self.view self.new) }
+        ensures noted { NotesTables result (Self.view self.old) (Self.view self.new) }
         ensures ascending { IfOk result AreTablesAscending }
         ensures numbers { IfOk result AreTableNumbers }
         ensures tables { ListsTables Self.tells result (Self.view self.old) };
@@ -30,6 +33,9 @@ pub trait TableDisk: Disk {
         ensures goes_on { GoesOn (Self.view self.old) (Self.view self.new) }
         ensures same { SameDisk (Self.view self.old) (Self.view self.new) }
         ensures failed { CountsFailure Primary result (Self.view self.old) (Self.view self.new) }
+        ensures steady { CountsNoOther Primary result (Self.view self.old) (Self.view self.new) }
+        ensures stalls { StallsStay (Self.view self.old) (Self.view self.new) }
+        ensures noted { AsksForTable upto buf.old (Self.view self.old) (Self.view self.new) }
         ensures within { IfOk result (λ n. n ≤ length buf.new) }
         ensures beyond { IfOk result (λ n. drop n buf.new ≡ drop n buf.old) }
         ensures bytes { ReadsFile Self.tells (table upto) at buf.new result (Self.view self.old) }
@@ -42,6 +48,9 @@ pub trait TableDisk: Disk {
         ensures goes_on { GoesOn (Self.view self.old) (Self.view self.new) }
         ensures flights { (Self.view self.new).in_flight ≡ (Self.view self.old).in_flight }
         ensures failed { CountsFailure Primary result (Self.view self.old) (Self.view self.new) }
+        ensures steady { CountsNoOther Primary result (Self.view self.old) (Self.view self.new) }
+        ensures stalls { StallsStay (Self.view self.old) (Self.view self.new) }
+        ensures noted { NotesPut upto bytes.now result (Self.view self.old) (Self.view self.new) }
         ensures moments { Puts Self.tells upto bytes.now (Self.view self.old) (Self.view self.new) }
         ensures put { StandsWhole Self.tells (table upto) bytes.now result (Self.view self.new) };
 
@@ -53,6 +62,9 @@ pub trait TableDisk: Disk {
         ensures goes_on { GoesOn (Self.view self.old) (Self.view self.new) }
         ensures flights { (Self.view self.new).in_flight ≡ (Self.view self.old).in_flight }
         ensures failed { CountsFailure side result (Self.view self.old) (Self.view self.new) }
+        ensures steady { CountsNoOther side result (Self.view self.old) (Self.view self.new) }
+        ensures stalls { StallsStay (Self.view self.old) (Self.view self.new) }
+        ensures noted { NotesRemoval (segment side name) result (Self.view self.old) (Self.view self.new) }
         ensures moments { Drops Self.tells side name (Self.view self.old) (Self.view self.new) }
         ensures gone { IsGone Self.tells (segment side name) result (Self.view self.new) };
 
@@ -64,6 +76,9 @@ pub trait TableDisk: Disk {
         ensures goes_on { GoesOn (Self.view self.old) (Self.view self.new) }
         ensures flights { (Self.view self.new).in_flight ≡ (Self.view self.old).in_flight }
         ensures failed { CountsFailure Primary result (Self.view self.old) (Self.view self.new) }
+        ensures steady { CountsNoOther Primary result (Self.view self.old) (Self.view self.new) }
+        ensures stalls { StallsStay (Self.view self.old) (Self.view self.new) }
+        ensures noted { NotesRemoval (table upto) result (Self.view self.old) (Self.view self.new) }
         ensures moments { DropsTable Self.tells upto (Self.view self.old) (Self.view self.new) }
         ensures gone { IsGone Self.tells (table upto) result (Self.view self.new) };
 }

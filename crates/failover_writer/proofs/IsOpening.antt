@@ -14,10 +14,10 @@ use Rattle.block_record.specs.declared.records.Shown.{Shown}
 use Rattle.block_record.specs.ReadOut.{leaves_open, chunk_end, place_after, stopped_at, IsChain, block_front, IsChunkRow, ShowsCorrupt, TellsShown, ChunksStandIn}
 use Rattle.disk_face.specs.declared.Side.{Side}
 use Rattle.disk_face.specs.declared.SegName.{SegName}
-use Rattle.disk_face.specs.View.{Place, segment, File, Files, Dirs}
+use Rattle.disk_face.specs.View.{Place, segment, table, File, Files, Dirs}
 use Rattle.disk_face.specs.Listing.{IsSegmentName}
 use Rattle.disk_face.specs.Image.{IsImageOf, IsImage, IsChanceFree, IsRestedFile, IsRested, as_read, dirs_as_read, log_number}
-use Rattle.disk_face.proofs.Laws.{image_of_created}
+use Rattle.disk_face.proofs.Laws.{image_of_created, read_created}
 use Rattle.segment_merge.proofs.Laws.{none_within, within_head, within_tail, within_cases}
 use Rattle.wal_recovery.specs.declared.reports.Mode.TheVariants.{Strict}
 use Rattle.wal_recovery.specs.Listing.{Stored, Wal, name_in, place_in, AreByIndex, AreByNumber, IsOf, StandsIn, IsListingOf, IsNextWal}
@@ -132,14 +132,14 @@ by_number_filled dirs low (wal ∷ wals) by =
 -- ---- files at rest
 
 -- A file at rest reads as it was sent.
-pub reads_sent : (o : Option File) (f : File) → o ≡ Some f → IsRestedFile f → as_read o ≡ Some f.sent
-reads_sent o f is rests = ap as_read is ∙ rw rests.created (ap Some rests.reads)
+pub reads_sent : (p : Place) (o : Option File) (f : File) → o ≡ Some f → IsRestedFile f → as_read p o ≡ Some f.sent
+reads_sent p o f is rests = read_created p o f is rests.created ∙ ap Some rests.reads
 
 -- What reads is a file at rest that was sent so.
-read_of : (o : Option File) (bytes : List ℕ) → ((f : File) → o ≡ Some f → IsRestedFile f) → as_read o ≡ Some bytes → (f : File)
+read_of : (p : Place) (o : Option File) (bytes : List ℕ) → ((f : File) → o ≡ Some f → IsRestedFile f) → as_read p o ≡ Some bytes → (f : File)
     × (o ≡ Some f) × (f.sent ≡ bytes)
-read_of None bytes rested e = absurd cc
-read_of (Some f) bytes rested e = let whole : Some f.sent ≡ Some bytes = sym (reads_sent (Some f) f refl (rested f refl)) ∙ e in (f, refl, cc)
+read_of p None bytes rested e = absurd (let no : None ≡ Some bytes = e in cc)
+read_of p (Some f) bytes rested e = let whole : Some f.sent ≡ Some bytes = sym (reads_sent p (Some f) f refl (rested f refl)) ∙ e in (f, refl, cc)
 
 -- What an image has, has a file.
 has_file : (p : Place) (o : Option File) (content : List ℕ) → IsImageOf p o (Some content) → (f : File) × (o ≡ Some f)
@@ -169,7 +169,7 @@ module _ (now : Files) (rested : IsRested now) (stable : AreSegmentsStable now) 
   unfolding filled
   stands_filled number stored (named, read) =
       let p : Place = place_in number stored.side stored.index in
-      let f = read_of (now p) stored.content (rested p) read in
+      let f = read_of p (now p) stored.content (rested p) read in
       let has = content_of stored.side (name_in number stored.index) f.0 named f.1 in
       (named, has.1 ∙ ap Some (sym (ap (λ (o : Option (List ℕ)). unwrap_or o []) has.1)))
 
@@ -181,7 +181,7 @@ module _ (now : Files) (rested : IsRested now) (stable : AreSegmentsStable now) 
       let p : Place = place_in number stored.side stored.index in
       let f = has_file p (now p) stored.content (subst (λ (o : Option (List ℕ)). IsImageOf p (now p) o) stands (image p)) in (
         record { side = stored.side; index = stored.index; content = f.0.sent },
-        (named, reads_sent (now p) f.0 f.1 (rested p f.0 f.1)),
+        (named, reads_sent p (now p) f.0 f.1 (rested p f.0 f.1)),
         λ i. record { side = stored.side; index = stored.index; content = ap (λ (o : Option (List ℕ)). unwrap_or o []) stands i },
       )
 
@@ -216,7 +216,7 @@ module _ (now : Files) (rested : IsRested now) (stable : AreSegmentsStable now) 
   one_holds number stored batches (named, read) holds =
       let p : Place = place_in number stored.side stored.index in
       let log : ℕ = log_number number in
-      let f = read_of (now p) stored.content (rested p) read in
+      let f = read_of p (now p) stored.content (rested p) read in
       let has = content_of stored.side (name_in number stored.index) f.0 named f.1 in
       let sent : List ℕ = f.0.sent in
       subst (λ (o : Option (List ℕ)). HoldsBatches Strict log (unwrap_or o []) batches) (sym has.1)
@@ -273,15 +273,19 @@ pub rested_above : (wal : ℕ) (now : Files) → IsRested now → IsNextWal (dir
     → (side : Side) (name : SegName) (f : File) → IsSegmentName name → now (segment side name) ≡ Some f → name.wal < wal
 rested_above wal now rested next side name f named is =
     next.above name.wal (record { side = side; index = name.index; content = f.sent })
-    (named, reads_sent (now (segment side name)) f is (rested (segment side name) f is))
+    (named, reads_sent (segment side name) (now (segment side name)) f is (rested (segment side name) f is))
 
 -- A sync leaves what a read finds, and a file at rest.
-as_read_synced : (o n : Option File) → IsAsOrSynced o n → as_read n ≡ as_read o
-as_read_synced o n (inl e) = ap as_read e
-as_read_synced o n (inr (f, was, is)) = ap as_read is ∙ ap as_read (sym was)
+as_read_synced : (p : Place) (o n : Option File) → IsAsOrSynced o n → as_read p n ≡ as_read p o
+as_read_synced p o n (inl e) = ap (as_read p) e
+as_read_synced p o n (inr (f, was, is)) = ap (as_read p) is ∙ same p ∙ ap (as_read p) (sym was)
+  where
+    same : (q : Place) → as_read q (Some (record f { stable = f.done })) ≡ as_read q (Some f)
+    same (segment side name) = refl
+    same (table upto) = refl
 
 pub read_synced : (old now : Files) → OnlySynced old now → dirs_as_read now ≡ dirs_as_read old
-read_synced old now only = λ i p. as_read_synced (old p) (now p) (only p) i
+read_synced old now only = λ i p. as_read_synced p (old p) (now p) (only p) i
 
 rested_here : (o n : Option File) (g : File) → ((f : File) → o ≡ Some f → IsRestedFile f) → IsAsOrSynced o n → n ≡ Some g → IsRestedFile g
 rested_here o n g rested (inl e) is = rested g (sym e ∙ is)

@@ -30,8 +30,8 @@ use Rattle.failover_writer.proofs.Segments.{not_theirs}
 
 -- What a read finds of a file is one of its images, and each chunk that stands there was sent so.
 record ReadsAsImage (place : Place) (f : Option File) : Type 0 where
-  image : IsImageOf place f (as_read f)
-  was_sent : (g : File) (bytes : List ℕ) (at size : ℕ) → f ≡ Some g → as_read f ≡ Some bytes → IsChunkOf bytes at (log_of place) size
+  image : IsImageOf place f (as_read place f)
+  was_sent : (g : File) (bytes : List ℕ) (at size : ℕ) → f ≡ Some g → as_read place f ≡ Some bytes → IsChunkOf bytes at (log_of place) size
       → take size (drop at bytes) ≡ take size (drop at g.sent)
 
 -- What was sent to a file is an image of it.
@@ -42,7 +42,7 @@ sent_is_image (table upto) f = λ made. refl
 rested_reads : (place : Place) (f : Option File) → ((g : File) → f ≡ Some g → IsRestedFile g) → ReadsAsImage place f
 rested_reads place None rested = record { image = tt; was_sent = λ g bytes at size is read here. absurd cc }
 rested_reads place (Some f) rested =
-    let read_is : as_read (Some f) ≡ Some f.sent = reads_sent (Some f) f refl (rested f refl) in
+    let read_is : as_read place (Some f) ≡ Some f.sent = reads_sent place (Some f) f refl (rested f refl) in
     record {
       image = subst (λ (o : Option (List ℕ)). IsImageOf place (Some f) o) (sym read_is) (sent_is_image place f);
       was_sent = λ g bytes at size is read here.

@@ -20,11 +20,12 @@ use Rattle.mem_disk.proofs.Past.{now_held}
 
 -- files that stand whole read as the directories
 pub read_whole : (dirs : Dirs) (files : Files) → ((p : Place) → files p ≡ whole_files dirs p) → (p : Place) → dirs_as_read files p ≡ dirs p
-read_whole dirs files is p = ap as_read (is p) ∙ go (dirs p)
+read_whole dirs files is p = ap (as_read p) (is p) ∙ go p (dirs p)
   where
-    go : (o : Option (List ℕ)) → as_read (option_map whole o) ≡ o
-    go None = refl
-    go (Some bytes) = refl
+    go : (q : Place) (o : Option (List ℕ)) → as_read q (option_map whole o) ≡ o
+    go q None = refl
+    go (segment side name) (Some bytes) = refl
+    go (table upto) (Some bytes) = refl
 
 pub whole_again : (dirs : Dirs) (files : Files) → ((p : Place) → files p ≡ whole_files dirs p) → (p : Place) → files p ≡ whole_files (dirs_as_read files) p
 whole_again dirs files is p = is p ∙ ap (option_map whole) (sym (read_whole dirs files is p))

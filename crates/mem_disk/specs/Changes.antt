@@ -34,7 +34,7 @@ ExtendsAt side name bytes old new = ChangesAt (segment side name) (IsExtended by
 
 -- a read of the segment gives these bytes
 abbrev pub HeldReads : List MemFile → Side → SegName → List ℕ → Type 0
-HeldReads fs side name bytes = as_read (files_held fs (segment side name)) ≡ Some bytes
+HeldReads fs side name bytes = as_read (segment side name) (files_held fs (segment side name)) ≡ Some bytes
 
 -- these bytes were sent to the segment
 abbrev pub HeldSent : List MemFile → Side → SegName → List ℕ → Type 0

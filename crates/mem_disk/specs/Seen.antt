@@ -25,7 +25,7 @@ plan_of d = record { failing_ops = d.fail_ops.items; starts = length d.ops.items
 
 -- a read of the segment gives these bytes
 abbrev pub SegmentReads : DiskView → Side → SegName → List ℕ → Type 0
-SegmentReads v side name bytes = as_read (files v (segment side name)) ≡ Some bytes
+SegmentReads v side name bytes = as_read (segment side name) (files v (segment side name)) ≡ Some bytes
 
 -- these bytes were sent to the segment
 abbrev pub SegmentSent : DiskView → Side → SegName → List ℕ → Type 0

@@ -183,7 +183,7 @@ fn extend(files: &mut [MemFile], side: Side, name: SegName, bytes: &[u8]) -> Res
 /// What a read gives. `None` exactly where no file of that segment is created.
 pub fn content_of(files: &Vec<MemFile>, side: Side, name: SegName) -> Option<&[u8]>
     ensures some { IfSome result (λ bytes. HeldReads files.now.items side name bytes.now) }
-    ensures none { IfNone result (as_read (files_held files.now.items (segment side name)) ≡ None) }
+    ensures none { IfNone result (as_read (segment side name) (files_held files.now.items (segment side name)) ≡ None) }
 {
     let at = find(files, side, name)?;
     let found = &files[at];

@@ -127,7 +127,7 @@ impl MemDisk {
     /// What a read gives. `None` exactly where no file of that segment is created.
     pub fn content(&self, side: Side, name: SegName) -> Option<&[u8]>
         ensures some { IfSome result (λ bytes. SegmentReads (seen self.now) side name bytes.now) }
-        ensures none { IfNone result (as_read (files (seen self.now) (segment side name)) ≡ None) }
+        ensures none { IfNone result (as_read (segment side name) (files (seen self.now) (segment side name)) ≡ None) }
     {
         content_of(&self.files, side, name)
     }
