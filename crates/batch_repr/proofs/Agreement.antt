@@ -7,7 +7,7 @@ use Rattle.std.specs.Int.{w32, w64, to_le_bytes}
 use Rattle.std.proofs.lemmas.List.{append-nil, length-append, length-take, length-drop, drop_at, take-append-drop, drop-drop, get_or-take, get_or_past}
 use Rattle.std.proofs.lemmas.List.Elements.{All-from_recursion, recursion_from_All}
 use Rattle.std.proofs.lemmas.Nat.{le_bytes_4, le_bytes_8, from_le_bytes-to_le_bytes_4, from_le_bytes-to_le_bytes_8}
-use Rattle.std.specs.Prelude.{MatchResult, IfOk}
+use Rattle.std.specs.Prelude.{MatchResult, IfOk, OnOk}
 use Rattle.wal_base.specs.declared.entry.Entry.{Entry}
 use Rattle.wal_base.specs.declared.entry.Entry.TheVariants.{Set, Delete, Note, RangeDelete}
 use Rattle.batch_repr.specs.declared.batch.Batch.{Batch}
@@ -217,7 +217,7 @@ one_fault bytes _ _ (past_numbers xs h _ _) (past_numbers ys k _ _) = refl
 
 -- ---- what the call answers
 
-pub is_found : (bytes : List ℕ) (r : Result Batch BatchFault) → IsBytes bytes
+pub is_found : (bytes : List ℕ) (r : Result Batch BatchFault) → OnOk r (IsBytes bytes)
     → MatchResult r (ReadsAs bytes) (MemoryOr (IsFirstFault bytes)) → IfOk r (SpellsBatch bytes)
 is_found bytes (Ok batch) fits h = reads_spell bytes batch fits h
 is_found bytes (Err fault) fits h = tt

@@ -16,3 +16,4 @@ mod EndsWith
 mod Agreement
 mod Pinned
 mod Contiguous
+mod Blocks

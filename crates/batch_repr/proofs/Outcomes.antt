@@ -1,5 +1,6 @@
 -- How an outcome stands in the clauses of a call.
-use Rattle.std.proofs.Common.{◌≡◌, ◌≢◌, ℕ, ◌+◌, ◌<◌, List, [], sym, ◌∙◌, arith}
+use Rattle.std.proofs.Common.{◌≡◌, ◌≢◌, ℕ, ◌+◌, ◌-◌, ◌<◌, List, [], ◌++◌, length, take, drop, sym, ap, ◌∙◌, arith}
+use Rattle.std.proofs.lemmas.List.{drop_at, take_rest}
 use Rattle.wal_base.specs.declared.entry.Entry.{Entry}
 use Rattle.batch_repr.specs.declared.limits.TheConstants.{NUMBER_MAX}
 use Rattle.batch_repr.specs.Batches.{count_of}
@@ -29,3 +30,9 @@ pub is_past : (bytes : List ℕ) (entries : List Entry) (first said found : ℕ)
     → IsFirstFault bytes (faults.SeqRange first)
 is_past bytes entries first said found splits f p q e past =
     rw f (past_numbers entries splits (sym p ∙ e ∙ q) (omega (arith, f, q, past)))
+
+-- what was added to a list is what stands behind the old one
+pub behind_is : (old read new all : List Entry) (from : ℕ) → new ≡ old ++ read → all ≡ new → from ≡ length old
+    → take (length all - from) (drop from all) ≡ read
+behind_is old read new all from added same begins =
+    take_rest all from ∙ ap (drop from) (same ∙ added) ∙ drop_at old read from (sym begins)

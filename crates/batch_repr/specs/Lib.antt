@@ -6,3 +6,4 @@ pub mod Building
 pub mod Draft
 pub mod Reading
 pub mod Returned
+pub mod Blocks

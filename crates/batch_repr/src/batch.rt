@@ -4,31 +4,24 @@ ghost use Rattle.std.specs.Prelude.{◌≡◌, ◌≢◌, ◌≤◌, ◌<◌, �
 ghost use Rattle.batch_repr.specs.declared.limits.TheConstants.{NUMBER_MAX};
 ghost use Rattle.batch_repr.specs.Batches.{count_of, end_of};
 
-use std::alloc::Global;
-use wal_base::{Entries, Entry, ListOf, NoMemory};
+use crate::shared_entries::SharedEntries;
+use wal_base::{Entry, ListOf, NoMemory};
 
 /// A first number, and the entries that take numbers from there on.
 #[derive(Debug, Drop)]
 pub struct Batch {
     pub first: u64,
-    pub entries: Entries,
+    pub entries: SharedEntries,
 }
 
 impl Batch {
-    /// The same batch, whose bytes are shared and not copied.
-    pub fn share(&self, alloc: Global) -> Result<Batch, NoMemory>
+    /// The same batch, whose entries are shared and not copied.
+    pub fn share(&self) -> Result<Batch, NoMemory>
         ensures { IfOk result (λ batch. batch ≡ self.now) }
     {
-        let mut entries = Entries::with_capacity(alloc, self.entries.len())?;
-        for entry in self.entries.as_slice() {
-            let same = entry.share()?;
-            if entries.push(same).is_err() {
-                return Err(NoMemory);
-            }
-        }
         Ok(Batch {
             first: self.first,
-            entries,
+            entries: self.entries.share()?,
         })
     }
 

@@ -1,6 +1,6 @@
 //! Reading a batch back from its bytes, from left to right.
 
-ghost use Rattle.std.specs.Prelude.{◌≡◌, ◌<◌, ◌≤◌, ◌^◌, [], length, IfOk, IfErr, MatchResult};
+ghost use Rattle.std.specs.Prelude.{◌≡◌, ◌+◌, ◌<◌, ◌≤◌, ◌^◌, [], length, IfOk, IfErr, OnOk, IfSome, IfNone, MatchResult};
 ghost use Rattle.batch_repr.specs.declared.batch.Batch.{Batch};
 ghost use Rattle.batch_repr.specs.declared.fault.BatchFault.{BatchFault};
 ghost use Rattle.batch_repr.specs.declared.limits.TheConstants.{BATCH_MAX, NUMBER_MAX};
@@ -8,14 +8,17 @@ ghost use Rattle.batch_repr.specs.Batches.{end_of};
 ghost use Rattle.batch_repr.specs.Spelling.{SpellsBatch};
 ghost use Rattle.batch_repr.specs.Written.{written};
 ghost use Rattle.batch_repr.specs.Building.{FitsBatch};
-ghost use Rattle.batch_repr.specs.Reading.{number_at, string_at, entry_at, IsBytes, EndsWith, Splits, HasEntryFault, IsFirstFault, ReadsAs};
+ghost use Rattle.batch_repr.specs.Reading.{number_at, string_at, entry_at, IsBytes, EndsWith, HasEntryFault, IsFirstFault, ReadsAs, first_said, count_said};
+ghost use Rattle.batch_repr.specs.Blocks.{AddsEntries, AddsBatch};
 ghost use Rattle.batch_repr.specs.Returned.{Gives, GivesOrMemory, MemoryOr, OkOrMemory, ErrOrMemory};
 
 use crate::batch::{Batch, count};
 use crate::fault::{BatchFault, VarintFault};
 use crate::limits::{BATCH_MAX, HEADER, KEY_MAX, NUMBER_MAX, VALUE_MAX};
+use crate::shared_entries::SharedEntries;
 use std::alloc::Global;
-use wal_base::{Blob, Entries, Entry};
+use std::cmp;
+use wal_base::{Blob, Entry};
 
 /// The number at the front, in any spelling, and the bytes after it.
 fn number_of(bytes: &[u8]) -> Result<(u32, &[u8]), VarintFault>
@@ -127,52 +130,82 @@ fn entry_of<'a>(text: &Blob, bytes: &'a [u8]) -> Result<(Entry, &'a [u8]), Batch
     }
 }
 
-/// The entries after the header, to the end.
-fn entries_of(alloc: Global, text: &Blob) -> Result<Entries, BatchFault>
+/// Adds the entries after the header, to the end. After an `Err` more of them may stand after the old ones.
+fn read_entries(entries: &mut Vec<Entry>, text: &Blob) -> Result<(), BatchFault>
     requires size { length text.now ≤ BATCH_MAX }
     requires header { 12 ≤ length text.now }
-    ensures found { IfOk result (λ entries. Splits text.now entries []) }
-    ensures short { IfOk result (λ entries. length entries < 2 ^ 32) }
+    ensures found { OnOk result (AddsEntries text.now entries.old.items entries.new.items []) }
+    ensures short { OnOk result (length entries.new.items < length entries.old.items + 2 ^ 32) }
     ensures fault { IfErr result (MemoryOr (HasEntryFault text.now)) }
 {
-    let mut entries = Entries::with_capacity(alloc, 1)?;
     let mut rest = &text.as_slice()[HEADER..];
     while !rest.is_empty() {
         let (entry, after) = entry_of(text, rest)?;
-        if entries.push(entry).is_err() {
-            return Err(BatchFault::NoMemory);
-        }
+        entries.push(entry)?;
         rest = after;
     }
-    Ok(entries)
+    Ok(())
 }
 
-/// What reading the bytes meets: a batch, or the first fault. All ways out of reading end in one contract here,
-/// from which those of [`decode`] follow.
-fn outcome(alloc: Global, text: &Blob) -> Result<Batch, BatchFault>
-    ensures met { MatchResult result (ReadsAs text.now) (MemoryOr (IsFirstFault text.now)) }
+/// What the header says: the first number, and how many entries take one. `None` exactly where the bytes are too few for
+/// a header.
+fn header_of(bytes: &[u8]) -> Option<(u64, u32)>
+    ensures some { IfSome result (λ said. 12 ≤ length bytes.now) }
+    ensures first { IfSome result (λ said. said.0 ≡ first_said bytes.now) }
+    ensures count { IfSome result (λ said. said.1 ≡ count_said bytes.now) }
+    ensures none { IfNone result (length bytes.now < 12) }
+{
+    let (head, rest) = bytes.split_first_chunk::<8>()?;
+    let (said, _) = rest.split_first_chunk::<4>()?;
+    let first = u64::from_le_bytes(*head);
+    let said = u32::from_le_bytes(*said);
+    Some((first, said))
+}
+
+/// For how many entries a batch wants room, as far as its header says so: no more than there can be, since an entry has at
+/// least two bytes.
+pub(crate) fn room_of(text: &[u8]) -> usize {
+    match header_of(text) {
+        Some((_, said)) => cmp::min(said as usize, text.len() / 2),
+        None => 0,
+    }
+}
+
+/// Adds the entries of the batch that the bytes read as, and answers its first number; else the first fault. All ways out
+/// of reading end in one contract here, from which those of [`decode`] follow. After an `Err` more entries may stand after
+/// the old ones.
+pub(crate) fn read_batch(entries: &mut Vec<Entry>, text: &Blob) -> Result<u64, BatchFault>
+    ensures found { IfOk result (AddsBatch text.now entries.old.items entries.new.items) }
+    ensures fault { IfErr result (MemoryOr (IsFirstFault text.now)) }
     ensures bytes { IsBytes text.now }
 {
     let bytes = text.as_slice();
     if bytes.len() > BATCH_MAX {
         return Err(BatchFault::TooLong { at: 0 });
     }
-    let Some((head, rest)) = bytes.split_first_chunk::<8>() else {
+    let Some((first, said)) = header_of(bytes) else {
         return Err(BatchFault::ShortHeader);
     };
-    let Some((said, _)) = rest.split_first_chunk::<4>() else {
-        return Err(BatchFault::ShortHeader);
-    };
-    let first = u64::from_le_bytes(*head);
-    let said = u32::from_le_bytes(*said);
-    let entries = entries_of(alloc, text)?;
-    let found = count(entries.as_slice());
+    let from = entries.len();
+    read_entries(entries, text)?;
+    let found = count(&entries[from..]);
     if said != found {
         return Err(BatchFault::Count { said, found });
     }
     if first > NUMBER_MAX - u64::from(found) {
         return Err(BatchFault::SeqRange { first });
     }
+    Ok(first)
+}
+
+/// What reading the bytes meets: a batch, or the first fault.
+fn outcome(alloc: Global, text: &Blob) -> Result<Batch, BatchFault>
+    ensures met { MatchResult result (ReadsAs text.now) (MemoryOr (IsFirstFault text.now)) }
+    ensures bytes { OnOk result (IsBytes text.now) }
+{
+    let mut entries = Vec::with_capacity(alloc, room_of(text.as_slice()))?;
+    let first = read_batch(&mut entries, text)?;
+    let entries = SharedEntries::of(alloc, entries)?;
     Ok(Batch { first, entries })
 }
 

@@ -1,4 +1,4 @@
-use std::alloc::AllocError;
+use std::alloc::{AllocError, AllocFailed};
 use thiserror::Error;
 use wal_base::NoMemory;
 
@@ -88,6 +88,28 @@ impl From<NoMemory> for BatchFault {
     ghost from_gives = { λ _ e. e ≡ faults.NoMemory };
 
     fn from(_: NoMemory) -> BatchFault {
+        BatchFault::NoMemory
+    }
+}
+
+impl From<AllocError> for BatchFault {
+    ghost use Rattle.std.specs.Prelude.{◌≡◌};
+    ghost use Rattle.batch_repr.specs.declared.fault.BatchFault.TheVariants as faults;
+
+    ghost from_gives = { λ _ e. e ≡ faults.NoMemory };
+
+    fn from(_: AllocError) -> BatchFault {
+        BatchFault::NoMemory
+    }
+}
+
+impl<T: Drop> From<AllocFailed<T>> for BatchFault {
+    ghost use Rattle.std.specs.Prelude.{◌≡◌};
+    ghost use Rattle.batch_repr.specs.declared.fault.BatchFault.TheVariants as faults;
+
+    ghost from_gives = { λ _ e. e ≡ faults.NoMemory };
+
+    fn from(_: AllocFailed<T>) -> BatchFault {
         BatchFault::NoMemory
     }
 }

@@ -16,6 +16,8 @@ mod decoding;
 mod fault;
 mod limits;
 mod numbered;
+mod reader;
+mod shared_entries;
 mod theorems;
 mod unnumbered;
 mod unwritten;
@@ -29,6 +31,8 @@ pub use limits::{
     BATCH_MAX, BATCHES_MAX, KEY_MAX, NUMBER_FIRST, NUMBER_MAX, SESSIONS_MAX, VALUE_MAX,
 };
 pub use numbered::Numbered;
+pub use reader::BatchReader;
+pub use shared_entries::SharedEntries;
 pub use theorems::{bytes_have_one_reading, fits_exactly_where_not_refused, shortest_is_written};
 pub use unnumbered::{Unnumbered, UnnumberedBytes};
 pub use unwritten::Unwritten;

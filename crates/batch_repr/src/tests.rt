@@ -1,5 +1,6 @@
 use crate::{
-    Batch, BatchBuilder, BatchFault, BuildFault, Unnumbered, Unwritten, decode, decode_shared,
+    Batch, BatchBuilder, BatchFault, BatchReader, BuildFault, SharedEntries, Unnumbered, Unwritten,
+    decode, decode_shared,
 };
 use std::alloc::Global;
 use std::process::Abort;
@@ -260,7 +261,7 @@ fn a_batch_outlives_the_text_that_it_shares(rt: HostRuntime) {
     let text = Blob::of_vec(rt.alloc(), bytes).expect(&rt, "memory");
     let read = decode_shared(rt.alloc(), &text).expect(&rt, "a batch");
     drop(text);
-    let same = read.share(rt.alloc()).expect(&rt, "memory");
+    let same = read.share().expect(&rt, "memory");
     drop(read);
     assert_eq!(rt; (same.first, same.entries.len()), (10, 3));
     let [
@@ -275,6 +276,58 @@ fn a_batch_outlives_the_text_that_it_shares(rt: HostRuntime) {
     assert_eq!(rt; key.as_slice(), b"a".as_slice());
     assert_eq!(rt; value.as_slice(), b"b".as_slice());
     assert!(rt; back.as_slice().is_empty());
+}
+
+/// Reads a batch with this first number and of these entries more.
+fn read_on(
+    rt: &impl Abort,
+    alloc: Global,
+    so_far: BatchReader,
+    first: u64,
+    entries: &[u8],
+) -> Result<BatchReader, BatchFault> {
+    let bytes = text(rt, alloc, first, 1, entries);
+    let text = Blob::of_vec(alloc, bytes).expect(rt, "memory");
+    so_far.add(&text)
+}
+
+#[test]
+fn batches_are_read_one_after_another(rt: HostRuntime) {
+    let alloc = rt.alloc();
+    let mut so_far = BatchReader::with_capacity(alloc, 3).expect(&rt, "memory");
+    for first in 10..2010u64 {
+        let entries = b"\x01\x01a\x011\x03\x00".as_slice();
+        so_far = read_on(&rt, alloc, so_far, first, entries).expect(&rt, "a batch");
+    }
+    so_far = read_on(&rt, alloc, so_far, 2010, b"\x00\x01b").expect(&rt, "a batch");
+    let batches = so_far.finish().expect(&rt, "memory");
+    assert_eq!(rt; batches.len(), 2001);
+    for batch in batches.as_slice().iter().take(2000) {
+        assert_eq!(rt; (batch.entries.len(), batch.count()), (2, 1));
+    }
+    let last = batches.get(2000).expect(&rt, "a batch");
+    assert_eq!(rt; last.first, 2010);
+    let entries = last.entries.to_entries(alloc).expect(&rt, "memory");
+    assert_eq!(rt;
+        format!(in alloc;
+            "{:?}",
+            SharedEntries::of(alloc, entries.into_vec()).expect(&rt, "memory")
+        )
+        .expect(&rt, "memory")
+        .as_str(),
+        "SharedEntries([Delete { key: Blob([98]) }])"
+    );
+}
+
+#[test]
+fn a_reader_of_batches_ends_at_the_first_that_is_none(rt: HostRuntime) {
+    let alloc = rt.alloc();
+    let empty = BatchReader::with_capacity(alloc, 0).expect(&rt, "memory");
+    let one = read_on(&rt, alloc, empty, 10, b"\x00\x01a").expect(&rt, "a batch");
+    let Err(fault) = read_on(&rt, alloc, one, 11, b"\x03\x00") else {
+        panic!(rt; "no fault");
+    };
+    assert_eq!(rt; fault, BatchFault::Count { said: 1, found: 0 });
 }
 
 #[test]

@@ -136,7 +136,8 @@ fn apply(alloc: Global, shards: &mut Vec<Shard>, batch: Batch) -> Result<(), NoM
     requires reached { HaveReached batch.first shards.old.items }
     ensures { OnOk result (GainBatch batch shards.old.items shards.new.items) }
 {
-    let mut pieces = split(alloc, batch.entries)?;
+    let entries = batch.entries.to_entries(alloc)?;
+    let mut pieces = split(alloc, entries)?;
     pieces.number(batch.first);
     while let Some((shard, piece)) = pieces.take() {
         shards[shard].apply(piece);

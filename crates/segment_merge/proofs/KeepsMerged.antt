@@ -4,7 +4,7 @@ use Rattle.std.proofs.Common.{◌≡◌, ◌≢◌, inl, inr, ◌⊎◌, ℕ, �
 use Rattle.std.proofs.lemmas.List.{take_more, drop_more, take-append-drop, map-append}
 use Rattle.std.specs.Prelude.{IfErr}
 use Rattle.batch_repr.specs.declared.batch.Batch.{Batch}
-use Rattle.batch_repr.specs.Batches.{end_of, end_after}
+use Rattle.batch_repr.specs.Batches.{end_of, end_after, IsContiguous}
 use Rattle.segment_merge.specs.declared.segment.SegmentRead.{SegmentRead}
 use Rattle.segment_merge.specs.declared.fault.MergeFault.{MergeFault}
 use Rattle.segment_merge.specs.declared.fault.MergeFault.TheVariants as faults
@@ -12,10 +12,10 @@ use Rattle.segment_merge.specs.Rows.{IsNumbered, batches_in}
 use Rattle.segment_merge.specs.Merging.{Merged, all_of, greatest_end}
 use Rattle.segment_merge.specs.Refusals.{expected_after, IsFirstWrong, IsGap, IsConflict, IsRowRefused}
 use Rattle.segment_merge.specs.Returned.{MergedOrMemory, RefusedOrMemory, MemoryOrRefusal}
-use Rattle.segment_merge.specs.Keeping.{Kept}
+use Rattle.segment_merge.specs.Keeping.{Kept, IsWholeFrom}
 use Rattle.segment_merge.specs.Steps.{Follows, IsAppended, IsSkipped, IsDenied, Steps, KeepsMerged}
 use Rattle.segment_merge.proofs.Unique.{one_merged}
-use Rattle.segment_merge.proofs.Pass.{MayFollow, appended, skipped, none_out_of_order, none_denied, at_most_next, next_segment, nothing_merged, next_is as next_number}
+use Rattle.segment_merge.proofs.Pass.{MayFollow, taken, appended, skipped, none_out_of_order, none_denied, at_most_next, next_segment, nothing_merged, next_is as next_number}
 use Rattle.segment_merge.proofs.IsFirstWrong.{merged_or_wrong}
 use Rattle.segment_merge.proofs.OneRefusal.{one_gap, one_conflict, gap_or_conflict}
 
@@ -172,6 +172,21 @@ pub up_to_all : (first : ℕ) (before : List SegmentRead) (segment : SegmentRead
     → IsUpTo first (batches_in before) segment.batches kept expected is_first → KeepsMerged first (batches_in (before ++ segment ∷ [])) kept
 up_to_all first before segment kept expected is_first up =
     subst (λ s. KeepsMerged first s kept) (sym (map-append (λ (s : SegmentRead). s.batches) before (segment ∷ []))) up.merged
+
+-- where nothing is kept yet, a segment that is contiguous is kept as it is
+pub taken_over : (first : ℕ) (before : List SegmentRead) (segment : SegmentRead) (kept : Kept) (end : ℕ)
+    → KeepsMerged first (batches_in before) kept → kept.batches ≡ [] → IsWholeFrom kept.next segment.batches end
+    → KeepsMerged first (batches_in (before ++ segment ∷ [])) (record { batches = segment.batches; next = end })
+unfolding end_after
+taken_over first before segment kept end k none whole =
+    let begins : kept.next ≡ first = k.next_is ∙ ap (end_after first) none in
+    subst (λ s. KeepsMerged first s (record { batches = segment.batches; next = end }))
+    (sym (map-append (λ (s : SegmentRead). s.batches) before (segment ∷ [])))
+    (record {
+      merged = taken first (batches_in before) segment.batches (subst (λ m. Merged first (batches_in before) m) none k.merged)
+          (subst (λ n. IsContiguous n segment.batches) begins whole.contiguous);
+      next_is = whole.end_is ∙ ap (λ n. end_after n segment.batches) begins;
+    })
 
 -- ---- the loop through the row
 

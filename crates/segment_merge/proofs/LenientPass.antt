@@ -13,7 +13,7 @@ use Rattle.segment_merge.specs.Rows.{IsNumbered, batches_in}
 use Rattle.segment_merge.specs.Merging.{all_of, AscendByNumber}
 use Rattle.segment_merge.specs.Lenient.{IsPast, IsNewOrKept, IsAccepted, IsRowLenientlyRefused}
 use Rattle.segment_merge.specs.Returned.{MemoryOrRefusal}
-use Rattle.segment_merge.specs.Keeping.{Kept}
+use Rattle.segment_merge.specs.Keeping.{Kept, IsAscendingFrom}
 use Rattle.segment_merge.specs.Steps.{IsAppendedAfter, IsSkipped, LenientSteps, KeepsLenient}
 use Rattle.wal_base.proofs.Laws.{none_within, within_head, within_tail, within_cases}
 use Rattle.segment_merge.proofs.Ascending.{ascending_push}
@@ -196,3 +196,25 @@ keeps_all before segment kept k =
 
 pub begun : (before : List SegmentRead) (kept : Kept) → KeepsLenient (all_of (batches_in before)) kept → KeepsLenient (all_of (batches_in before) ++ []) kept
 begun before kept k = subst (λ xs. KeepsLenient xs kept) (sym (append-nil (all_of (batches_in before)))) k
+
+-- where nothing is kept yet, a segment in which each batch begins after those before it is kept as it is
+none_in : (all : List Batch) → ((batch : Batch) → Contains all batch → ⊥) → all ≡ []
+none_in [] none = refl
+none_in (batch ∷ all) none = absurd (none batch (within_head batch all))
+
+pub taken_over : (before : List SegmentRead) (segment : SegmentRead) (kept : Kept) (end : ℕ)
+    → KeepsLenient (all_of (batches_in before)) kept → kept.batches ≡ [] → IsAscendingFrom kept.next segment.batches end
+    → KeepsLenient (all_of (batches_in (before ++ segment ∷ []))) (record { batches = segment.batches; next = end })
+unfolding end_after
+taken_over before segment kept end k none up =
+    let begins : kept.next ≡ 0 = k.next_is ∙ ap (end_after 0) none in
+    let before_none : all_of (batches_in before) ≡ [] = none_in (all_of (batches_in before))
+    (λ b h. none_within b (subst (λ xs. Contains xs b) none ((k.same b).1 h))) in
+    let ascending : AscendByNumber 0 segment.batches = subst (λ n. AscendByNumber n segment.batches) begins up.ascending in
+    keeps_all before segment (record { batches = segment.batches; next = end })
+    (subst (λ xs. KeepsLenient (xs ++ segment.batches) (record { batches = segment.batches; next = end })) (sym before_none) (record {
+      ascending = ascending;
+      same = λ batch. (λ h. h, λ h. h);
+      accepted = ascending_accepted segment.batches ascending;
+      next_is = up.end_is ∙ ap (λ n. end_after n segment.batches) begins;
+    }))

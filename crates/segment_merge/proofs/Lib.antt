@@ -14,3 +14,4 @@ mod OneLenient
 mod LenientPass
 mod LenientRefusals
 mod LenientRows
+mod Whole

@@ -1,7 +1,8 @@
 //! The batches that a merge has kept so far.
 
-ghost use Rattle.std.specs.Prelude.{◌≡◌, ◌≤◌, ◌∷◌, ◌++◌, [], MatchBool, OnOk};
-ghost use Rattle.batch_repr.specs.Batches.{end_of};
+ghost use Rattle.std.specs.Prelude.{◌≡◌, ◌↔◌, ◌≤◌, ◌∷◌, ◌++◌, [], IsTrue, MatchBool, OnOk};
+ghost use Rattle.batch_repr.specs.Batches.{end_of, end_after};
+ghost use Rattle.segment_merge.specs.Merging.{AscendByNumber};
 ghost use Rattle.segment_merge.specs.Rows.{IsNumbered};
 ghost use Rattle.segment_merge.specs.Promises.{HasKept};
 
@@ -74,6 +75,24 @@ impl Kept {
             }
             Err(_) => Err(NoMemory),
         }
+    }
+
+    /// Whether no batch is kept yet.
+    pub(crate) fn is_empty(&self) -> bool
+        ensures { IsTrue result ↔ (self.now.batches ≡ []) }
+    {
+        self.batches.is_empty()
+    }
+
+    /// Keeps all batches of a list where none is kept yet, as the list that they are. It takes no memory.
+    pub(crate) fn take_over(&mut self, batches: Batches, next: u64)
+        requires none { self.old.batches ≡ [] }
+        requires ascending { AscendByNumber self.old.next batches }
+        requires next { next ≡ end_after self.old.next batches }
+        ensures { self.new ≡ record { batches = batches; next = next } }
+    {
+        self.batches = batches;
+        self.next = next;
     }
 
     /// Gives the batches up.

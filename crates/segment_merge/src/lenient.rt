@@ -1,10 +1,11 @@
 //! Merging that accepts gaps, in one pass over the batches of a row.
 
-ghost use Rattle.std.specs.Prelude.{◌≡◌, [], All, IfErr, IfOk};
+ghost use Rattle.std.specs.Prelude.{◌≡◌, [], All, IfErr, IfOk, IfSome};
 ghost use Rattle.segment_merge.specs.Rows.{IsNumbered, IsNumberedSegment, IsRow, batches_in};
 ghost use Rattle.segment_merge.specs.Lenient.{MergedLenient, IsRowLenientlyRefused};
 ghost use Rattle.segment_merge.specs.Returned.{MemoryOrRefusal, IsNoGap};
 ghost use Rattle.segment_merge.specs.Steps.{LenientSteps};
+ghost use Rattle.segment_merge.specs.Keeping.{IsAscendingFrom};
 ghost use Rattle.segment_merge.specs.Promises.{MergesSegmentLeniently, MergesRowLeniently};
 ghost use Rattle.segment_merge.specs.Promises.{AddsRow, FindsMergedWithRow};
 ghost use Rattle.segment_merge.specs.Promises.{RefusesWithRow, RefusesConflictWithRow};
@@ -34,8 +35,8 @@ fn step(kept: &mut Kept, index: u32, batch: Batch) -> Result<(), MergeFault>
     Ok(())
 }
 
-/// Merges one more segment into what was kept of those before it.
-fn merge_segment(kept: &mut Kept, segment: SegmentRead) -> Result<(), MergeFault>
+/// Merges one more segment into what was kept of those before it, batch by batch.
+fn merge_batches(kept: &mut Kept, segment: SegmentRead) -> Result<(), MergeFault>
     requires { IsNumberedSegment segment }
     ensures { MergesSegmentLeniently segment kept.old kept.new result }
 {
@@ -44,6 +45,47 @@ fn merge_segment(kept: &mut Kept, segment: SegmentRead) -> Result<(), MergeFault
         step(kept, index, batch)?;
     }
     Ok(())
+}
+
+/// The number after the batches, where each begins at or above this one and the ends of those before it.
+fn ascending_end(from: u64, batches: &[Batch]) -> Option<u64>
+    requires { All IsNumbered batches.now }
+    ensures { IfSome result (IsAscendingFrom from batches.now) }
+{
+    let mut next = from;
+    for batch in batches {
+        if batch.first < next {
+            return None;
+        }
+        next = batch.end();
+    }
+    Some(next)
+}
+
+/// The number after the batches of a segment, where nothing is kept yet and none of them repeats another.
+fn whole_end(kept: &Kept, batches: &[Batch]) -> Option<u64>
+    requires { All IsNumbered batches.now }
+    ensures none { IfSome result (λ _. kept.now.batches ≡ []) }
+    ensures end { IfSome result (IsAscendingFrom kept.now.next batches.now) }
+{
+    if !kept.is_empty() {
+        return None;
+    }
+    ascending_end(kept.next(), batches)
+}
+
+/// Merges one more segment into what was kept of those before it.
+fn merge_segment(kept: &mut Kept, segment: SegmentRead) -> Result<(), MergeFault>
+    requires { IsNumberedSegment segment }
+    ensures { MergesSegmentLeniently segment kept.old kept.new result }
+{
+    match whole_end(kept, segment.batches.as_slice()) {
+        Some(end) => {
+            kept.take_over(segment.batches, end);
+            Ok(())
+        }
+        None => merge_batches(kept, segment),
+    }
 }
 
 /// Merges more segments into what was kept of those before them.

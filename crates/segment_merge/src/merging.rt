@@ -1,11 +1,12 @@
 //! Merging without gaps, in one pass over the batches of a row.
 
-ghost use Rattle.std.specs.Prelude.{IfErr, IfOk};
+ghost use Rattle.std.specs.Prelude.{◌≡◌, [], All, IfErr, IfOk, IfSome};
 ghost use Rattle.segment_merge.specs.Rows.{IsNumbered, IsNumberedSegment, IsRow, batches_in};
 ghost use Rattle.segment_merge.specs.Merging.{Merged};
 ghost use Rattle.segment_merge.specs.Refusals.{IsRowRefused};
 ghost use Rattle.segment_merge.specs.Returned.{MemoryOrRefusal};
 ghost use Rattle.segment_merge.specs.Steps.{Steps};
+ghost use Rattle.segment_merge.specs.Keeping.{IsWholeFrom};
 ghost use Rattle.segment_merge.specs.Promises.{MergesSegment, FindsMerged, RefusesGap, RefusesConflict};
 
 use crate::fault::MergeFault;
@@ -47,8 +48,8 @@ fn step(
     Ok(())
 }
 
-/// Merges one more segment. What was kept so far is the merged list of those before it.
-fn merge_segment(kept: &mut Kept, segment: SegmentRead) -> Result<(), MergeFault>
+/// Merges one more segment, batch by batch.
+fn merge_batches(kept: &mut Kept, segment: SegmentRead) -> Result<(), MergeFault>
     requires { IsNumberedSegment segment }
     ensures { MergesSegment segment kept.old kept.new result }
 {
@@ -62,6 +63,47 @@ fn merge_segment(kept: &mut Kept, segment: SegmentRead) -> Result<(), MergeFault
         is_first = false;
     }
     Ok(())
+}
+
+/// The number after the batches, where they are contiguous from this one on.
+fn contiguous_end(from: u64, batches: &[Batch]) -> Option<u64>
+    requires { All IsNumbered batches.now }
+    ensures { IfSome result (IsWholeFrom from batches.now) }
+{
+    let mut next = from;
+    for batch in batches {
+        if batch.first != next {
+            return None;
+        }
+        next = batch.end();
+    }
+    Some(next)
+}
+
+/// The number after the batches of a segment, where nothing is kept yet and the merged list is the segment's own.
+fn whole_end(kept: &Kept, batches: &[Batch]) -> Option<u64>
+    requires { All IsNumbered batches.now }
+    ensures none { IfSome result (λ _. kept.now.batches ≡ []) }
+    ensures end { IfSome result (IsWholeFrom kept.now.next batches.now) }
+{
+    if !kept.is_empty() {
+        return None;
+    }
+    contiguous_end(kept.next(), batches)
+}
+
+/// Merges one more segment. What was kept so far is the merged list of those before it.
+fn merge_segment(kept: &mut Kept, segment: SegmentRead) -> Result<(), MergeFault>
+    requires { IsNumberedSegment segment }
+    ensures { MergesSegment segment kept.old kept.new result }
+{
+    match whole_end(kept, segment.batches.as_slice()) {
+        Some(end) => {
+            kept.take_over(segment.batches, end);
+            Ok(())
+        }
+        None => merge_batches(kept, segment),
+    }
 }
 
 /// The merged list of a row of segments: contiguous from `first`, with exactly the batches of all of them. Batches are

@@ -2,7 +2,7 @@ ghost use Rattle.std.specs.Prelude.{All, IsTrue};
 ghost use Rattle.segment_merge.specs.Rows.{IsNumbered, IsRow};
 
 use crate::{LenientMerge, MergeFault, SegmentRead, Segments, merge, merge_lenient};
-use batch_repr::{Batch, Batches, NUMBER_MAX};
+use batch_repr::{Batch, Batches, NUMBER_MAX, SharedEntries};
 use std::alloc::Global;
 use std::process::Abort;
 use wal_base::{Blob, Entries, Entry};
@@ -17,6 +17,7 @@ fn batch(rt: &impl Abort, alloc: Global, first: u64, value: u8) -> Batch {
     let value = blob(rt, alloc, [value].as_slice());
     let mut entries = Entries::new(alloc);
     assert!(rt; entries.push(Entry::Set { key, value }).is_ok());
+    let entries = SharedEntries::of(alloc, entries.into_vec()).expect(rt, "memory");
     Batch { first, entries }
 }
 

@@ -11,7 +11,8 @@ use Rattle.wal_recovery.specs.declared.wals.FoundWal.{FoundWal}
 use Rattle.wal_recovery.specs.Listing.{Stored, name_in, place_in, StandsIn}
 use Rattle.wal_recovery.specs.Rows.{place_listed, IsRowOf, BeginsElsewhere, IsGroup, Groups, bytes_at, bytes_or_none, stored_in}
 use Rattle.wal_recovery.proofs.Tools.{some_is}
-use Rattle.wal_recovery.proofs.IsListing.{read_open, read_close}
+use Rattle.disk_face.proofs.Laws.{read_created}
+use Rattle.wal_recovery.proofs.IsListing.{read_open}
 
 -- one WAL more
 pub groups_more : (wals : List FoundWal) (row mid later : List Found) (wal : FoundWal) → Groups wals row mid → IsGroup wal mid later
@@ -67,7 +68,7 @@ module _ (files : Files) where
       let has = there.1 in
       let here : StandsIn (dirs_as_read files) f.name.wal (stored_in files f) = (
         there.0,
-        let reads : as_read (files (place_listed f)) ≡ Some has.0.reads = read_close (files (place_listed f)) has.0 has.1 has.2
+        let reads = read_created (place_listed f) (files (place_listed f)) has.0 has.1 has.2
             in reads ∙ ap Some (sym (ap bytes_or_none reads)),
       ) in
       subst (λ (n : ℕ). StandsIn (dirs_as_read files) n stored) wal (subst (λ (s : Stored). StandsIn (dirs_as_read files) f.name.wal s) e here)
@@ -76,7 +77,7 @@ module _ (files : Files) where
       → IsStoredFound row number stored
   stands_found row number stored is (good, reads) =
       let place = place_in number stored.side stored.index in
-      let file = read_open (files place) stored.content reads in
+      let file = read_open stored.side (name_in number stored.index) (files place) stored.content reads in
       let f : Found = record { side = stored.side; name = name_in number stored.index; len = length file.0.reads } in
       let content : bytes_at files place ≡ stored.content = ap bytes_or_none reads in
       (f, (is f).1 (good, (file.0, file.1, file.2, refl)), refl, (λ i. record { side = stored.side; index = stored.index; content = content i }))

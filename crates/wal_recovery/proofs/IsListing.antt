@@ -9,6 +9,7 @@ use Rattle.disk_face.specs.declared.Listed.{Listed}
 use Rattle.disk_face.specs.View.{segment, File, Files}
 use Rattle.disk_face.specs.Image.{as_read, dirs_as_read}
 use Rattle.disk_face.specs.Listing.{IsBefore, IsAscending, IsSegmentName, AreSegmentNames, IsListing}
+use Rattle.disk_face.proofs.Laws.{read_created}
 use Rattle.segment_merge.proofs.Laws.{none_within}
 use Rattle.wal_recovery.specs.declared.listing.Found.{Found}
 use Rattle.wal_recovery.specs.Listing.{IsTwice, IsDuplicate, name_in}
@@ -18,18 +19,15 @@ use Rattle.wal_recovery.specs.Answers.{DiskMemoryOr}
 use Rattle.wal_recovery.specs.Rows.{item_of, IsRowOf, Weaves, Meets, RefusesTwice, MeetsOrMemory}
 use Rattle.wal_recovery.proofs.Weaves.{on, found_on, row_from, row_to, left_from, left_ascends, row_ascends, one_name, first_before}
 
--- a file that reads is created
-pub read_open : (o : Option File) (bytes : List ℕ) → as_read o ≡ Some bytes → (f : File) × (o ≡ Some f) × (f.created ≡ true) × (f.reads ≡ bytes)
-read_open None bytes e = absurd (let no : None ≡ Some bytes = e in cc)
-read_open (Some f) bytes e = go f.created refl
+-- a segment that reads is created
+pub read_open : (side : Side) (name : SegName) (o : Option File) (bytes : List ℕ) → as_read (segment side name) o ≡ Some bytes
+    → (f : File) × (o ≡ Some f) × (f.created ≡ true) × (f.reads ≡ bytes)
+read_open side name None bytes e = absurd (let no : None ≡ Some bytes = e in cc)
+read_open side name (Some f) bytes e = go f.created refl
   where
     go : (b : Bool) → f.created ≡ b → (g : File) × (Some f ≡ Some g) × (g.created ≡ true) × (g.reads ≡ bytes)
     go true is = let k : Some f.reads ≡ Some bytes = rw is at e in (f, refl, is, cc)
     go false is = let k : None ≡ Some bytes = rw is at e in cc
-
--- a created file reads
-pub read_close : (o : Option File) (f : File) → o ≡ Some f → f.created ≡ true → as_read o ≡ Some f.reads
-read_close o f is created = ap as_read is ∙ rw created refl
 
 -- both sides' listings
 abbrev pub AreListed : Files → List Listed → List Listed → Type 0
@@ -59,13 +57,13 @@ module _ (files : Files) (ones others : List Listed) (up : IsAscending ones) (do
   item_reads side item at =
       let there = (listed side item).0 at in
       let has = there.1 in
-      (there.0, has.0.reads, read_close (files (segment side item.name)) has.0 has.1 has.2)
+      (there.0, has.0.reads, read_created (segment side item.name) (files (segment side item.name)) has.0 has.1 has.2)
 
   -- what reads is an item of its side
   reads_item : (side : Side) (name : SegName) (bytes : List ℕ) → IsSegmentName name → dirs_as_read files (segment side name) ≡ Some bytes
       → (item : Listed) × (item.name ≡ name) × Contains (on side ones others) item
   reads_item side name bytes good is =
-      let f = read_open (files (segment side name)) bytes is in
+      let f = read_open side name (files (segment side name)) bytes is in
       let item : Listed = record { name = name; len = length f.0.reads } in
       (item, refl, (listed side item).1 (good, (f.0, f.1, f.2, refl)))
 

@@ -99,7 +99,7 @@ bytes_or_none (Some bytes) = bytes
 
 -- the bytes that a read of a place gives
 abbrev pub bytes_at : Files → Place → List ℕ
-bytes_at files place = bytes_or_none (as_read (files place))
+bytes_at files place = bytes_or_none (as_read place (files place))
 
 -- a listed segment with its bytes
 abbrev pub stored_in : Files → Found → Stored

@@ -12,7 +12,8 @@ pub loop-shard-init : goal.loop-shard-init
 loop-shard-init c batches are =
     let batch = c.args.batch in
     let numbered : record (whole_pieces batch.entries) { first = Some batch.first } ≡ c.number.new.self =
-    ap (λ (p : PiecesLeft). record p { first = Some batch.first }) (sym c.in_ok-pieces.ensures) ∙ sym c.number.ensures in
+    ap (λ (p : PiecesLeft). record p { first = Some batch.first }) (sym (c.in_ok-pieces.ensures ∙ ap whole_pieces c.in_ok-entries.ensures))
+    ∙ sym c.number.ensures in
     subst (AreShardsAmid c.args.shards.now.items batches batch) numbered (pieces_begin c.args.shards.now.items batches batch are)
 
 pub take-requires : goal.take-requires

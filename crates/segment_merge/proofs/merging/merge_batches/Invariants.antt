@@ -3,7 +3,7 @@ use Rattle.segment_merge.specs.declared.segment.SegmentRead.{SegmentRead}
 use Rattle.segment_merge.specs.Rows.{batches_in}
 use Rattle.segment_merge.specs.Steps.{KeepsMerged}
 use Rattle.segment_merge.proofs.KeepsMerged.{IsUpTo}
-use Rattle.segment_merge.proofs.merging.merge_segment.Given as goal
+use Rattle.segment_merge.proofs.merging.merge_batches.Given as goal
 
 abbrev pub invariant-loop-batch : goal.invariant-loop-batch
 invariant-loop-batch l = (first : ℕ) (before : List SegmentRead) → KeepsMerged first (batches_in before) l.fn.kept
