@@ -14,7 +14,8 @@ use Rattle.session_script.specs.declared.script.Line.{Line}
 use Rattle.session_script.specs.declared.script.Script.{Script}
 use Rattle.session_script.specs.declared.script.Saying.{Saying}
 use Rattle.session_script.specs.declared.script.Saying.TheVariants as sayings
-use Rattle.session_script.specs.Words.{lines_of, words_of, parts_of, SpellEntries}
+use Rattle.line_words.specs.Words.{lines_of, words_of}
+use Rattle.session_script.specs.Words.{parts_of, SpellEntries}
 use Rattle.session_script.specs.Lines.{AsksToAct, LineSays}
 use Rattle.session_script.specs.Script.{LinesSay, ends_round, round_of, rounds_of, halt_if, IsScript, numbers_taken, round_numbers, script_numbers}
 
@@ -139,10 +140,6 @@ room_of cut (b ∷ bytes) = by_test (cut b) (omega (arith, length-slice_split cu
 script_room : (bytes : List ℕ) → sum_by line_room (lines_of bytes) ≡ length bytes + 1
 unfolding lines_of
 script_room bytes = room_of (λ b. b == 10) bytes
-
-pub few_lines : (bytes : List ℕ) → length (lines_of bytes) ≤ length bytes + 1
-unfolding lines_of
-few_lines bytes = omega (arith, length-slice_split (λ b. b == 10) bytes, count_by-le-length (λ b. b == 10) bytes)
 
 pub few_numbers : (bytes : List ℕ) (script : Script) → IsScript bytes script → script_numbers script ≤ length bytes + 1
 unfolding rounds_of

@@ -1,7 +1,6 @@
 pub mod Laws
 mod Comparing
 mod Counting
-mod Cuts
 mod Drafting
 mod EntriesSoFar
 mod EveryNth
@@ -16,7 +15,6 @@ mod LoadRounds
 mod LoadTexts
 mod LinesSoFar
 mod Naming
-mod Numerals
 mod OneAnswer
 mod OneReplies
 mod OneScript
@@ -26,4 +24,3 @@ mod Refused
 mod ScriptExamples
 mod SessionSums
 mod Taking
-mod WordTests

@@ -16,7 +16,8 @@ use Rattle.session_script.specs.declared.script.Act.TheVariants.{Commit, Get}
 use Rattle.session_script.specs.declared.script.Script.{Script}
 use Rattle.session_script.specs.declared.script.Saying.{Saying}
 use Rattle.session_script.specs.declared.script.Saying.TheVariants as sayings
-use Rattle.session_script.specs.Words.{words_of, parts_of, SpellsOneEntry, SpellEntries}
+use Rattle.line_words.specs.Words.{words_of}
+use Rattle.session_script.specs.Words.{parts_of, SpellsOneEntry, SpellEntries}
 use Rattle.session_script.specs.Lines.{sync_word, side_letter, AsksToAct, WordsSay, SaysNothing, LineSays}
 use Rattle.session_script.specs.Script.{LinesSay, rounds_of, sessions_of, halt_if, AreScript}
 

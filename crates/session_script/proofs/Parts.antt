@@ -9,7 +9,8 @@ use Rattle.std.proofs.lemmas.List.Splits.{slice_split_at, slice_split_none, slic
 use Rattle.std.proofs.lemmas.Slice.Eq.{bytes_eq-Decides}
 use Rattle.wal_base.specs.declared.entry.Entry.{Entry}
 use Rattle.wal_base.specs.declared.entry.Entry.TheVariants.{Set, Delete, Note, RangeDelete}
-use Rattle.session_script.specs.Words.{parts_of, IsWord, SpellsOneEntry, SpellEntries}
+use Rattle.line_words.specs.Words.{IsWord}
+use Rattle.session_script.specs.Words.{parts_of, SpellsOneEntry, SpellEntries}
 use Rattle.session_script.proofs.OneScript.{spells_one}
 
 abbrev pub is_semicolon : List ℕ → Bool

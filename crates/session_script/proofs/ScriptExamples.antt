@@ -17,12 +17,12 @@ use Rattle.session_script.specs.declared.script.StallLine.{StallLine}
 use Rattle.session_script.specs.declared.script.Script.{Script}
 use Rattle.session_script.specs.declared.script.Saying.{Saying}
 use Rattle.session_script.specs.declared.script.Saying.TheVariants as sayings
-use Rattle.session_script.specs.Words.{lines_of, words_of, parts_of, SpellEntries, IsWord}
+use Rattle.line_words.specs.Words.{lines_of, words_of, IsWord}
+use Rattle.session_script.specs.Words.{parts_of, SpellEntries}
 use Rattle.session_script.specs.Lines.{AsksToAct, WordsSay, SaysNothing, LineSays, IsNoLine}
 use Rattle.session_script.specs.Script.{rounds_of, sessions_of, IsScript}
-use Rattle.session_script.proofs.Numerals.{some_is}
 use Rattle.session_script.proofs.OneScript.{spell_one}
-use Rattle.session_script.proofs.WordTests.{all_of, is_word}
+use Rattle.line_words.proofs.Laws.{all_of, is_word}
 
 -- ---- a transfer
 
@@ -199,7 +199,7 @@ module _ (line : List ℕ) (words : List (List ℕ)) (words_are : words_of line 
     (no_act : (session : ℕ) (act : Act) → session < SESSIONS_MAX → AsksToAct words session act → ⊥) where
   says_something : SaysNothing line → ⊥
   says_something (inl e) = let no : None ≡ Some first = ap (λ (l : List ℕ). slice_get l 0) (sym e) ∙ begins in absurd cc
-  says_something (inr e) = other (some_is (sym begins ∙ e))
+  says_something (inr e) = (let same = sym begins ∙ e in other cc)
 
   says_none : (saying : Saying) → WordsSay words saying → ⊥
   says_none (sayings.Does l) says = no_act l.session l.act says.0 says.1

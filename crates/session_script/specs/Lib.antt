@@ -1,5 +1,4 @@
 pub mod Words
-pub mod Cutting
 pub mod Spelled
 pub mod Lines
 pub mod Next

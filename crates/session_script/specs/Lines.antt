@@ -12,7 +12,8 @@ use Rattle.session_script.specs.declared.script.Act.{Act}
 use Rattle.session_script.specs.declared.script.Act.TheVariants.{Commit, Get}
 use Rattle.session_script.specs.declared.script.Saying.{Saying}
 use Rattle.session_script.specs.declared.script.Saying.TheVariants as sayings
-use Rattle.session_script.specs.Words.{words_of, parts_of, IsWord, SpellEntries}
+use Rattle.line_words.specs.Words.{words_of, IsWord}
+use Rattle.session_script.specs.Words.{parts_of, SpellEntries}
 
 -- `sync`, or `nosync`
 abbrev pub sync_word : Bool → List ℕ

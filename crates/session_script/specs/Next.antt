@@ -4,22 +4,9 @@ use Rattle.std.specs.Fmt.{decimal}
 use Rattle.wal_base.specs.declared.entry.Entry.{Entry}
 use Rattle.batch_repr.specs.declared.limits.TheConstants.{KEY_MAX, SESSIONS_MAX}
 use Rattle.disk_face.specs.declared.Side.{Side}
-use Rattle.session_script.specs.Words.{IsWord, SpellsOneEntry}
+use Rattle.line_words.specs.Words.{IsWord}
+use Rattle.session_script.specs.Words.{SpellsOneEntry}
 use Rattle.session_script.specs.Lines.{sync_word, side_letter}
-
--- The next word is this one.
-abbrev pub TakesWord : List (List ℕ) → List ℕ → List (List ℕ) → Type 0
-TakesWord old word new = (old ≡ word ∷ new) × IsWord word
-
-abbrev pub HasNoWord : List (List ℕ) → Type 0
-HasNoWord old = (word : List ℕ) (new : List (List ℕ)) → old ≡ word ∷ new → IsWord word → ⊥
-
--- The next word spells this number, which is within these limits.
-abbrev pub TakesNumber : ℕ → ℕ → List (List ℕ) → ℕ → List (List ℕ) → Type 0
-TakesNumber least most old number new = (old ≡ decimal number ∷ new) × (least ≤ number) × (number ≤ most)
-
-abbrev pub HasNoNumber : ℕ → ℕ → List (List ℕ) → Type 0
-HasNoNumber least most old = (number : ℕ) (new : List (List ℕ)) → old ≡ decimal number ∷ new → least ≤ number → number ≤ most → ⊥
 
 -- The next word spells the number of this session.
 abbrev pub TakesSession : List (List ℕ) → ℕ → List (List ℕ) → Type 0

@@ -12,7 +12,7 @@ use Rattle.session_script.specs.declared.script.Round.{Round}
 use Rattle.session_script.specs.declared.script.Script.{Script}
 use Rattle.session_script.specs.declared.script.Saying.{Saying}
 use Rattle.session_script.specs.declared.script.Saying.TheVariants as sayings
-use Rattle.session_script.specs.Words.{lines_of}
+use Rattle.line_words.specs.Words.{lines_of}
 use Rattle.session_script.specs.Lines.{LineSays}
 
 -- These are what the lines say, in order.

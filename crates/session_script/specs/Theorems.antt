@@ -2,7 +2,7 @@
 -- and "The generated load").
 use Rattle.std.specs.Prelude.{◌≡◌, ◌⊎◌, ℕ, ◌+◌, ◌/◌, ◌<◌, ◌≤◌, List, [], ◌++◌, length, Bool, true, false, map}
 use Rattle.session_script.specs.declared.script.Script.{Script}
-use Rattle.session_script.specs.Words.{lines_of}
+use Rattle.line_words.specs.Words.{lines_of}
 use Rattle.session_script.specs.Script.{IsScript, IsFirstBad, NamesItsSessions, NameSessions, script_numbers, rounds_numbers, rounds_commits}
 use Rattle.std.specs.List.{AllByRecursion, list_any}
 use Rattle.batch_repr.specs.declared.batch.Batch.{Batch}

@@ -7,9 +7,9 @@ ghost use Rattle.session_script.specs.Next.{TakesEntry, HasNoEntry};
 ghost use Rattle.session_script.specs.Spelled.{AsksForBatch, AsksForNoBatch, SpellNoEntries};
 
 use crate::fault::LineFault;
-use crate::pieces::Pieces;
 use crate::words::next_word;
 use batch_repr::Unwritten;
+use line_words::Pieces;
 use std::alloc::Global;
 use wal_base::{Entries, Entry};
 

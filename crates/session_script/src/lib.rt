@@ -1,12 +1,12 @@
 //! The script that a replay runs: rounds of what sessions do, and the polls that are stalled; and the replies to its lines.
 //!
-//! Stands on `batch_repr` for the batches, on `disk_face` for the two sides, on `text_lines` for how bytes are printed, and
-//! on `wal_base` for bytes and lists. The layer above uses three contracts: `read_script` answers which script the bytes
+//! Stands on `line_words` for how lines and words are cut, on `batch_repr` for the batches, on `disk_face` for the two sides,
+//! on `text_lines` for how bytes are printed, and on `wal_base` for bytes and lists. The layer above uses three contracts: `read_script` answers which script the bytes
 //! are, or the number of the first line that is bad; `put_reply` adds exactly the line of a reply; and the definition of
 //! which replies are legal, `AreLegal`, says what a run may answer to a script, whichever session goes first.
 //!
-//! A script is read in one pass, line by line, and each word once: `pieces` cuts the lines and their words, `words` reads
-//! names and numbers, `entries` the entries of a batch, `sayings` what one line says, and `reading` joins what the
+//! A script is read in one pass, line by line, and each word once: `words` takes names and numbers off the pieces of a
+//! line, `entries` the entries of a batch, `sayings` what one line says, and `reading` joins what the
 //! lines say into rounds. The bytes are copied once, and a key, a value or a note is a part of the copy.
 //! `replies` has the replies and the last line of a run.
 //!
@@ -22,7 +22,6 @@ mod fault;
 mod load;
 mod load_end;
 mod load_lines;
-mod pieces;
 mod reading;
 mod replies;
 mod sayings;

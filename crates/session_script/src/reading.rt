@@ -4,14 +4,14 @@ ghost use Rattle.std.specs.Prelude.{◌≡◌, ◌<◌, ◌≤◌, ◌+◌, [], 
 ghost use Rattle.batch_repr.specs.declared.limits.TheConstants.{SESSIONS_MAX};
 ghost use Rattle.session_script.specs.declared.script.Saying.TheVariants as sayings;
 ghost use Rattle.session_script.specs.declared.fault.ScriptFault.TheVariants as faults;
-ghost use Rattle.session_script.specs.Words.{lines_of};
+ghost use Rattle.line_words.specs.Words.{lines_of};
 ghost use Rattle.session_script.specs.Script.{IsScript, IsFirstBad, NamesItsSessions, script_numbers, sessions_named};
 ghost use Rattle.session_script.specs.Drafts.{empty_draft, with_saying, script_of, TakesLine, RefusesLine};
 
 use crate::fault::{LineFault, ScriptFault};
-use crate::pieces::Pieces;
 use crate::sayings::said_by;
 use crate::script::{Line, Lines, Round, Rounds, Saying, Script, StallLine, Stalls};
+use line_words::Pieces;
 use std::alloc::Global;
 use std::mem;
 use wal_base::{Blob, NoMemory};

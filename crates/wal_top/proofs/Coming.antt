@@ -8,7 +8,7 @@ use Rattle.disk_face.specs.View.{Place, segment, DiskView, File, Files, files}
 use Rattle.disk_face.specs.Image.{IsSound, IsRested, as_read, dirs_as_read, directories}
 use Rattle.disk_face.specs.Calls.{GoesOn, WentOn}
 use Rattle.disk_face.specs.Asked.{creations}
-use Rattle.disk_face.proofs.Laws.{goes_went, rose_later, went_further, creations_further}
+use Rattle.disk_face.proofs.Laws.{goes_went, read_created, rose_later, went_further, creations_further}
 use Rattle.log_writer.specs.Fits.{IsUnsent}
 use Rattle.failover_writer.specs.Ranges.{side_at, AreUnsent}
 use Rattle.failover_writer.specs.Answered.{FaultsRose, RoseBy}
@@ -25,13 +25,9 @@ use Rattle.script_runner.specs.declared.run.Outcome.{Outcome}
 use Rattle.script_runner.specs.declared.work.Work.{Work}
 use Rattle.script_runner.specs.Works.{work_rounds}
 use Rattle.script_runner.specs.Runs.{PollsNeverRise, StallsSome, HasCauses, EndsRunAs, RunsWork}
-use Rattle.wal_top.specs.Outcomes.{RunsOverDisk}
+use Rattle.wal_top.specs.Work.{RunsOverDisk}
 
 -- ---- nothing was sent to a segment of the next WAL
-
--- a file that is created is read
-read_created : (f : File) → f.created ≡ true → as_read (Some f) ≡ Some f.reads
-read_created f is = rw is refl
 
 unsent : (wal index : ℕ) (side : Side) (now : Files) → ((p : Place) (f : File) → now p ≡ Some f → IsSound p f)
     → IsNextWal (dirs_as_read now) wal → wal ≤ WAL_MAX → index ≤ 999 → IsUnsent (now (segment side (name_in wal index)))
@@ -44,7 +40,7 @@ unsent wal index side now sound next within low = go (now place) refl
     not_created f is false e = e
     not_created f is true e =
         let stored : Stored = record { side = side; index = index; content = f.reads } in
-        let stands = next.above wal stored ((within, low), ap as_read is ∙ read_created f e) in
+        let stands = next.above wal stored ((within, low), read_created place (now place) f is e) in
         absurd (omega (arith, stands))
 
     same_some : {a b : File} → Some a ≡ Some b → a ≡ b
@@ -151,7 +147,7 @@ module _ (old mid new : DiskView) (wal : ℕ) (tells : Bool) (only : IsTrue tell
       }
 
       -- work that is done over what was recovered is done over the disk as it was
-      pub runs_since : RunsOverDisk work threshold tells old new ran
+      pub runs_since : RunsOverDisk work threshold tells (record { before = old; after = new }) ran
       runs_since = record {
         base = base';
         recovers = recovers;

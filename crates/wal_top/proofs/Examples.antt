@@ -6,11 +6,12 @@ use Rattle.wal_base.specs.declared.entry.Entry.TheVariants.{Set}
 use Rattle.disk_face.specs.declared.Side.TheVariants.{Primary}
 use Rattle.wal_recovery.specs.declared.reports.SegReport.{SegReport}
 use Rattle.script_runner.specs.declared.run.Outcome.{Outcome}
-use Rattle.command_line.specs.declared.command.Command.TheVariants.{Replay, Load}
 use Rattle.wal_top.specs.declared.status.Status.TheVariants.{Disk}
 use Rattle.session_script.specs.Replies.{end_line}
-use Rattle.wal_top.specs.Printing.{segments_text, bad_line_text, run_text}
-use Rattle.wal_top.specs.Replay.{status_after}
+use Rattle.wal_top.specs.Replay.{bad_line_text, replay_text}
+use Rattle.wal_top.specs.Load.{load_text}
+use Rattle.wal_top.specs.Dump.{segments_text}
+use Rattle.wal_top.specs.Work.{status_after}
 
 -- a commit found no number left, and the journal died after it
 abbrev limited_and_dead : Outcome
@@ -20,12 +21,12 @@ limited_and_dead = record {
 }
 
 -- a replay prints its replies, and a load only how it ended
-a_replay_is_told : run_text (Replay 3) limited_and_dead
+a_replay_is_told : replay_text limited_and_dead
     ≡ codes "s0 commit limit\nend visible 72057594037927935 batches 1 acked 0 segments 10 dead\n"
 unfolding end_line digits
 a_replay_is_told = refl
 
-a_load_is_told : run_text (Load 7 1) limited_and_dead ≡ codes "load dead\n"
+a_load_is_told : load_text 7 1 limited_and_dead ≡ codes "load dead\n"
 a_load_is_told = refl
 
 -- the death is told, and not the limit

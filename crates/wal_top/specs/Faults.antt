@@ -4,7 +4,7 @@ use Rattle.wal_recovery.specs.declared.fault.RecoverFault.{RecoverFault}
 use Rattle.wal_recovery.specs.declared.fault.RecoverFault.TheVariants as faults
 use Rattle.wal_top.specs.declared.status.Status.{Status}
 use Rattle.wal_top.specs.declared.status.Status.TheVariants.{Disk, Refused}
-use Rattle.wal_top.specs.Printing.{disk_fault_text, refusal_text}
+use Rattle.wal_top.specs.Recovery.{disk_fault_text, refusal_text}
 
 -- A fault of a side is told by the side, and a refusal by its line. Out of memory is not told so.
 abbrev pub SaysFault : RecoverFault → Status → List ℕ → Type 0

@@ -5,16 +5,15 @@
 //! and on `wal_base` for bytes and streams. The program above uses one contract, that of `run`: which text is written, with
 //! which status, and which journal is left, by the words, the source and the disk.
 //!
-//! A run goes through the rooms in this order, and writes no text before the last: of a replay `reading` (the script's
-//! bytes) and `replaying` (which script they are); of a replay and a load `working` (what it comes to over what the
-//! directories recover to); of the other commands `showing` (the store, or the segments); `said` (which text and status);
-//! `writing` (the text, built whole by then).
+//! A run goes through the rooms in this order, and writes no text before the last: `commands` (which command the words are),
+//! and the room of that command, `replay`, `load`, `recover` or `dump`; of a replay `reading` (the script's bytes); of a replay
+//! and a load `working` (what it comes to over what the directories recover to); `said` (which text and status); `writing`
+//! (the text, built whole by then). A room of a command names no other.
 #![tactic(auto)]
 
+mod commands;
 mod reading;
-mod replaying;
 mod said;
-mod showing;
 mod status;
 mod top;
 mod working;

@@ -1,7 +1,7 @@
 //! What a run has to say, and what it says where the directories do not recover.
 
 ghost use Rattle.std.specs.Prelude.{◌≡◌, IfOk};
-ghost use Rattle.wal_top.specs.Printing.{disk_fault_text};
+ghost use Rattle.wal_top.specs.Recovery.{disk_fault_text};
 ghost use Rattle.wal_top.specs.Faults.{SaysFault};
 
 use crate::status::Status;

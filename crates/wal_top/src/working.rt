@@ -1,34 +1,29 @@
-//! The work of a command, done over what the directories recover to.
+//! The work of a command that writes a journal, done over what the directories recover to.
 
-ghost use Rattle.disk_face.specs.Image.{directories};
-ghost use Rattle.std.specs.Prelude.{◌≡◌, ◌≤◌, IfOk, IsOkAnd, IsTrue};
-ghost use Rattle.disk_face.specs.View.{files, NothingInFlight};
-ghost use Rattle.stall_monitor.specs.declared.verdict.TheConstants.{THRESHOLD_MAX};
-ghost use Rattle.wal_recovery.specs.Listing.{IsNextWal};
-ghost use Rattle.failover_writer.specs.Running.{OthersOnlySynced};
+ghost use Rattle.std.specs.Prelude.{◌≡◌, ◌≤◌, IfOk, IsOkAnd};
+ghost use Rattle.disk_face.specs.View.{NothingInFlight};
 ghost use Rattle.disk_face.specs.Calls.{WentOn};
+ghost use Rattle.stall_monitor.specs.declared.verdict.TheConstants.{THRESHOLD_MAX};
 ghost use Rattle.script_runner.specs.Works.{work_rounds, NamesItsOwn};
 ghost use Rattle.script_runner.specs.Runs.{StallNone, PollsNeverRise};
 ghost use Rattle.wal_top.specs.Call.{change_in};
-ghost use Rattle.wal_top.specs.Printing.{load_end_of, load_text, run_text};
-ghost use Rattle.wal_top.specs.Replay.{status_after, TellsRun};
-ghost use Rattle.wal_top.specs.Parts.{SaysOfWork};
+ghost use Rattle.wal_top.specs.Work.{status_after, ChangesNextWal};
+ghost use Rattle.wal_top.specs.declared.working.Worked.TheVariants as comes;
+ghost use Rattle.wal_top.specs.Worked.{WorkComesTo};
 
-use crate::said::{Answered, Said, saying, unrecovered};
+use crate::said::{Said, saying, unrecovered};
 use crate::status::Status;
-use command_line::Command;
 use commit_pipeline::Gate;
 use disk_face::{Disk, WAL_MAX};
 use script_runner::{Outcome, Run, Work, run_work};
-use session_script::{LoadEnd, load_number, put_load_end, put_run_end};
 use std::alloc::Global;
 use std::sync::Wait;
 use std::thread::Threads;
-use wal_base::{Buf, NoMemory};
+use wal_base::NoMemory;
 use wal_recovery::{Mode, recover};
 
 /// The status of a run whose work was done.
-fn status_of(outcome: &Outcome) -> Status
+pub(crate) fn status_of(outcome: &Outcome) -> Status
     ensures { result ≡ status_after outcome.now }
 {
     if outcome.end.died {
@@ -40,91 +35,57 @@ fn status_of(outcome: &Outcome) -> Status
     }
 }
 
-/// What is printed at the end of a load.
-fn load_end(seed: u64, batches: u32, outcome: &Outcome) -> LoadEnd
-    ensures { result ≡ load_end_of seed batches outcome.now }
-{
-    LoadEnd {
-        batches: outcome.end.batches,
-        visible: outcome.end.visible,
-        live: outcome.told.live,
-        acked: outcome.end.acked,
-        segments: outcome.end.segments,
-        last: load_number(seed, batches.saturating_sub(1)),
-    }
+/// What work comes to: it was done, or it is not begun, and this is said.
+#[derive(Drop)]
+pub(crate) enum Worked {
+    Done(Outcome),
+    Unbegun(Said),
 }
 
-/// The text of a load.
-fn load_text(alloc: Global, end: &LoadEnd, died: bool, limited: bool) -> Result<Buf, NoMemory>
-    ensures { IfOk result (λ text. text ≡ load_text died limited end.now) }
-{
-    let mut text = Buf::new(alloc)?;
-    if died {
-        text.append(b"load dead\n")?;
-    } else if limited {
-        text.append(b"load limit\n")?;
-    } else {
-        put_load_end(&mut text, end)?;
-    }
-    Ok(text)
+/// What work comes to, if memory allows, and the disk as it stands then.
+#[derive(Drop)]
+pub(crate) struct WorkedOver<D> {
+    pub(crate) worked: Result<Worked, NoMemory>,
+    pub(crate) disk: D,
 }
 
-/// The text of a command whose work was done.
-fn text_of(alloc: Global, command: Command, outcome: Outcome) -> Result<Buf, NoMemory>
-    ensures { IfOk result (λ text. text ≡ run_text command outcome) }
+/// Work that was done.
+fn done(outcome: Result<Outcome, NoMemory>) -> Result<Worked, NoMemory>
+    ensures { IfOk result (λ it. IsOkAnd outcome (λ outcome. it ≡ comes.Done outcome)) }
 {
-    match command {
-        Command::Load { seed, batches } => {
-            let end = load_end(seed, batches, &outcome);
-            load_text(alloc, &end, outcome.end.died, outcome.told.limited)
-        }
-        Command::Replay { .. } | Command::Recover | Command::Dump => {
-            let mut text = outcome.told.text;
-            put_run_end(&mut text, &outcome.end)?;
-            Ok(text)
-        }
-    }
+    Ok(Worked::Done(outcome?))
 }
 
-/// What is said of a run.
-fn run_said(
-    alloc: Global,
-    command: Command,
-    outcome: Result<Outcome, NoMemory>,
-) -> Result<Said, NoMemory>
-    ensures { IfOk result (λ said. IsOkAnd outcome (TellsRun command said.status said.text)) }
+/// Work that is not begun.
+fn unbegun(said: Result<Said, NoMemory>) -> Result<Worked, NoMemory>
+    ensures { IfOk result (λ it. IsOkAnd said (λ said. it ≡ comes.Unbegun said)) }
 {
-    let outcome = outcome?;
-    let status = status_of(&outcome);
-    let text = text_of(alloc, command, outcome)?;
-    Ok(Said { status, text })
+    Ok(Worked::Unbegun(said?))
 }
 
-/// What the work of a command comes to over a disk. A segment hangs from `threshold` pending polls on.
-pub(crate) fn work_said<D: Disk + Send, G: Gate + Sync, R: Threads + Wait + Sync>(
+/// The work that is done over what the directories recover to. A segment hangs from `threshold` pending polls on.
+pub(crate) fn work_over<D: Disk + Send, G: Gate + Sync, R: Threads + Wait + Sync>(
     rt: &R,
     alloc: Global,
-    command: Command,
     work: Work,
     threshold: u32,
     mut disk: D,
     gate: &G,
-) -> Answered<D>
+) -> WorkedOver<D>
     requires threshold { (1 ≤ threshold) × (threshold ≤ THRESHOLD_MAX) }
     requires sessions { NamesItsOwn work }
     requires idle { NothingInFlight (D.view disk) }
     ensures went_on { WentOn (D.view disk) (D.view result.disk) }
     ensures polls { StallNone (work_rounds work) → PollsNeverRise (D.view disk) (D.view result.disk) }
-    ensures others { IsTrue D.tells → (wal : _) → IsNextWal (directories (D.view disk)) wal
-        → OthersOnlySynced wal (files (D.view disk)) (files (D.view result.disk)) }
-    ensures says { let over = change_in D.view disk result.disk in
-        IfOk result.said (λ said. SaysOfWork command work threshold D.tells over said.status said.text) }
+    ensures others { ChangesNextWal D.tells (change_in D.view disk result.disk) }
+    ensures comes_to { let over = change_in D.view disk result.disk in
+        IfOk result.worked (WorkComesTo work threshold D.tells over) }
 {
     match recover(alloc, &mut disk, Mode::Strict) {
         Ok(found) => {
             if found.next_wal > WAL_MAX {
-                return Answered {
-                    said: saying(alloc, Status::Limit, "limit wal\n"),
+                return WorkedOver {
+                    worked: unbegun(saying(alloc, Status::Limit, "limit wal\n")),
                     disk,
                 };
             }
@@ -139,13 +100,13 @@ pub(crate) fn work_said<D: Disk + Send, G: Gate + Sync, R: Threads + Wait + Sync
                 disk,
                 gate,
             );
-            Answered {
-                said: run_said(alloc, command, outcome),
+            WorkedOver {
+                worked: done(outcome),
                 disk,
             }
         }
-        Err(fault) => Answered {
-            said: unrecovered(alloc, fault),
+        Err(fault) => WorkedOver {
+            worked: unbegun(unrecovered(alloc, fault)),
             disk,
         },
     }

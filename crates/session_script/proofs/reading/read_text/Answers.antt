@@ -1,5 +1,5 @@
 use Rattle.std.proofs.Common.{◌≡◌, ◌+◌, ◌∷◌, length, sym, ap, arith, Err, subst}
-use Rattle.session_script.specs.Words.{lines_of}
+use Rattle.line_words.specs.Words.{lines_of}
 use Rattle.session_script.specs.Script.{AreScript}
 use Rattle.session_script.proofs.LinesSoFar.{no_line_so_far, line_more, first_refused, one_is_left, whole_script}
 use Rattle.session_script.proofs.Counting.{few_numbers}

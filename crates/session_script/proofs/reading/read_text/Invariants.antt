@@ -1,5 +1,5 @@
 use Rattle.std.proofs.Common.{length}
-use Rattle.session_script.specs.Words.{lines_of}
+use Rattle.line_words.specs.Words.{lines_of}
 use Rattle.session_script.proofs.LinesSoFar.{LinesSoFar}
 use Rattle.session_script.proofs.reading.read_text.Given as goal
 

@@ -1,4 +1,4 @@
-use Rattle.session_script.specs.Words.{lines_of}
+use Rattle.line_words.specs.Words.{lines_of}
 use Rattle.session_script.proofs.Counting.{few_numbers}
 use Rattle.session_script.proofs.Naming.{names_its_sessions}
 use Rattle.session_script.proofs.theorems.a_script_counts_its_sessions_and_few_numbers.Goals as goal

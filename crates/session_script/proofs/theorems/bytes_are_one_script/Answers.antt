@@ -1,4 +1,4 @@
-use Rattle.session_script.specs.Words.{lines_of}
+use Rattle.line_words.specs.Words.{lines_of}
 use Rattle.session_script.proofs.OneScript.{one_script}
 use Rattle.session_script.proofs.theorems.bytes_are_one_script.Goals as goal
 

@@ -1,4 +1,4 @@
-use Rattle.session_script.specs.Words.{lines_of}
+use Rattle.line_words.specs.Words.{lines_of}
 use Rattle.session_script.proofs.Prefixes.{none_bad, one_bad}
 use Rattle.session_script.proofs.theorems.bytes_have_one_first_bad_line.Goals as goal
 

@@ -1,0 +1,4 @@
+pub mod Laws
+mod Cuts
+mod Numerals
+mod WordTests

@@ -1,0 +1,5 @@
+use Rattle.std.proofs.Common.{length}
+use Rattle.line_words.proofs.tests.named.Given as goal
+
+abbrev pub decreases-loop-out : goal.decreases-loop-out
+decreases-loop-out l = length l.words
