@@ -2,8 +2,8 @@
 use Rattle.std.proofs.Common.{◌≡◌, ◌⊎◌, inl, inr, Bool, true, false, ◌||◌, List, [], ◌∷◌, IsTrue, refl, sym, ap, ◌∙◌, arith}
 use Rattle.std.specs.List.{list_any}
 use Rattle.std.proofs.lemmas.List.Elements.{Contains-append_right}
-use Rattle.session_script.specs.declared.script.Round.{Round}
-use Rattle.session_script.specs.declared.script.StallLine.{StallLine}
+use Rattle.session_replies.specs.declared.script.Round.{Round}
+use Rattle.session_replies.specs.declared.script.StallLine.{StallLine}
 use Rattle.commit_pipeline.specs.Openings.{Opening}
 use Rattle.script_runner.specs.Rounds.{AllowsStalls}
 use Rattle.script_runner.specs.Runs.{StallNone, StallsSome, stalls_any, has_stalls}

@@ -8,14 +8,14 @@ use Rattle.wal_base.specs.Prefixes.{IsPrefixOf}
 use Rattle.wal_base.proofs.Laws.{prefix_same, prefix_then, longer_prefix, prefix_whole}
 use Rattle.batch_repr.specs.declared.batch.Batch.{Batch}
 use Rattle.batch_repr.specs.Batches.{answer}
-use Rattle.session_script.specs.declared.load.TheConstants.{LOAD_KEYS}
-use Rattle.session_script.specs.Load.{load_key, load_keys, live_keys}
+use Rattle.made_load.specs.declared.load.TheConstants.{LOAD_KEYS}
+use Rattle.made_load.specs.Load.{load_key, load_keys, live_keys}
 use Rattle.commit_pipeline.specs.declared.fault.Reply.{Reply}
 use Rattle.commit_pipeline.specs.Openings.{Opening}
 use Rattle.commit_pipeline.specs.declared.standing.Standing.{Standing}
 use Rattle.commit_pipeline.specs.Standings.{Idles}
 use Rattle.commit_pipeline.specs.Commits.{TellsRead}
-use Rattle.session_script.specs.Legal.{Replied}
+use Rattle.session_replies.specs.Legal.{Replied}
 use Rattle.session_rounds.specs.Players.{ReadersView, FirstReads}
 use Rattle.script_runner.specs.declared.performing.Told.{Told}
 use Rattle.script_runner.specs.Works.{CountsLive, KeepsCount}

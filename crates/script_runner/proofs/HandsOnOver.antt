@@ -4,8 +4,8 @@ use Rattle.batch_repr.specs.declared.batch.Batch.{Batch}
 use Rattle.disk_face.specs.View.{DiskView, files}
 use Rattle.failover_writer.specs.State.{JournalView}
 use Rattle.failover_writer.specs.Running.{OthersSame}
-use Rattle.session_script.specs.Script.{NameSessions}
-use Rattle.session_script.specs.declared.script.Round.{Round}
+use Rattle.session_replies.specs.Rounds.{NameSessions}
+use Rattle.session_replies.specs.declared.script.Round.{Round}
 use Rattle.failover_writer.specs.Outcome.{JournalOutcome}
 use Rattle.commit_pipeline.specs.Openings.{Opening}
 use Rattle.commit_pipeline.specs.Ending.{StillKeeps}

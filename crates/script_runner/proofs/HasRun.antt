@@ -20,8 +20,8 @@ use Rattle.failover_writer.specs.Remaining.{polls_left}
 use Rattle.failover_writer.specs.Running.{PollsLeft, OthersSame}
 use Rattle.failover_writer.specs.Sound.{CountsLeaveFew}
 use Rattle.failover_writer.proofs.Laws.{TellCalls, tell_calls, given_up_told, gives_up_told, counts_leave_few, rose_by_less, len_is, synced_within, not_theirs, outcome_recovers, reads_as_image}
-use Rattle.session_script.specs.declared.replies.RunEnd.{RunEnd}
-use Rattle.session_script.specs.declared.script.Round.{Round}
+use Rattle.session_replies.specs.declared.replies.RunEnd.{RunEnd}
+use Rattle.session_replies.specs.declared.script.Round.{Round}
 use Rattle.failover_writer.specs.Outcome.{JournalStart, IsUnbegun, MayStall, JournalOutcome}
 use Rattle.script_runner.specs.Runs.{WasClosed, StallsSome, HasCauses, EndsRunAs, HasRun, TellsJournal, run_start}
 use Rattle.script_runner.proofs.AllowsStalls.{some_stall}

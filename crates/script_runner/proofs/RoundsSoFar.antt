@@ -1,9 +1,9 @@
 -- The rounds so far with what was said, and those that are left.
 use Rattle.std.proofs.Common.{◌≡◌, ◌∙◌, ◌||◌, ℕ, Bool, List, [], ◌∷◌, ◌++◌, length, refl, sym, ap, subst, append_assoc}
 use Rattle.std.proofs.lemmas.List.{append-nil}
-use Rattle.session_script.specs.Script.{LinesAreOfSome, NameSessions}
-use Rattle.session_script.specs.declared.script.Round.{Round}
-use Rattle.session_script.specs.Theorems.{limit_told}
+use Rattle.session_replies.specs.Rounds.{LinesAreOfSome, NameSessions}
+use Rattle.session_replies.specs.declared.script.Round.{Round}
+use Rattle.session_replies.specs.Theorems.{limit_told}
 use Rattle.commit_pipeline.specs.Openings.{Opening}
 use Rattle.commit_pipeline.specs.declared.standing.Standing.{Standing}
 use Rattle.session_rounds.specs.declared.transcript.Transcript.{Transcript}

@@ -6,7 +6,7 @@ use Rattle.batch_repr.specs.Batches.{IsContiguous, end_after}
 use Rattle.disk_face.specs.View.{DiskView}
 use Rattle.disk_face.specs.Script.{TellsOf, BeginsOver}
 use Rattle.failover_writer.specs.State.{JournalView}
-use Rattle.session_script.specs.declared.replies.RunEnd.{RunEnd}
+use Rattle.session_replies.specs.declared.replies.RunEnd.{RunEnd}
 use Rattle.failover_writer.specs.Outcome.{JournalStart, JournalOutcome}
 use Rattle.commit_pipeline.specs.Openings.{Opening, first_number, first_of}
 use Rattle.commit_pipeline.specs.declared.standing.Standing.{Standing}

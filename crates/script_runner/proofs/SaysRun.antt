@@ -6,9 +6,9 @@ use Rattle.batch_repr.specs.declared.batch.Batch.{Batch}
 use Rattle.disk_face.specs.View.{DiskView}
 use Rattle.failover_writer.specs.declared.fault.DeadMark.{DeadMark}
 use Rattle.failover_writer.specs.State.{JournalView, acked}
-use Rattle.session_script.specs.declared.replies.RunEnd.{RunEnd}
-use Rattle.session_script.specs.Legal.{Replied}
-use Rattle.session_script.proofs.Laws.{limited_exactly}
+use Rattle.session_replies.specs.declared.replies.RunEnd.{RunEnd}
+use Rattle.session_replies.specs.Legal.{Replied}
+use Rattle.session_replies.proofs.Laws.{limited_exactly}
 use Rattle.commit_pipeline.specs.Openings.{Opening, first_of}
 use Rattle.commit_pipeline.specs.declared.standing.Standing.{Standing}
 use Rattle.session_rounds.specs.Legality.{SyncedAreAmong}

@@ -14,8 +14,8 @@ use Rattle.failover_writer.specs.Answered.{FaultsRose, RoseBy}
 use Rattle.failover_writer.specs.Keeping.{IsOpening, RecoversTo}
 use Rattle.failover_writer.specs.Remaining.{polls_left}
 use Rattle.failover_writer.specs.Running.{PollsLeft, OthersSame, ReadsAsImage}
-use Rattle.session_script.specs.declared.replies.RunEnd.{RunEnd}
-use Rattle.session_script.specs.declared.script.Round.{Round}
+use Rattle.session_replies.specs.declared.replies.RunEnd.{RunEnd}
+use Rattle.session_replies.specs.declared.script.Round.{Round}
 use Rattle.script_runner.specs.Runs.{PollsNeverRise, StallsSome, HasCauses, EndsRunAs, HasRun}
 
 told_files : (inner outer : DiskView) → TellsOf inner outer → files outer ≡ files inner

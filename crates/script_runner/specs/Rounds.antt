@@ -1,7 +1,7 @@
 -- What the rounds of a run ask of its opening (docs/formats/program.md, "The run of a script").
 use Rattle.std.specs.Prelude.{List}
 use Rattle.std.specs.List.{AllByRecursion}
-use Rattle.session_script.specs.declared.script.Round.{Round}
+use Rattle.session_replies.specs.declared.script.Round.{Round}
 use Rattle.commit_pipeline.specs.Openings.{Opening}
 use Rattle.session_rounds.specs.Players.{AllowsPolls}
 

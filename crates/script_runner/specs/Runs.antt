@@ -16,13 +16,13 @@ use Rattle.failover_writer.specs.Keeping.{RecoversTo, IsOpening}
 use Rattle.failover_writer.specs.Sound.{IsSoundJournal}
 use Rattle.failover_writer.specs.Running.{PollsLeft, OthersSame, ReadsAsImage}
 use Rattle.failover_writer.specs.Outcome.{JournalStart, start_on, JournalOutcome}
-use Rattle.session_script.specs.declared.replies.RunEnd.{RunEnd}
-use Rattle.session_script.specs.declared.script.Round.{Round}
-use Rattle.session_script.specs.declared.script.StallLine.{StallLine}
-use Rattle.session_script.specs.Load.{live_keys}
-use Rattle.session_script.specs.Legal.{Replied, replies_text, AreLegal}
-use Rattle.session_script.specs.Lasting.{DeathLasts}
-use Rattle.session_script.specs.Theorems.{limit_told, IsLimitedExactly}
+use Rattle.session_replies.specs.declared.replies.RunEnd.{RunEnd}
+use Rattle.session_replies.specs.declared.script.Round.{Round}
+use Rattle.session_replies.specs.declared.script.StallLine.{StallLine}
+use Rattle.made_load.specs.Load.{live_keys}
+use Rattle.session_replies.specs.Legal.{Replied, replies_text, AreLegal}
+use Rattle.session_replies.specs.Lasting.{DeathLasts}
+use Rattle.session_replies.specs.Theorems.{limit_told, IsLimitedExactly}
 use Rattle.commit_pipeline.specs.Openings.{Opening, first_of}
 use Rattle.script_runner.specs.declared.performing.Told.{Told}
 use Rattle.script_runner.specs.declared.run.Outcome.{Outcome}

@@ -2,15 +2,15 @@
 use Rattle.std.specs.Prelude.{◌≡◌, ◌++◌, ℕ, Bool, false, List, ◌∷◌, Contains}
 use Rattle.wal_base.specs.Prefixes.{IsPrefixOf}
 use Rattle.batch_repr.specs.declared.batch.Batch.{Batch}
-use Rattle.session_script.specs.Script.{NameSessions, NamesItsSessions}
-use Rattle.session_script.specs.declared.load.TheConstants.{LOAD_SESSIONS}
-use Rattle.session_script.specs.declared.script.Round.{Round}
-use Rattle.session_script.specs.Load.{live_keys}
+use Rattle.session_replies.specs.Rounds.{NameSessions, NamesItsSessions}
+use Rattle.made_load.specs.declared.load.TheConstants.{LOAD_SESSIONS}
+use Rattle.session_replies.specs.declared.script.Round.{Round}
+use Rattle.made_load.specs.Load.{live_keys}
 use Rattle.commit_pipeline.specs.Openings.{Opening}
 use Rattle.commit_pipeline.specs.declared.standing.Standing.{Standing}
 use Rattle.commit_pipeline.specs.Standings.{Idles}
-use Rattle.session_script.specs.Legal.{Replied, replies_text}
-use Rattle.session_script.specs.Theorems.{limit_told}
+use Rattle.session_replies.specs.Legal.{Replied, replies_text}
+use Rattle.session_replies.specs.Theorems.{limit_told}
 use Rattle.session_rounds.specs.Players.{PlayMore, ReadersView}
 use Rattle.script_runner.specs.declared.work.Work.{Work}
 use Rattle.script_runner.specs.declared.work.Work.TheVariants as works

@@ -1,13 +1,13 @@
 //! A load: its rounds, and the keys that have a value after them.
 
 ghost use Rattle.std.specs.Prelude.{◌≡◌, ◌+◌, ◌≤◌, length, IfOk};
-ghost use Rattle.session_script.specs.Script.{NameSessions};
+ghost use Rattle.session_replies.specs.Rounds.{NameSessions};
 ghost use Rattle.script_runner.specs.Works.{AnswersLoad, CountsLive};
 
 use commit_pipeline::{Gate, PipeName, Pipeline, Sessions};
 use disk_face::{Disk, StallDisk};
+use made_load::{LOAD_KEYS, Load, load_key};
 use session_rounds::{Players, Readers, Transcript};
-use session_script::{LOAD_KEYS, Load, load_key};
 use std::alloc::Global;
 use std::sync::Wait;
 use std::sync::ledger::Ledger;

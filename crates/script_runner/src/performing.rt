@@ -1,7 +1,7 @@
 //! What happens over a pipeline between its opening and its end.
 
 ghost use Rattle.std.specs.Prelude.{◌≡◌, ◌+◌, ◌≤◌, Some, length, IfOk, IfErr, IsSome};
-ghost use Rattle.session_script.specs.Script.{NameSessions};
+ghost use Rattle.session_replies.specs.Rounds.{NameSessions};
 ghost use Rattle.commit_pipeline.specs.Ending.{StillKeeps};
 ghost use Rattle.script_runner.specs.Rounds.{AllowsStalls};
 ghost use Rattle.script_runner.specs.Works.{work_rounds, Performs, KeepsReplies, KeepsCount, PerformsWork};
@@ -12,8 +12,9 @@ use crate::work::Work;
 use commit_pipeline::{Gate, PipeName, Pipeline, Sessions};
 use disk_face::StallDisk;
 use failover_writer::Journal;
+use made_load::Load;
+use session_replies::Rounds;
 use session_rounds::{Readers, Transcript};
-use session_script::{Load, Rounds};
 use std::alloc::Global;
 use std::sync::Wait;
 use std::sync::ledger::Ledger;

@@ -1,14 +1,14 @@
 //! The rounds of a script, played one after another.
 
 ghost use Rattle.std.specs.Prelude.{◌≡◌, ◌+◌, length, IfOk};
-ghost use Rattle.session_script.specs.Script.{NameSessions};
+ghost use Rattle.session_replies.specs.Rounds.{NameSessions};
 ghost use Rattle.session_rounds.specs.Players.{PlayNoted};
 ghost use Rattle.script_runner.specs.Rounds.{AllowsStalls};
 
 use commit_pipeline::{Gate, PipeName, Pipeline, Sessions};
 use disk_face::StallDisk;
+use session_replies::Rounds;
 use session_rounds::{Players, Transcript};
-use session_script::Rounds;
 use std::alloc::Global;
 use std::collections::VecDeque;
 use std::sync::Wait;

@@ -22,7 +22,7 @@ use batch_repr::Batches;
 use commit_pipeline::{Finished, Gate, Parts, PipeName, Pipeline};
 use disk_face::{Disk, ScriptDisk, StallDisk};
 use failover_writer::{Journal, JournalFault};
-use session_script::RunEnd;
+use session_replies::RunEnd;
 use std::alloc::Global;
 use std::marker::Brand;
 use std::sync::Wait;

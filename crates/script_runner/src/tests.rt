@@ -1,10 +1,11 @@
 ghost use Rattle.std.specs.Prelude.{◌≤◌, IfOk};
-ghost use Rattle.session_script.specs.Script.{NamesItsSessions};
+ghost use Rattle.session_replies.specs.Rounds.{NamesItsSessions};
 ghost use Rattle.script_runner.specs.Works.{NamesItsOwn};
 
 use crate::{Outcome, Run, Work, run_work};
 use commit_pipeline::NoGate;
-use session_script::{Script, ScriptFault, put_run_end, read_script};
+use session_replies::{Script, put_run_end};
+use session_script::{ScriptFault, read_script};
 use std::alloc::Global;
 use std::process::Abort;
 use std::sync::Wait;

@@ -3,7 +3,8 @@
 ghost use Rattle.std.specs.Prelude.{◌≡◌};
 ghost use Rattle.script_runner.specs.Works.{halts, work_sessions};
 
-use session_script::{LOAD_SESSIONS, Load, Script};
+use made_load::{LOAD_SESSIONS, Load};
+use session_replies::Script;
 
 /// What is run over what the directories recover to.
 #[derive(Drop)]

@@ -5,9 +5,9 @@ use Rattle.std.proofs.lemmas.List.{append-nil, length-set, take_more}
 use Rattle.std.proofs.lemmas.List.Elements.{filter-append}
 use Rattle.std.proofs.lemmas.List.Sums.{length-filter, count_by-le-length}
 use Rattle.std.proofs.lemmas.Bool.{eq-eqb}
-use Rattle.session_script.specs.Script.{LinesAreOfSome}
-use Rattle.session_script.specs.declared.script.Line.{Line}
-use Rattle.session_script.specs.Legal.{is_of, lines_of_session}
+use Rattle.session_replies.specs.Rounds.{LinesAreOfSome}
+use Rattle.session_replies.specs.declared.script.Line.{Line}
+use Rattle.session_replies.specs.Legal.{is_of, lines_of_session}
 use Rattle.commit_pipeline.specs.declared.standing.Standing.{Standing}
 use Rattle.session_rounds.specs.declared.course.Course.{Course}
 use Rattle.session_rounds.specs.declared.transcript.Transcript.{Transcript}

@@ -10,9 +10,9 @@ use Rattle.batch_repr.specs.Batches.{IsContiguous, end_after}
 use Rattle.batch_repr.proofs.Laws.{contiguous_append, end_append}
 use Rattle.disk_face.specs.View.{DiskView}
 use Rattle.failover_writer.specs.State.{State, acked}
-use Rattle.session_script.specs.Script.{NameSessions}
-use Rattle.session_script.specs.declared.script.Round.{Round}
-use Rattle.session_script.specs.Legal.{Replied, RepliesToRounds, AreLegalRounds, AreLegal}
+use Rattle.session_replies.specs.Rounds.{NameSessions}
+use Rattle.session_replies.specs.declared.script.Round.{Round}
+use Rattle.session_replies.specs.Legal.{Replied, RepliesToRounds, AreLegalRounds, AreLegal}
 use Rattle.commit_pipeline.specs.Openings.{Opening, first_of}
 use Rattle.commit_pipeline.specs.declared.standing.Standing.{Standing}
 use Rattle.commit_pipeline.specs.Standings.{new_standing}

@@ -4,8 +4,8 @@ use native.Mathlib.Decide.{dec_le, ℕ_discrete}
 use Rattle.std.specs.List.{cons_option, AllByRecursion}
 use Rattle.std.proofs.lemmas.List.Elements.{filter_map-append}
 use Rattle.std.proofs.lemmas.List.Sorted.{IsPermutation-refl, IsPermutation-trans, IsPermutation-cons, IsPermutation-sym, IsPermutation-middle, IsPermutation-append_right, Contains-permutation}
-use Rattle.session_script.specs.declared.script.Line.{Line}
-use Rattle.session_script.specs.Legal.{Replied, is_of, lines_of_session, replies_of_session, RepliesTo}
+use Rattle.session_replies.specs.declared.script.Line.{Line}
+use Rattle.session_replies.specs.Legal.{Replied, is_of, lines_of_session, replies_of_session, RepliesTo}
 
 -- ---- lists of many owners
 

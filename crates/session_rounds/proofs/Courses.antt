@@ -8,11 +8,11 @@ use Rattle.std.proofs.lemmas.Option.{get_or_from_slice_get}
 use Rattle.wal_base.proofs.Laws.{none_within, longer_prefix, at_prefix, within_cases, within_head}
 use Rattle.batch_repr.specs.declared.batch.Batch.{Batch}
 use Rattle.commit_queue.proofs.Laws.{at_below}
-use Rattle.session_script.specs.declared.script.Act.{Act}
-use Rattle.session_script.specs.declared.script.Act.TheVariants.{Commit, Get}
-use Rattle.session_script.specs.declared.replies.Said.{Said}
-use Rattle.session_script.specs.declared.replies.Said.TheVariants.{Committed, Unsynced, Dead, Limit, Got}
-use Rattle.session_script.specs.Legal.{Replied, batch_of}
+use Rattle.session_replies.specs.declared.script.Act.{Act}
+use Rattle.session_replies.specs.declared.script.Act.TheVariants.{Commit, Get}
+use Rattle.session_replies.specs.declared.replies.Said.{Said}
+use Rattle.session_replies.specs.declared.replies.Said.TheVariants.{Committed, Unsynced, Dead, Limit, Got}
+use Rattle.session_replies.specs.Legal.{Replied, batch_of}
 use Rattle.commit_pipeline.specs.declared.standing.Standing.{Standing}
 use Rattle.commit_pipeline.specs.Numbering.{numbered}
 use Rattle.commit_pipeline.specs.Standings.{GainsOwn}

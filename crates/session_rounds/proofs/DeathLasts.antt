@@ -4,15 +4,15 @@ use Rattle.std.specs.Prelude.{IsFalse, slice_get}
 use Rattle.std.specs.List.{list_any, AllByRecursion}
 use Rattle.std.proofs.lemmas.Option.{slice_get_within}
 use native.Mathlib.Decide.{dec_le}
-use Rattle.session_script.specs.Script.{NameSessions}
-use Rattle.session_script.specs.declared.script.Act.{Act}
-use Rattle.session_script.specs.declared.script.Act.TheVariants.{Commit, Get}
-use Rattle.session_script.specs.declared.script.Line.{Line}
-use Rattle.session_script.specs.declared.script.Round.{Round}
-use Rattle.session_script.specs.declared.replies.Said.{Said}
-use Rattle.session_script.specs.declared.replies.Said.TheVariants.{Committed, Unsynced, Dead, Limit, Got}
-use Rattle.session_script.specs.Legal.{Replied, replies_of_session}
-use Rattle.session_script.specs.Lasting.{shows_death, needs_life, DeathLastsInTurn, DeathLastsFrom, DeathLasts}
+use Rattle.session_replies.specs.Rounds.{NameSessions}
+use Rattle.session_replies.specs.declared.script.Act.{Act}
+use Rattle.session_replies.specs.declared.script.Act.TheVariants.{Commit, Get}
+use Rattle.session_replies.specs.declared.script.Line.{Line}
+use Rattle.session_replies.specs.declared.script.Round.{Round}
+use Rattle.session_replies.specs.declared.replies.Said.{Said}
+use Rattle.session_replies.specs.declared.replies.Said.TheVariants.{Committed, Unsynced, Dead, Limit, Got}
+use Rattle.session_replies.specs.Legal.{Replied, replies_of_session}
+use Rattle.session_replies.specs.Lasting.{shows_death, needs_life, DeathLastsInTurn, DeathLastsFrom, DeathLasts}
 use Rattle.commit_pipeline.specs.Openings.{Opening}
 use Rattle.commit_pipeline.specs.declared.standing.Standing.{Standing}
 use Rattle.commit_pipeline.specs.Standings.{KnowsDeath}

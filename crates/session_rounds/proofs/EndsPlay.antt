@@ -3,14 +3,14 @@ use Rattle.std.proofs.Common.{ℕ, Bool, true, List, length, refl, sym, subst}
 use Rattle.batch_repr.specs.declared.batch.Batch.{Batch}
 use Rattle.disk_face.specs.View.{DiskView}
 use Rattle.failover_writer.specs.State.{State}
-use Rattle.session_script.specs.Script.{NameSessions}
-use Rattle.session_script.specs.declared.script.Round.{Round}
+use Rattle.session_replies.specs.Rounds.{NameSessions}
+use Rattle.session_replies.specs.declared.script.Round.{Round}
 use Rattle.commit_pipeline.specs.Openings.{Opening}
 use Rattle.commit_pipeline.specs.declared.standing.Standing.{Standing}
 use Rattle.commit_pipeline.specs.Parts.{AreNew}
 use Rattle.commit_pipeline.specs.Meeting.{StayOn}
 use Rattle.commit_pipeline.specs.Ending.{Finishes}
-use Rattle.session_script.specs.Legal.{Replied}
+use Rattle.session_replies.specs.Legal.{Replied}
 use Rattle.session_rounds.specs.Players.{HavePlayed, ArePlayedLegally, EndsPlay}
 use Rattle.session_rounds.proofs.AreLegal.{played_legally, visible_at_end}
 use Rattle.session_rounds.proofs.IsSeen.{played_seen}

@@ -6,12 +6,12 @@ use Rattle.wal_base.specs.Prefixes.{IsPrefixOf}
 use Rattle.wal_base.proofs.Laws.{prefix_same, prefix_then}
 use Rattle.batch_repr.specs.declared.batch.Batch.{Batch}
 use Rattle.batch_repr.specs.Batches.{IsContiguous}
-use Rattle.session_script.specs.declared.script.Act.{Act}
-use Rattle.session_script.specs.declared.script.Act.TheVariants.{Commit, Get}
-use Rattle.session_script.specs.declared.script.Round.{Round}
-use Rattle.session_script.specs.declared.replies.Said.{Said}
-use Rattle.session_script.specs.declared.replies.Said.TheVariants.{Committed, Unsynced, Dead, Limit, Got}
-use Rattle.session_script.specs.Legal.{Replied, replies_of_session}
+use Rattle.session_replies.specs.declared.script.Act.{Act}
+use Rattle.session_replies.specs.declared.script.Act.TheVariants.{Commit, Get}
+use Rattle.session_replies.specs.declared.script.Round.{Round}
+use Rattle.session_replies.specs.declared.replies.Said.{Said}
+use Rattle.session_replies.specs.declared.replies.Said.TheVariants.{Committed, Unsynced, Dead, Limit, Got}
+use Rattle.session_replies.specs.Legal.{Replied, replies_of_session}
 use Rattle.commit_pipeline.specs.Openings.{Opening, EndsBefore}
 use Rattle.commit_pipeline.specs.declared.standing.Standing.{Standing}
 use Rattle.commit_pipeline.specs.Standings.{SeesOn}

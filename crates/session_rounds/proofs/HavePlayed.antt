@@ -1,9 +1,9 @@
 -- What players have played, round by round.
 use Rattle.std.proofs.Common.{◌≡◌, ℕ, List, [], ◌∷◌, ◌++◌, length, refl, sym, ◌∙◌, subst, append_assoc}
 use Rattle.std.proofs.lemmas.List.{append-nil}
-use Rattle.session_script.specs.Script.{LinesAreOfSome, NameSessions}
-use Rattle.session_script.specs.declared.script.Round.{Round}
-use Rattle.session_script.specs.Legal.{Replied}
+use Rattle.session_replies.specs.Rounds.{LinesAreOfSome, NameSessions}
+use Rattle.session_replies.specs.declared.script.Round.{Round}
+use Rattle.session_replies.specs.Legal.{Replied}
 use Rattle.commit_pipeline.specs.Openings.{Opening}
 use Rattle.commit_pipeline.specs.declared.standing.Standing.{Standing}
 use Rattle.commit_pipeline.specs.Parts.{AreNew}

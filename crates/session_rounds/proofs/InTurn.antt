@@ -8,11 +8,11 @@ use Rattle.batch_repr.specs.declared.batch.Batch.{Batch}
 use Rattle.batch_repr.specs.Batches.{count_of, end_after, answer}
 use Rattle.batch_repr.proofs.Laws.{end_append}
 use Rattle.commit_queue.proofs.Laws.{at_end_of, at_below}
-use Rattle.session_script.specs.declared.script.Act.{Act}
-use Rattle.session_script.specs.declared.script.Act.TheVariants.{Commit, Get}
-use Rattle.session_script.specs.declared.replies.Said.{Said}
-use Rattle.session_script.specs.declared.replies.Said.TheVariants.{Committed, Unsynced, Dead, Limit, Got}
-use Rattle.session_script.specs.Legal.{Replied, Answers, committed, unsynced, dead, past_numbers, past_batches, read, AnswersInTurn}
+use Rattle.session_replies.specs.declared.script.Act.{Act}
+use Rattle.session_replies.specs.declared.script.Act.TheVariants.{Commit, Get}
+use Rattle.session_replies.specs.declared.replies.Said.{Said}
+use Rattle.session_replies.specs.declared.replies.Said.TheVariants.{Committed, Unsynced, Dead, Limit, Got}
+use Rattle.session_replies.specs.Legal.{Replied, Answers, committed, unsynced, dead, past_numbers, past_batches, read, AnswersInTurn}
 use Rattle.commit_pipeline.specs.Openings.{first_of}
 use Rattle.commit_pipeline.specs.declared.standing.Standing.{Standing}
 use Rattle.commit_pipeline.specs.Numbering.{numbered}

@@ -5,8 +5,8 @@ use Rattle.std.proofs.lemmas.List.{length-append}
 use Rattle.std.proofs.lemmas.List.Sorted.{IsPermutation-trans, IsPermutation-map}
 use native.Mathlib.Decide.{dec_le}
 use Rattle.batch_repr.specs.declared.batch.Batch.{Batch}
-use Rattle.session_script.specs.declared.script.Line.{Line}
-use Rattle.session_script.specs.Legal.{Replied, batch_of, replies_of_session, AnswersInTurn, IsLegalRound}
+use Rattle.session_replies.specs.declared.script.Line.{Line}
+use Rattle.session_replies.specs.Legal.{Replied, batch_of, replies_of_session, AnswersInTurn, IsLegalRound}
 use Rattle.commit_pipeline.specs.Openings.{first_of}
 use Rattle.commit_pipeline.specs.declared.standing.Standing.{Standing}
 use Rattle.commit_pipeline.specs.Meeting.{HaveMet}

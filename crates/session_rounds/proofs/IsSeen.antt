@@ -6,9 +6,9 @@ use Rattle.wal_base.proofs.Laws.{prefix_then, prefix_whole, none_within}
 use Rattle.batch_repr.specs.declared.batch.Batch.{Batch}
 use Rattle.disk_face.specs.View.{DiskView}
 use Rattle.failover_writer.specs.State.{State}
-use Rattle.session_script.specs.declared.script.Line.{Line}
-use Rattle.session_script.specs.declared.script.Round.{Round}
-use Rattle.session_script.specs.Legal.{Replied}
+use Rattle.session_replies.specs.declared.script.Line.{Line}
+use Rattle.session_replies.specs.declared.script.Round.{Round}
+use Rattle.session_replies.specs.Legal.{Replied}
 use Rattle.commit_pipeline.specs.Openings.{Opening}
 use Rattle.commit_pipeline.specs.declared.standing.Standing.{Standing}
 use Rattle.commit_pipeline.specs.Standings.{new_standing}
@@ -16,7 +16,7 @@ use Rattle.commit_pipeline.specs.Parts.{AreNew}
 use Rattle.commit_pipeline.specs.Meeting.{StayOn, HaveMet}
 use Rattle.commit_pipeline.specs.Ending.{owned, EachOnce, Finishes}
 use Rattle.session_rounds.specs.Playing.{PlaysRound, PlaysRounds}
-use Rattle.session_script.specs.Script.{NameSessions}
+use Rattle.session_replies.specs.Rounds.{NameSessions}
 use Rattle.session_rounds.proofs.Follows.{Follows, End, AllWithin, has_some, stays_follows, before_meeting, before_rounds, all_before}
 use Rattle.session_rounds.proofs.AreOwned.{SeenFrom, greatest, greatest_least, greatest_all, seen_by_each, round_course, same_owned}
 use Rattle.session_rounds.proofs.AreLegal.{none_owned, the_end, all_within}

@@ -4,9 +4,9 @@ use Rattle.std.specs.List.{list_any}
 use Rattle.std.proofs.Common.{refl, sym, ap, ◌∙◌, append_assoc}
 use Rattle.std.proofs.lemmas.List.{append-nil}
 use Rattle.std.proofs.lemmas.Grind.{flat_map-append}
-use Rattle.session_script.specs.Legal.{Replied, replies_text}
-use Rattle.session_script.specs.Replies.{reply_line}
-use Rattle.session_script.specs.Theorems.{tells_limit, limit_told}
+use Rattle.session_replies.specs.Legal.{Replied, replies_text}
+use Rattle.session_replies.specs.Replies.{reply_line}
+use Rattle.session_replies.specs.Theorems.{tells_limit, limit_told}
 use Rattle.session_rounds.specs.declared.transcript.Transcript.{Transcript}
 use Rattle.session_rounds.specs.Transcripts.{replies_lines, any_limited, with_lines, with_text, no_text, blank_of, with_told}
 use Rattle.session_rounds.specs.Transcripts.{NotesReply, NotesReplies, NotesRounds}

@@ -8,9 +8,9 @@ use Rattle.std.proofs.lemmas.List.Elements.{filter-append}
 use Rattle.std.proofs.lemmas.Option.{slice_get_within, get_or_from_slice_get}
 use Rattle.std.proofs.lemmas.Bool.{eq-eqb}
 use Rattle.std.proofs.lemmas.Bool.Decides.{eqb_tells}
-use Rattle.session_script.specs.Script.{LinesAreOfSome}
-use Rattle.session_script.specs.declared.script.Line.{Line}
-use Rattle.session_script.specs.Legal.{Replied, is_of, lines_of_session, replies_of_session, AreBySession}
+use Rattle.session_replies.specs.Rounds.{LinesAreOfSome}
+use Rattle.session_replies.specs.declared.script.Line.{Line}
+use Rattle.session_replies.specs.Legal.{Replied, is_of, lines_of_session, replies_of_session, AreBySession}
 use Rattle.commit_pipeline.specs.Openings.{Opening}
 use Rattle.commit_pipeline.specs.declared.standing.Standing.{Standing}
 use Rattle.session_rounds.specs.declared.course.Course.{Course}

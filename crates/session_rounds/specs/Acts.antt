@@ -1,11 +1,11 @@
 -- What the lines of a session do to it (docs/formats/program.md, "The run of a script").
 use Rattle.std.specs.Prelude.{◌≡◌, ◌⊎◌, ℕ, ◌+◌, List, [], ◌∷◌, length, IsTrue}
 use Rattle.batch_repr.specs.declared.limits.TheConstants.{BATCHES_MAX}
-use Rattle.session_script.specs.declared.script.Act.{Act}
-use Rattle.session_script.specs.declared.script.Act.TheVariants.{Commit, Get}
-use Rattle.session_script.specs.declared.replies.Said.{Said}
-use Rattle.session_script.specs.declared.replies.Said.TheVariants.{Committed, Unsynced, Dead, Limit, Got}
-use Rattle.session_script.specs.Legal.{Replied}
+use Rattle.session_replies.specs.declared.script.Act.{Act}
+use Rattle.session_replies.specs.declared.script.Act.TheVariants.{Commit, Get}
+use Rattle.session_replies.specs.declared.replies.Said.{Said}
+use Rattle.session_replies.specs.declared.replies.Said.TheVariants.{Committed, Unsynced, Dead, Limit, Got}
+use Rattle.session_replies.specs.Legal.{Replied}
 use Rattle.commit_pipeline.specs.Openings.{Opening}
 use Rattle.commit_pipeline.specs.declared.standing.Standing.{Standing}
 use Rattle.commit_pipeline.specs.Standings.{KnowsDeath, Idles}

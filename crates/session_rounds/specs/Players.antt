@@ -7,11 +7,11 @@ use Rattle.batch_repr.specs.Batches.{end_after}
 use Rattle.disk_face.specs.View.{DiskView}
 use Rattle.failover_writer.specs.State.{State, JournalView, acked}
 use Rattle.failover_writer.specs.Outcome.{JournalOutcome}
-use Rattle.session_script.specs.Script.{NameSessions}
-use Rattle.session_script.specs.declared.script.Round.{Round}
-use Rattle.session_script.specs.declared.script.StallLine.{StallLine}
-use Rattle.session_script.specs.Legal.{Replied, AreLegal}
-use Rattle.session_script.specs.Lasting.{DeathLasts}
+use Rattle.session_replies.specs.Rounds.{NameSessions}
+use Rattle.session_replies.specs.declared.script.Round.{Round}
+use Rattle.session_replies.specs.declared.script.StallLine.{StallLine}
+use Rattle.session_replies.specs.Legal.{Replied, AreLegal}
+use Rattle.session_replies.specs.Lasting.{DeathLasts}
 use Rattle.commit_pipeline.specs.Openings.{Opening, first_of}
 use Rattle.commit_pipeline.specs.declared.standing.Standing.{Standing}
 use Rattle.commit_pipeline.specs.declared.fault.Reply.{Reply}

@@ -1,8 +1,8 @@
 -- How rounds are played by sessions beside one another (docs/formats/program.md, "The run of a script").
 use Rattle.std.specs.Prelude.{◌≡◌, ℕ, List, [], ◌∷◌, length, Some, slice_get}
-use Rattle.session_script.specs.declared.script.Line.{Line}
-use Rattle.session_script.specs.declared.script.Round.{Round}
-use Rattle.session_script.specs.Legal.{Replied, RepliesTo, replies_of_session}
+use Rattle.session_replies.specs.declared.script.Line.{Line}
+use Rattle.session_replies.specs.declared.script.Round.{Round}
+use Rattle.session_replies.specs.Legal.{Replied, RepliesTo, replies_of_session}
 use Rattle.commit_pipeline.specs.Openings.{Opening}
 use Rattle.commit_pipeline.specs.declared.standing.Standing.{Standing}
 use Rattle.commit_pipeline.specs.Meeting.{HaveMet}

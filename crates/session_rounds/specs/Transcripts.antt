@@ -1,10 +1,10 @@
 -- What is said to lines, as it is told (docs/formats/program.md, "The text of a replay").
 use Rattle.std.specs.Prelude.{◌≡◌, ◌++◌, ◌||◌, ℕ, Bool, false, List, [], Option, Some, None}
 use Rattle.std.specs.List.{flat_map, list_any}
-use Rattle.session_script.specs.declared.replies.Said.{Said}
-use Rattle.session_script.specs.Legal.{Replied, replies_text}
-use Rattle.session_script.specs.Replies.{reply_line}
-use Rattle.session_script.specs.Theorems.{tells_limit, limit_told}
+use Rattle.session_replies.specs.declared.replies.Said.{Said}
+use Rattle.session_replies.specs.Legal.{Replied, replies_text}
+use Rattle.session_replies.specs.Replies.{reply_line}
+use Rattle.session_replies.specs.Theorems.{tells_limit, limit_told}
 use Rattle.session_rounds.specs.declared.transcript.Transcript.{Transcript}
 
 -- the lines of some replies

@@ -1,8 +1,8 @@
 -- The turns of the sessions in a round: the session, its lines that are still to do, and what was said so far (docs/formats/program.md, "The run of a script").
 use Rattle.std.specs.Prelude.{◌≡◌, ℕ, ◌<◌, Bool, false, ltb, List, [], ◌∷◌, length, map, Some, slice_get, slice_index, slice_index_or}
 use Rattle.std.specs.List.{AllByRecursion}
-use Rattle.session_script.specs.declared.script.Line.{Line}
-use Rattle.session_script.specs.Legal.{Replied, lines_of_session}
+use Rattle.session_replies.specs.declared.script.Line.{Line}
+use Rattle.session_replies.specs.Legal.{Replied, lines_of_session}
 use Rattle.commit_pipeline.specs.Openings.{Opening}
 use Rattle.commit_pipeline.specs.declared.standing.Standing.{Standing}
 use Rattle.session_rounds.specs.declared.course.Course.{Course}

@@ -3,7 +3,7 @@
 
 use crate::transcript::Transcript;
 use commit_pipeline::Standing;
-use session_script::Line;
+use session_replies::Line;
 
 /// What contracts see of a session that plays a round.
 pub struct Course {

@@ -1,7 +1,7 @@
 //! The sessions of a pipeline, which play rounds over it and meet after each.
 
 ghost use Rattle.std.specs.Prelude.{◌≡◌, ◌+◌, [], ◌∷◌, length, IfOk};
-ghost use Rattle.session_script.specs.Script.{LinesAreOfSome};
+ghost use Rattle.session_replies.specs.Rounds.{LinesAreOfSome};
 ghost use Rattle.commit_pipeline.specs.Meeting.{HaveMet};
 ghost use Rattle.session_rounds.specs.Players.{AllowsPolls, PlayNoted};
 
@@ -10,7 +10,8 @@ use crate::transcript::Transcript;
 use commit_pipeline::{Gate, PipeName, Pipeline, Sessions};
 use core::scope::Scope;
 use disk_face::{Disk, StallDisk};
-use session_script::{LoadRound, Round, Stalls};
+use made_load::LoadRound;
+use session_replies::{Round, Stalls};
 use std::alloc::Global;
 use std::marker::Model;
 use std::sync::Wait;

@@ -1,7 +1,7 @@
 //! A round, played by the sessions beside one another.
 
 ghost use Rattle.std.specs.Prelude.{◌≡◌, length, map, IfOk, OnOk};
-ghost use Rattle.session_script.specs.Script.{LinesAreOfSome};
+ghost use Rattle.session_replies.specs.Rounds.{LinesAreOfSome};
 ghost use Rattle.session_rounds.specs.Playing.{RoundPlayed};
 ghost use Rattle.session_rounds.specs.Transcripts.{blank_of};
 ghost use Rattle.session_rounds.specs.Turns.{beginning, session_of, join_all, CountsLines, AreDealt, NoneStarved, PlaysTurns};
@@ -11,7 +11,8 @@ use crate::transcript::Transcript;
 use crate::turns::Turn;
 use commit_pipeline::{Gate, PipeName, Sessions};
 use disk_face::Disk;
-use session_script::{Line, Lines, LoadRound};
+use made_load::LoadRound;
+use session_replies::{Line, Lines};
 use std::alloc::Global;
 use std::sync::Wait;
 use std::sync::ledger::Ledger;

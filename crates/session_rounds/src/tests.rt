@@ -1,7 +1,7 @@
 //! What a round comes to, by examples.
 ghost use Rattle.std.specs.Prelude.{◌≡◌, [], ◌+◌, ◌≤◌, length, IfSome};
 ghost use Rattle.batch_repr.specs.declared.limits.TheConstants.{NUMBER_FIRST, SESSIONS_MAX};
-ghost use Rattle.session_script.specs.Script.{LinesAreOfSome};
+ghost use Rattle.session_replies.specs.Rounds.{LinesAreOfSome};
 ghost use Rattle.commit_pipeline.specs.Openings.{opening_on};
 ghost use Rattle.failover_writer.specs.State.{len};
 
@@ -10,8 +10,9 @@ use batch_repr::{Batches, NUMBER_FIRST, Unwritten};
 use commit_pipeline::{Finished, Gate, NoGate, Parts, PipeName, Pipeline, Sessions};
 use disk_face::{Disk, StallDisk};
 use failover_writer::Journal;
+use made_load::{LOAD_SESSIONS, Load, LoadRound};
 use mem_disk::MemDisk;
-use session_script::{Act, LOAD_SESSIONS, Line, Lines, Load, LoadRound, Round, Stalls};
+use session_replies::{Act, Line, Lines, Round, Stalls};
 use std::alloc::Global;
 use std::marker::Brand;
 use std::process::Abort;

@@ -3,7 +3,7 @@
 ghost use Rattle.std.specs.Prelude.{◌≡◌, IfOk, OnOk};
 ghost use Rattle.session_rounds.specs.Transcripts.{blank_of, with_told, IsEmptyTranscript, IsSilentTranscript, NotesReply};
 
-use session_script::{Said, put_reply};
+use session_replies::{Said, put_reply};
 use std::alloc::Global;
 use wal_base::{Buf, NoMemory};
 

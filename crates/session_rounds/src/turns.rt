@@ -1,7 +1,7 @@
 //! The lines of a session of one round, answered one after another.
 
 ghost use Rattle.std.specs.Prelude.{◌≡◌, [], ◌++◌, false, IfOk, IfSome, IfNone, OnOk};
-ghost use Rattle.session_script.specs.declared.script.Act.TheVariants.{Commit};
+ghost use Rattle.session_replies.specs.declared.script.Act.TheVariants.{Commit};
 ghost use Rattle.session_rounds.specs.Acts.{Does};
 ghost use Rattle.session_rounds.specs.Turns.{has_line, beginning, turn_with, with_line, PlaysTurn};
 
@@ -9,7 +9,8 @@ use crate::transcript::Transcript;
 use batch_repr::Unnumbered;
 use commit_pipeline::{CommitFault, Gate, PipeName, Pipeline, Session};
 use disk_face::Disk;
-use session_script::{Act, Line, LoadLines, Said};
+use made_load::LoadLines;
+use session_replies::{Act, Line, Said};
 use std::alloc::Global;
 use std::collections::VecDeque;
 use std::marker::Model;

@@ -8,16 +8,17 @@ use Rattle.std.proofs.lemmas.List.Splits.{length-slice_split}
 use Rattle.std.proofs.lemmas.List.Sums.{sum_by-cons, sum_by-append, count_by-le-length}
 use Rattle.wal_base.specs.declared.entry.Entry.{Entry}
 use Rattle.batch_repr.specs.Batches.{is_counted}
-use Rattle.session_script.specs.declared.script.Act.{Act}
-use Rattle.session_script.specs.declared.script.Act.TheVariants.{Commit, Get}
-use Rattle.session_script.specs.declared.script.Line.{Line}
-use Rattle.session_script.specs.declared.script.Script.{Script}
-use Rattle.session_script.specs.declared.script.Saying.{Saying}
-use Rattle.session_script.specs.declared.script.Saying.TheVariants as sayings
+use Rattle.session_replies.specs.declared.script.Act.{Act}
+use Rattle.session_replies.specs.declared.script.Act.TheVariants.{Commit, Get}
+use Rattle.session_replies.specs.declared.script.Line.{Line}
+use Rattle.session_replies.specs.declared.script.Script.{Script}
+use Rattle.session_script.specs.declared.saying.Saying.{Saying}
+use Rattle.session_script.specs.declared.saying.Saying.TheVariants as sayings
 use Rattle.line_words.specs.Words.{lines_of, words_of}
 use Rattle.session_script.specs.Words.{parts_of, SpellEntries}
 use Rattle.session_script.specs.Lines.{AsksToAct, LineSays}
-use Rattle.session_script.specs.Script.{LinesSay, ends_round, round_of, rounds_of, halt_if, IsScript, numbers_taken, round_numbers, script_numbers}
+use Rattle.session_script.specs.Script.{LinesSay, ends_round, round_of, rounds_of, halt_if, IsScript}
+use Rattle.session_replies.specs.Rounds.{numbers_taken, round_numbers, script_numbers}
 
 -- ---- the rounds
 

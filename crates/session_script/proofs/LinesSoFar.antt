@@ -1,8 +1,8 @@
 -- A draft of the lines that are read so far.
 use Rattle.std.proofs.Common.{◌≡◌, ◌≢◌, inl, inr, ℕ, ◌+◌, ◌≤◌, Bool, false, List, [], ◌∷◌, ◌++◌, length, Option, Some, None, refl, sym, ap, ◌∙◌, arith, subst}
 use Rattle.std.proofs.lemmas.List.{length-append}
-use Rattle.session_script.specs.declared.script.Saying.{Saying}
-use Rattle.session_script.specs.declared.script.Saying.TheVariants as sayings
+use Rattle.session_script.specs.declared.saying.Saying.{Saying}
+use Rattle.session_script.specs.declared.saying.Saying.TheVariants as sayings
 use Rattle.session_script.specs.declared.reading.Draft.{Draft}
 use Rattle.session_script.specs.Lines.{LineSays}
 use Rattle.session_script.specs.Script.{AreScript, IsFirstBad}

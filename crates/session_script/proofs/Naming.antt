@@ -4,13 +4,14 @@ use Rattle.std.specs.Prelude.{max, fold}
 use Rattle.std.specs.List.{AllByRecursion, slice_split, onto_first}
 use Rattle.std.specs.Option.{option_to_list}
 use Rattle.batch_repr.specs.declared.limits.TheConstants.{SESSIONS_MAX}
-use Rattle.session_script.specs.declared.script.Line.{Line}
-use Rattle.session_script.specs.declared.script.Round.{Round}
-use Rattle.session_script.specs.declared.script.Script.{Script}
-use Rattle.session_script.specs.declared.script.Saying.{Saying}
-use Rattle.session_script.specs.declared.script.Saying.TheVariants as sayings
+use Rattle.session_replies.specs.declared.script.Line.{Line}
+use Rattle.session_replies.specs.declared.script.Round.{Round}
+use Rattle.session_replies.specs.declared.script.Script.{Script}
+use Rattle.session_script.specs.declared.saying.Saying.{Saying}
+use Rattle.session_script.specs.declared.saying.Saying.TheVariants as sayings
 use Rattle.session_script.specs.Lines.{LineSays}
-use Rattle.session_script.specs.Script.{LinesSay, ends_round, round_of, rounds_of, sessions_named, sessions_of, halt_if, AreScript, NamesItsSessions}
+use Rattle.session_script.specs.Script.{LinesSay, ends_round, round_of, rounds_of, sessions_named, sessions_of, halt_if, AreScript}
+use Rattle.session_replies.specs.Rounds.{NamesItsSessions}
 
 -- ---- the greatest number
 

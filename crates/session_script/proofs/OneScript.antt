@@ -11,11 +11,11 @@ use Rattle.wal_base.specs.declared.entry.Entry.{Entry}
 use Rattle.wal_base.specs.declared.entry.Entry.TheVariants.{Set, Delete, Note, RangeDelete}
 use Rattle.disk_face.specs.declared.Side.{Side}
 use Rattle.disk_face.specs.declared.Side.TheVariants.{Primary, Secondary}
-use Rattle.session_script.specs.declared.script.Act.{Act}
-use Rattle.session_script.specs.declared.script.Act.TheVariants.{Commit, Get}
-use Rattle.session_script.specs.declared.script.Script.{Script}
-use Rattle.session_script.specs.declared.script.Saying.{Saying}
-use Rattle.session_script.specs.declared.script.Saying.TheVariants as sayings
+use Rattle.session_replies.specs.declared.script.Act.{Act}
+use Rattle.session_replies.specs.declared.script.Act.TheVariants.{Commit, Get}
+use Rattle.session_replies.specs.declared.script.Script.{Script}
+use Rattle.session_script.specs.declared.saying.Saying.{Saying}
+use Rattle.session_script.specs.declared.saying.Saying.TheVariants as sayings
 use Rattle.line_words.specs.Words.{words_of}
 use Rattle.session_script.specs.Words.{parts_of, SpellsOneEntry, SpellEntries}
 use Rattle.session_script.specs.Lines.{sync_word, side_letter, AsksToAct, WordsSay, SaysNothing, LineSays}

@@ -3,9 +3,9 @@ use Rattle.std.proofs.Common.{◌≡◌, ◌≢◌, ℕ, ◌<◌, Bool, true, fa
 use Rattle.std.specs.List.{AllByRecursion}
 use Rattle.std.proofs.lemmas.Bool.{ltb-true, ltb-false}
 use Rattle.std.specs.Option.{option_to_list}
-use Rattle.session_script.specs.declared.script.Script.{Script}
-use Rattle.session_script.specs.declared.script.Saying.{Saying}
-use Rattle.session_script.specs.declared.script.Saying.TheVariants as sayings
+use Rattle.session_replies.specs.declared.script.Script.{Script}
+use Rattle.session_script.specs.declared.saying.Saying.{Saying}
+use Rattle.session_script.specs.declared.saying.Saying.TheVariants as sayings
 use Rattle.session_script.specs.Script.{LinesSay, rounds_of, sessions_of, halt_if, AreScript, IsFirstBad}
 
 -- what the lines before others say

@@ -10,13 +10,13 @@ use Rattle.batch_repr.specs.Limits.{IsWithinLimits}
 use Rattle.batch_repr.specs.Written.{written_entries, written_entry, varint}
 use Rattle.batch_repr.specs.declared.limits.TheConstants.{SESSIONS_MAX}
 use Rattle.disk_face.specs.declared.Side.TheVariants.{Primary}
-use Rattle.session_script.specs.declared.script.Act.{Act}
-use Rattle.session_script.specs.declared.script.Act.TheVariants.{Commit, Get}
-use Rattle.session_script.specs.declared.script.Line.{Line}
-use Rattle.session_script.specs.declared.script.StallLine.{StallLine}
-use Rattle.session_script.specs.declared.script.Script.{Script}
-use Rattle.session_script.specs.declared.script.Saying.{Saying}
-use Rattle.session_script.specs.declared.script.Saying.TheVariants as sayings
+use Rattle.session_replies.specs.declared.script.Act.{Act}
+use Rattle.session_replies.specs.declared.script.Act.TheVariants.{Commit, Get}
+use Rattle.session_replies.specs.declared.script.Line.{Line}
+use Rattle.session_replies.specs.declared.script.StallLine.{StallLine}
+use Rattle.session_replies.specs.declared.script.Script.{Script}
+use Rattle.session_script.specs.declared.saying.Saying.{Saying}
+use Rattle.session_script.specs.declared.saying.Saying.TheVariants as sayings
 use Rattle.line_words.specs.Words.{lines_of, words_of, IsWord}
 use Rattle.session_script.specs.Words.{parts_of, SpellEntries}
 use Rattle.session_script.specs.Lines.{AsksToAct, WordsSay, SaysNothing, LineSays, IsNoLine}

@@ -4,9 +4,9 @@ use Rattle.std.proofs.Common.{arith, append_assoc}
 use Rattle.std.specs.List.{AllByRecursion}
 use Rattle.std.specs.Option.{option_to_list}
 use Rattle.std.proofs.lemmas.List.{append-nil, length-append}
-use Rattle.session_script.specs.declared.script.Script.{Script}
-use Rattle.session_script.specs.declared.script.Saying.{Saying}
-use Rattle.session_script.specs.declared.script.Saying.TheVariants as sayings
+use Rattle.session_replies.specs.declared.script.Script.{Script}
+use Rattle.session_script.specs.declared.saying.Saying.{Saying}
+use Rattle.session_script.specs.declared.saying.Saying.TheVariants as sayings
 use Rattle.session_script.specs.Lines.{LineSays}
 use Rattle.session_script.specs.Script.{LinesSay, rounds_of, sessions_of, halt_if, AreScript, IsFirstBad}
 use Rattle.session_script.proofs.OneScript.{lines_say_one}

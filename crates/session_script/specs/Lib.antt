@@ -4,9 +4,4 @@ pub mod Lines
 pub mod Next
 pub mod Script
 pub mod Drafts
-pub mod Replies
-pub mod Legal
-pub mod Load
-pub mod EveryNth
-pub mod Lasting
 pub mod Theorems

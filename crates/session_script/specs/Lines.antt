@@ -7,11 +7,11 @@ use Rattle.batch_repr.specs.Batches.{count_of}
 use Rattle.batch_repr.specs.Building.{FitsBatch}
 use Rattle.disk_face.specs.declared.Side.{Side}
 use Rattle.disk_face.specs.declared.Side.TheVariants.{Primary, Secondary}
-use Rattle.session_script.specs.declared.script.TheConstants.{POLLS_MAX}
-use Rattle.session_script.specs.declared.script.Act.{Act}
-use Rattle.session_script.specs.declared.script.Act.TheVariants.{Commit, Get}
-use Rattle.session_script.specs.declared.script.Saying.{Saying}
-use Rattle.session_script.specs.declared.script.Saying.TheVariants as sayings
+use Rattle.session_script.specs.declared.saying.TheConstants.{POLLS_MAX}
+use Rattle.session_replies.specs.declared.script.Act.{Act}
+use Rattle.session_replies.specs.declared.script.Act.TheVariants.{Commit, Get}
+use Rattle.session_script.specs.declared.saying.Saying.{Saying}
+use Rattle.session_script.specs.declared.saying.Saying.TheVariants as sayings
 use Rattle.line_words.specs.Words.{words_of, IsWord}
 use Rattle.session_script.specs.Words.{parts_of, SpellEntries}
 

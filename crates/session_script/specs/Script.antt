@@ -1,17 +1,13 @@
 -- A script: rounds of the acts of sessions (docs/formats/program.md, "The whole script").
-use Rattle.std.specs.Prelude.{◌≡◌, ◌≢◌, ℕ, ◌+◌, ◌<◌, ◌≤◌, max, sum_by, count_by, Bool, true, false, List, [], ◌∷◌, ◌++◌, length, map, fold, Option, Some, None}
+use Rattle.std.specs.Prelude.{◌≡◌, ◌≢◌, ℕ, ◌+◌, max, Bool, true, false, List, [], ◌∷◌, ◌++◌, length, map, fold, Option, Some, None}
 use Rattle.std.specs.List.{AllByRecursion, filter_map, slice_split}
 use Rattle.std.specs.Option.{option_to_list}
-use Rattle.batch_repr.specs.Batches.{count_of}
-use Rattle.batch_repr.specs.declared.limits.TheConstants.{SESSIONS_MAX}
-use Rattle.session_script.specs.declared.script.Act.{Act}
-use Rattle.session_script.specs.declared.script.Act.TheVariants.{Commit, Get}
-use Rattle.session_script.specs.declared.script.Line.{Line}
-use Rattle.session_script.specs.declared.script.StallLine.{StallLine}
-use Rattle.session_script.specs.declared.script.Round.{Round}
-use Rattle.session_script.specs.declared.script.Script.{Script}
-use Rattle.session_script.specs.declared.script.Saying.{Saying}
-use Rattle.session_script.specs.declared.script.Saying.TheVariants as sayings
+use Rattle.session_replies.specs.declared.script.Line.{Line}
+use Rattle.session_replies.specs.declared.script.StallLine.{StallLine}
+use Rattle.session_replies.specs.declared.script.Round.{Round}
+use Rattle.session_replies.specs.declared.script.Script.{Script}
+use Rattle.session_script.specs.declared.saying.Saying.{Saying}
+use Rattle.session_script.specs.declared.saying.Saying.TheVariants as sayings
 use Rattle.line_words.specs.Words.{lines_of}
 use Rattle.session_script.specs.Lines.{LineSays}
 
@@ -79,52 +75,6 @@ pub record AreScript (lines : List (List ℕ)) (script : Script) : Type 0 where
 -- The bytes are this script.
 abbrev pub IsScript : List ℕ → Script → Type 0
 IsScript bytes script = AreScript (lines_of bytes) script
-
--- ---- what follows for each script
-
--- how many numbers an act takes
-abbrev pub numbers_taken : Act → ℕ
-numbers_taken (Commit sync entries) = count_of entries
-numbers_taken (Get key) = 0
-
--- how many numbers the lines of a round take
-abbrev pub round_numbers : Round → ℕ
-round_numbers round = sum_by (λ (line : Line). numbers_taken line.act) round.lines
-
--- how many numbers the lines of these rounds take
-abbrev pub rounds_numbers : List Round → ℕ
-rounds_numbers rounds = sum_by round_numbers rounds
-
--- how many numbers a script takes
-abbrev pub script_numbers : Script → ℕ
-script_numbers script = rounds_numbers script.rounds
-
--- whether an act is a commit
-abbrev pub is_commit : Act → Bool
-is_commit (Commit sync entries) = true
-is_commit (Get key) = false
-
--- how many commits a round has
-abbrev pub round_commits : Round → ℕ
-round_commits round = count_by (λ (line : Line). is_commit line.act) round.lines
-
--- how many commits these rounds have
-abbrev pub rounds_commits : List Round → ℕ
-rounds_commits rounds = sum_by round_commits rounds
-
--- Each line is of one of so many sessions.
-abbrev pub LinesAreOfSome : ℕ → List Line → Type 0
-LinesAreOfSome sessions lines = AllByRecursion (λ (line : Line). line.session < sessions) lines
-
--- So is each line of the rounds.
-abbrev pub NameSessions : ℕ → List Round → Type 0
-NameSessions sessions rounds = AllByRecursion (λ (round : Round). LinesAreOfSome sessions round.lines) rounds
-
--- There is a session at least, there are not too many, and each line is of one of them.
-pub record NamesItsSessions (script : Script) : Type 0 where
-  pub some : 1 ≤ script.sessions
-  pub few : script.sessions ≤ SESSIONS_MAX
-  pub within : NameSessions script.sessions script.rounds
 
 -- ---- the first bad line
 

@@ -2,31 +2,21 @@
 
 ghost use Rattle.std.specs.Prelude.{◌≡◌, ◌<◌, ◌≤◌, ◌+◌, [], ℕ, length, IfOk, OnOk, IsErrOf, Err};
 ghost use Rattle.batch_repr.specs.declared.limits.TheConstants.{SESSIONS_MAX};
-ghost use Rattle.session_script.specs.declared.script.Saying.TheVariants as sayings;
+ghost use Rattle.session_script.specs.declared.saying.Saying.TheVariants as sayings;
 ghost use Rattle.session_script.specs.declared.fault.ScriptFault.TheVariants as faults;
 ghost use Rattle.line_words.specs.Words.{lines_of};
-ghost use Rattle.session_script.specs.Script.{IsScript, IsFirstBad, NamesItsSessions, script_numbers, sessions_named};
+ghost use Rattle.session_script.specs.Script.{IsScript, IsFirstBad, sessions_named};
+ghost use Rattle.session_replies.specs.Rounds.{NamesItsSessions, script_numbers};
 ghost use Rattle.session_script.specs.Drafts.{empty_draft, with_saying, script_of, TakesLine, RefusesLine};
 
 use crate::fault::{LineFault, ScriptFault};
+use crate::saying::Saying;
 use crate::sayings::said_by;
-use crate::script::{Line, Lines, Round, Rounds, Saying, Script, StallLine, Stalls};
 use line_words::Pieces;
+use session_replies::{Line, Round, Rounds, Script, StallLine};
 use std::alloc::Global;
 use std::mem;
 use wal_base::{Blob, NoMemory};
-
-impl Round {
-    /// A round in which nothing happens. It takes no memory.
-    fn new(alloc: Global) -> Round
-        ensures { result ≡ record { stalls = []; lines = [] } }
-    {
-        Round {
-            stalls: Stalls::new(alloc),
-            lines: Lines::new(alloc),
-        }
-    }
-}
 
 /// A script as far as it is read.
 #[derive(Drop)]

@@ -3,18 +3,19 @@
 ghost use Rattle.std.specs.Prelude.{◌≡◌, ◌∷◌, Option, codes, IfOk, IfSome, IfNone, IsErrOf};
 ghost use Rattle.disk_face.specs.declared.Side.{Side};
 ghost use Rattle.batch_repr.specs.declared.limits.TheConstants.{KEY_MAX};
-ghost use Rattle.session_script.specs.declared.script.Saying.{Saying};
+ghost use Rattle.session_script.specs.declared.saying.Saying.{Saying};
 ghost use Rattle.line_words.specs.Words.{words_of};
 ghost use Rattle.session_script.specs.Lines.{side_letter, sync_word, WordsSay, WordsSayNone, LineSays, IsNoLine};
 ghost use Rattle.session_script.specs.Next.{TakesSession, HasNoSession, HasNoSync, HasNoSide, EndsWithKey, EndsWithNoKey};
 
 use crate::entries::batch_of;
 use crate::fault::LineFault;
-use crate::script::{Act, Line, POLLS_MAX, Saying, StallLine};
+use crate::saying::{POLLS_MAX, Saying};
 use crate::words::{next_number, next_word};
 use batch_repr::{KEY_MAX, SESSIONS_MAX};
 use disk_face::Side;
 use line_words::{Pieces, is_end};
+use session_replies::{Act, Line, StallLine};
 use std::alloc::Global;
 use wal_base::Blob;
 

@@ -1,8 +1,6 @@
-mod load;
-mod replies;
-
-use crate::{Act, Line, Script, ScriptFault, read_script};
+use crate::{ScriptFault, read_script};
 use disk_face::Side;
+use session_replies::{Act, Line, Script};
 use std::alloc::Global;
 use std::process::Abort;
 use std::test::Fail;

@@ -7,7 +7,7 @@ use Rattle.disk_face.specs.declared.Side.TheVariants.{Primary}
 use Rattle.wal_recovery.specs.declared.reports.SegReport.{SegReport}
 use Rattle.script_runner.specs.declared.run.Outcome.{Outcome}
 use Rattle.wal_top.specs.declared.status.Status.TheVariants.{Disk}
-use Rattle.session_script.specs.Replies.{end_line}
+use Rattle.session_replies.specs.Replies.{end_line}
 use Rattle.wal_top.specs.Replay.{bad_line_text, replay_text}
 use Rattle.wal_top.specs.Load.{load_text}
 use Rattle.wal_top.specs.Dump.{segments_text}

@@ -3,7 +3,7 @@ use Rattle.std.proofs.Common.{◌≡◌, ℕ, ◌≤◌, List, [], ◌++◌, len
 use Rattle.std.specs.Prelude.{IfSome}
 use Rattle.std.proofs.lemmas.List.{append-nil, length-append}
 use Rattle.wal_base.specs.Told.{told_front}
-use Rattle.session_script.specs.declared.script.Script.{Script}
+use Rattle.session_replies.specs.declared.script.Script.{Script}
 use Rattle.line_words.specs.Words.{lines_of}
 use Rattle.session_script.specs.Script.{IsScript, IsFirstBad}
 use Rattle.session_script.proofs.Laws.{one_script, none_bad}

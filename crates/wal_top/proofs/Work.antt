@@ -9,7 +9,7 @@ use Rattle.disk_face.specs.Image.{directories}
 use Rattle.wal_recovery.specs.declared.reports.Mode.TheVariants.{Strict}
 use Rattle.wal_recovery.specs.Recovering.{Recovers}
 use Rattle.wal_recovery.proofs.Laws.{recovers_once, recovered_or_refused}
-use Rattle.session_script.specs.Theorems.{limit_told, AsksTooMuch, IsLimitedExactly}
+use Rattle.session_replies.specs.Theorems.{limit_told, AsksTooMuch, IsLimitedExactly}
 use Rattle.script_runner.specs.declared.run.Outcome.{Outcome}
 use Rattle.script_runner.specs.declared.work.Work.{Work}
 use Rattle.script_runner.specs.Works.{work_rounds}

@@ -2,8 +2,8 @@
 use Rattle.std.specs.Prelude.{ℕ, ◌-◌, Bool, true, false, List, codes}
 use Rattle.command_line.specs.declared.command.TheConstants.{THRESHOLD_DEFAULT}
 use Rattle.disk_face.specs.View.{DiskView}
-use Rattle.session_script.specs.declared.load_end.LoadEnd.{LoadEnd}
-use Rattle.session_script.specs.Load.{load_number, load_end_line, load_rounds}
+use Rattle.made_load.specs.declared.load_end.LoadEnd.{LoadEnd}
+use Rattle.made_load.specs.Load.{load_number, load_end_line, load_rounds}
 use Rattle.script_runner.specs.declared.run.Outcome.{Outcome}
 use Rattle.script_runner.specs.declared.work.Work.{Work}
 use Rattle.script_runner.specs.declared.work.Work.TheVariants as works

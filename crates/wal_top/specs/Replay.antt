@@ -1,10 +1,11 @@
 -- The command `replay`: a script of the source is run (docs/formats/program.md, "The script" and "The text of a replay").
 use Rattle.std.specs.Prelude.{◌≡◌, ℕ, ◌+◌, ◌<◌, ◌≤◌, List, [], ◌∷◌, ◌++◌, length, Option, Some, codes}
 use Rattle.std.specs.Fmt.{decimal}
-use Rattle.session_script.specs.declared.script.Script.{Script}
+use Rattle.session_replies.specs.declared.script.Script.{Script}
 use Rattle.line_words.specs.Words.{lines_of}
-use Rattle.session_script.specs.Script.{IsScript, IsFirstBad, NamesItsSessions}
-use Rattle.session_script.specs.Replies.{end_line}
+use Rattle.session_script.specs.Script.{IsScript, IsFirstBad}
+use Rattle.session_replies.specs.Rounds.{NamesItsSessions}
+use Rattle.session_replies.specs.Replies.{end_line}
 use Rattle.script_runner.specs.declared.run.Outcome.{Outcome}
 use Rattle.script_runner.specs.declared.work.Work.TheVariants as works
 use Rattle.script_runner.specs.Runs.{StallNone, PollsNeverRise}

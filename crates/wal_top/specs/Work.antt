@@ -11,8 +11,8 @@ use Rattle.wal_recovery.specs.declared.reports.Mode.TheVariants.{Strict}
 use Rattle.wal_recovery.specs.Listing.{IsNextWal}
 use Rattle.wal_recovery.specs.Recovering.{Recovers}
 use Rattle.wal_recovery.specs.Resting.{OnlySynced}
-use Rattle.session_script.specs.Script.{rounds_numbers, rounds_commits}
-use Rattle.session_script.specs.Theorems.{AsksTooMuch}
+use Rattle.session_replies.specs.Rounds.{rounds_numbers, rounds_commits}
+use Rattle.session_replies.specs.Theorems.{AsksTooMuch}
 use Rattle.failover_writer.specs.Running.{LogsBatches, OthersOnlySynced}
 use Rattle.script_runner.specs.declared.run.Outcome.{Outcome}
 use Rattle.script_runner.specs.declared.work.Work.{Work}

@@ -4,7 +4,7 @@
 ghost use Rattle.std.specs.Prelude.{◌≡◌, ◌+◌, ◌≤◌, true, IfOk};
 ghost use Rattle.batch_repr.specs.declared.limits.TheConstants.{NUMBER_MAX};
 ghost use Rattle.failover_writer.specs.State.{len};
-ghost use Rattle.session_script.specs.Script.{NamesItsSessions};
+ghost use Rattle.session_replies.specs.Rounds.{NamesItsSessions};
 ghost use Rattle.commit_pipeline.specs.Openings.{opening_on};
 ghost use Rattle.script_runner.specs.Works.{NamesItsOwn, work_sessions};
 
@@ -15,7 +15,7 @@ use commit_pipeline::{NoGate, Parts, PipeName, Pipeline};
 use disk_face::{Disk, StallDisk};
 use failover_writer::Journal;
 use mem_disk::MemDisk;
-use session_script::Script;
+use session_replies::Script;
 use std::alloc::Global;
 use std::marker::Brand;
 use std::process::Abort;

@@ -2,7 +2,8 @@
 
 use super::{Fresh, check, outcome_of};
 use crate::Work;
-use session_script::{Load, RunEnd};
+use made_load::Load;
+use session_replies::RunEnd;
 use std::alloc::Global;
 use std::process::Abort;
 use std::sync::Wait;

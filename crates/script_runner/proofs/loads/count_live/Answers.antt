@@ -1,6 +1,6 @@
 -- Key by key.
 use Rattle.std.proofs.Common.{◌≡◌, ◌∙◌, ◌+◌, List, ℕ, sym, subst}
-use Rattle.session_script.specs.Load.{load_key}
+use Rattle.made_load.specs.Load.{load_key}
 use Rattle.script_runner.proofs.CountsKeys.{KeysSoFar, no_key_yet, some_reader, one_live, none_live, all_counted}
 use Rattle.script_runner.proofs.loads.count_live.Goals.{then-is_some, else-is_some}
 use Rattle.script_runner.proofs.loads.count_live.Goals as goal

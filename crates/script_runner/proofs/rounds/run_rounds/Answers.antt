@@ -1,6 +1,6 @@
 -- Round by round.
 use Rattle.std.proofs.Common.{◌≡◌, List, [], subst, sym, ◌∙◌, rules}
-use Rattle.session_script.specs.declared.script.Round.{Round}
+use Rattle.session_replies.specs.declared.script.Round.{Round}
 use Rattle.script_runner.specs.Rounds.{AllowsStalls}
 use Rattle.script_runner.proofs.RoundsSoFar.{RoundsSoFar, no_round_yet, stalls_next, next_named, round_more, all_played}
 use Rattle.script_runner.proofs.rounds.run_rounds.Goals as goal

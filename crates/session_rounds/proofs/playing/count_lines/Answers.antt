@@ -2,7 +2,7 @@
 use Rattle.std.specs.Prelude.{◌≡◌, ◌<◌, ◌≤◌, length, slice_index, vec_len}
 use Rattle.std.proofs.Common.{ap, ◌∙◌, arith, rules}
 use Rattle.std.proofs.lemmas.List.{get_or_default}
-use Rattle.session_script.specs.declared.script.Line.{Line}
+use Rattle.session_replies.specs.declared.script.Line.{Line}
 use Rattle.session_rounds.proofs.AreDealt.{is_of_some, counts_within, one_counted}
 use Rattle.session_rounds.proofs.playing.count_lines.Goals as goal
 

@@ -1,5 +1,5 @@
 use Rattle.std.specs.Prelude.{◌≡◌, ℕ, length, take, slice_index, vec_len}
-use Rattle.session_script.specs.Legal.{lines_of_session}
+use Rattle.session_replies.specs.Legal.{lines_of_session}
 use Rattle.session_rounds.proofs.playing.count_lines.Given as goal
 
 abbrev pub invariant-loop-line : goal.invariant-loop-line

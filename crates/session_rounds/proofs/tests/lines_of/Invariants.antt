@@ -1,4 +1,4 @@
-use Rattle.session_script.specs.Script.{LinesAreOfSome}
+use Rattle.session_replies.specs.Rounds.{LinesAreOfSome}
 use Rattle.session_rounds.proofs.tests.lines_of.Given as goal
 
 abbrev pub invariant-loop-k : goal.invariant-loop-k

@@ -1,11 +1,11 @@
 -- The lines of a load are of its four sessions.
 use Rattle.std.specs.Prelude.{◌≡◌, ◌∷◌, ℕ, List, Option, Some, None, IfSome}
 use Rattle.std.proofs.Common.{subst, sym, rules}
-use Rattle.session_script.specs.Script.{LinesAreOfSome, NameSessions}
-use Rattle.session_script.specs.declared.load.TheConstants.{LOAD_SESSIONS}
-use Rattle.session_script.specs.declared.script.Round.{Round}
-use Rattle.session_script.specs.Load.{load_rounds}
-use Rattle.session_script.proofs.Laws.{load_names_four}
+use Rattle.session_replies.specs.Rounds.{LinesAreOfSome, NameSessions}
+use Rattle.made_load.specs.declared.load.TheConstants.{LOAD_SESSIONS}
+use Rattle.session_replies.specs.declared.script.Round.{Round}
+use Rattle.made_load.specs.Load.{load_rounds}
+use Rattle.made_load.proofs.Laws.{load_names_four}
 use Rattle.session_rounds.proofs.tests.load_of.Goals as goal
 
 first_named : (sessions : ℕ) (next : Option Round) (all rest : List Round) → NameSessions sessions all → IfSome next (λ round. all ≡ round ∷ rest)

@@ -1,7 +1,7 @@
 -- The lines are played, and the sessions meet.
 use Rattle.std.proofs.Common.{List, [], ◌∷◌, length, sym, subst}
 use Rattle.std.proofs.lemmas.Result.{IfOk-weaker}
-use Rattle.session_script.specs.Script.{LinesAreOfSome}
+use Rattle.session_replies.specs.Rounds.{LinesAreOfSome}
 use Rattle.commit_pipeline.specs.declared.standing.Standing.{Standing}
 use Rattle.commit_pipeline.specs.Meeting.{HaveMet}
 use Rattle.session_rounds.specs.Players.{PlayNoted}

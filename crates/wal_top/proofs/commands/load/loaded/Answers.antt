@@ -1,10 +1,10 @@
 -- The generated load is the work of the command.
 use Rattle.std.proofs.Common.{List, sym, subst}
 use Rattle.std.specs.Prelude.{IfOk}
-use Rattle.session_script.specs.Script.{NameSessions}
-use Rattle.session_script.specs.declared.script.Round.{Round}
-use Rattle.session_script.specs.declared.load.TheConstants.{LOAD_SESSIONS}
-use Rattle.session_script.proofs.Laws.{load_names_four, stalls_nothing}
+use Rattle.session_replies.specs.Rounds.{NameSessions}
+use Rattle.session_replies.specs.declared.script.Round.{Round}
+use Rattle.made_load.specs.declared.load.TheConstants.{LOAD_SESSIONS}
+use Rattle.made_load.proofs.Laws.{load_names_four, stalls_nothing}
 use Rattle.command_line.specs.declared.command.TheConstants.{THRESHOLD_DEFAULT}
 use Rattle.script_runner.specs.declared.work.Work.TheVariants as works
 use Rattle.script_runner.specs.Runs.{StallNone}

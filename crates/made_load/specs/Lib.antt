@@ -1,0 +1,3 @@
+pub mod Load
+pub mod EveryNth
+pub mod Theorems

@@ -1,9 +1,0 @@
-use Rattle.std.proofs.Common.{◌≡◌, ◌++◌, length}
-use Rattle.session_script.specs.Load.{load_rounds}
-use Rattle.session_script.proofs.load.load_script.Given as goal
-
-abbrev pub invariant-loop-round : goal.invariant-loop-round
-invariant-loop-round l = l.rounds ++ l.load ≡ load_rounds l.seed l.batches
-
-abbrev pub decreases-loop-round : goal.decreases-loop-round
-decreases-loop-round l = length l.load
