@@ -43,12 +43,12 @@ leaf name rules = record (new_shape name) {
 
 -- ---- the words before and after a command's name
 
-or_else_none : (kinds : Kinds) → or_else kinds [] ≡ kinds
+pub or_else_none : (kinds : Kinds) → or_else kinds [] ≡ kinds
 or_else_none [] = refl
 or_else_none (k ∷ ks) = refl
 
 -- what the words come to, by where their walk ends and what fails on the way
-abbrev comes_to : Walk → Kinds → Kinds
+abbrev pub comes_to : Walk → Kinds → Kinds
 comes_to end first =
     let b = built program_app in
     or_else first (or_else (entered_fault b end.stopped) (or_else (settle_fault b.top.rules b.top.args_override_self end.held)
@@ -74,30 +74,6 @@ replay_enters = record {
   found = λ rest.
       ap (λ (end : Walk). entered (built program_app) end.stopped)
       (sym (walk_stopped [] (names_of (built program_app)) (walk_from nothing_held) (codes "replay") [] rest));
-}
-
-pub recover_enters : Enters (codes "recover") []
-unfolding program_app bare_app replay_app load_app threshold_rule clap_on_literals
-recover_enters = record {
-  faults = λ rest.
-      ap₂ comes_to (sym (walk_stopped [] (names_of (built program_app)) (walk_from nothing_held) (codes "recover") [] rest))
-      (stopped_fault (built program_app).top (names_of (built program_app)) (walk_from nothing_held) (codes "recover", []) rest)
-      ∙ or_else_none _;
-  found = λ rest.
-      ap (λ (end : Walk). entered (built program_app) end.stopped)
-      (sym (walk_stopped [] (names_of (built program_app)) (walk_from nothing_held) (codes "recover") [] rest));
-}
-
-pub dump_enters : Enters (codes "dump") []
-unfolding program_app bare_app replay_app load_app threshold_rule clap_on_literals
-dump_enters = record {
-  faults = λ rest.
-      ap₂ comes_to (sym (walk_stopped [] (names_of (built program_app)) (walk_from nothing_held) (codes "dump") [] rest))
-      (stopped_fault (built program_app).top (names_of (built program_app)) (walk_from nothing_held) (codes "dump", []) rest)
-      ∙ or_else_none _;
-  found = λ rest.
-      ap (λ (end : Walk). entered (built program_app) end.stopped)
-      (sym (walk_stopped [] (names_of (built program_app)) (walk_from nothing_held) (codes "dump") [] rest));
 }
 
 pub load_enters : Enters (codes "load") (seed ∷ count ∷ [])

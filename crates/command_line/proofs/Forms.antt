@@ -7,10 +7,11 @@ use Rattle.clap.specs.Walk.{Text, idle, nothing_held, option, walk_from}
 use Rattle.clap.specs.Faults.{fault_of}
 use Rattle.clap.proofs.OnLiterals.{clap_on_literals}
 use Rattle.command_line.specs.declared.command.Command.{Command}
-use Rattle.command_line.specs.declared.command.Command.TheVariants as commands
 use Rattle.command_line.specs.Commands.{IsCommandOf, default, apart, joined}
-use Rattle.command_line.specs.Program.{has_end, program_app}
-use Rattle.command_line.proofs.Enters.{replay_enters, recover_enters, dump_enters, load_enters}
+use Rattle.command_line.specs.Program.{has_end, program_app, command_alone}
+use Rattle.command_line.proofs.Enters.{replay_enters, load_enters}
+use Rattle.command_line.proofs.Alone.{Sort, sort, alone_enters, alone_whole}
+use Rattle.command_line.proofs.Alone as sorts
 use Rattle.command_line.proofs.Turns.{IsPlain, plain_fault, plain_met}
 use Rattle.command_line.proofs.Walks.{from, then_words, walked_by}
 use Rattle.command_line.proofs.ReplayWords as replays
@@ -65,19 +66,17 @@ bare_taken : IsTaken (codes "replay" ∷ [])
 unfolding clap_on_literals
 bare_taken = record { whole = refl; passes = replay_enters.faults [] }
 
-recover_taken : IsTaken (codes "recover" ∷ [])
+alone_taken : (word : Text) (command : Command) → command_alone word ≡ Some command → IsTaken (word ∷ [])
 unfolding clap_on_literals
-recover_taken = record { whole = refl; passes = recover_enters.faults [] }
+alone_taken word command is = record { whole = alone_whole word command is; passes = (alone_enters word command is).faults [] }
 
-dump_taken : IsTaken (codes "dump" ∷ [])
-unfolding clap_on_literals
-dump_taken = record { whole = refl; passes = dump_enters.faults [] }
+of_sort : (words : List Text) (command : Command) → Sort words command → IsTaken words
+of_sort words _ (sorts.replays polls (default are is)) = subst IsTaken (sym are) bare_taken
+of_sort words _ (sorts.replays polls (apart text are is)) = subst IsTaken (sym are) (apart_taken text (number_plain text is.number.digits))
+of_sort words _ (sorts.replays polls (joined text are is)) = subst IsTaken (sym are) (joined_taken text)
+of_sort words _ (sorts.loads made batches is) = subst IsTaken (sym is.words_are)
+    (load_taken is.seed_text is.count_text (number_plain is.seed_text is.seed_is.number.digits) (number_plain is.count_text is.count_is.number.digits))
+of_sort words _ (sorts.stands word command are is) = subst IsTaken (sym are) (alone_taken word command is)
 
 pub commands_taken : (words : List Text) (command : Command) → IsCommandOf words command → IsTaken words
-commands_taken words (commands.Replay polls) (default are is) = subst IsTaken (sym are) bare_taken
-commands_taken words (commands.Replay polls) (apart text are is) = subst IsTaken (sym are) (apart_taken text (number_plain text is.number.digits))
-commands_taken words (commands.Replay polls) (joined text are is) = subst IsTaken (sym are) (joined_taken text)
-commands_taken words commands.Recover are = subst IsTaken (sym are) recover_taken
-commands_taken words commands.Dump are = subst IsTaken (sym are) dump_taken
-commands_taken words (commands.Load made batches) is = subst IsTaken (sym is.words_are)
-    (load_taken is.seed_text is.count_text (number_plain is.seed_text is.seed_is.number.digits) (number_plain is.count_text is.count_is.number.digits))
+commands_taken words command is = of_sort words command (sort words command is)

@@ -3,6 +3,7 @@ mod Limits
 mod Meaning
 mod OneCommand
 mod Enters
+mod Alone
 mod Turns
 mod Walks
 mod ReplayWords

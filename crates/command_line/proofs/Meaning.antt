@@ -1,5 +1,5 @@
 -- What is asked and the command that it means: they follow from one another, over the words.
-use Rattle.std.proofs.Common.{◌≡◌, inl, inr, ℕ, List, Option, Some, None, sym, subst, Result, Err, IfSome, IfNone, IfOk}
+use Rattle.std.proofs.Common.{◌≡◌, ◌∙◌, inl, inr, ℕ, List, [], ◌∷◌, Option, Some, None, ap, sym, subst, codes, Result, Err, IfSome, IfNone, IfOk}
 use Rattle.std.specs.Option.{ok_or}
 use Rattle.std.specs.Borrow.{Bor}
 use Rattle.command_line.specs.declared.command.Command.{Command}
@@ -8,35 +8,31 @@ use Rattle.command_line.specs.declared.command.WordsFault.{WordsFault}
 use Rattle.command_line.specs.declared.command.WordsFault.TheVariants as faults
 use Rattle.command_line.specs.declared.asked.Asked.{Asked}
 use Rattle.command_line.specs.declared.asked.Asked.TheVariants as asks
-use Rattle.command_line.specs.Commands.{IsCommandOf, IsNoCommand, IsThreshold, IsSeed, IsCount, AsksToReplay, default, apart, joined}
+use Rattle.command_line.specs.Commands.{IsCommandOf, IsNoCommand, IsThreshold, IsSeed, IsCount, AsksToReplay, AsksToLoad, default, apart, joined}
 use Rattle.command_line.specs.Asked.{IsAskedBy, Means, MeansThreshold}
+use Rattle.command_line.specs.Program.{command_alone}
+use Rattle.command_line.proofs.Alone.{Sort, replays, loads, stands, sort, alone_is, replay_means, load_means}
+use Rattle.command_line.proofs.OneCommand.{one_command}
 
 pub answers : (words : List (List ℕ)) (asked : Asked) (command : Command) → IsAskedBy words asked → Means asked command
     → IsCommandOf words command
-answers words (asks.Replay None) (commands.Replay threshold) is means = default is means
-answers words (asks.Replay (Some text)) (commands.Replay threshold) (inl is) means = apart text.now is means
-answers words (asks.Replay (Some text)) (commands.Replay threshold) (inr is) means = joined text.now is means
-answers words asks.Recover commands.Recover is means = is
-answers words asks.Dump commands.Dump is means = is
-answers words (asks.Load seed_text count_text) (commands.Load seed batches) is means = record {
-  seed_text = seed_text.now;
-  count_text = count_text.now;
-  words_are = is;
-  seed_is = means.0;
-  count_is = means.1;
-}
-answers words (asks.Replay text) commands.Recover is means = absurd means
-answers words (asks.Replay text) commands.Dump is means = absurd means
-answers words (asks.Replay text) (commands.Load seed batches) is means = absurd means
-answers words asks.Recover (commands.Replay threshold) is means = absurd means
-answers words asks.Recover commands.Dump is means = absurd means
-answers words asks.Recover (commands.Load seed batches) is means = absurd means
-answers words asks.Dump (commands.Replay threshold) is means = absurd means
-answers words asks.Dump commands.Recover is means = absurd means
-answers words asks.Dump (commands.Load seed batches) is means = absurd means
-answers words (asks.Load seed_text count_text) (commands.Replay threshold) is means = absurd means
-answers words (asks.Load seed_text count_text) commands.Recover is means = absurd means
-answers words (asks.Load seed_text count_text) commands.Dump is means = absurd means
+answers words (asks.Replay text) command is means = go text is (replay_means text command means)
+  where
+    go : (text : Option (Bor (List ℕ))) → IsAskedBy words (asks.Replay text)
+        → (threshold : ℕ) × (command ≡ commands.Replay threshold) × MeansThreshold text threshold → IsCommandOf words command
+    go None is (threshold, this, means) = subst (IsCommandOf words) (sym this) (default is means)
+    go (Some text) (inl is) (threshold, this, means) = subst (IsCommandOf words) (sym this) (apart text.now is means)
+    go (Some text) (inr is) (threshold, this, means) = subst (IsCommandOf words) (sym this) (joined text.now is means)
+answers words (asks.Load seed_text count_text) command is means =
+    let m = load_means seed_text count_text command means in
+    subst (IsCommandOf words) (sym m.2) (record {
+      seed_text = seed_text.now;
+      count_text = count_text.now;
+      words_are = is;
+      seed_is = m.3;
+      count_is = m.4;
+    })
+answers words (asks.Alone command) other is means = subst (IsCommandOf words) (sym means) (alone_is words is.0 command is.1 is.2)
 
 -- the same threshold, whichever way it stands in the words
 threshold_means : (words : List (List ℕ)) (text : Option (Bor (List ℕ))) (threshold : ℕ) → IsAskedBy words (asks.Replay text)
@@ -55,39 +51,39 @@ threshold_means words (Some text) threshold (inr is) (joined other are means) =
     let same : text.now ≡ other = cc in
     subst (λ t. IsThreshold t threshold) (sym same) means
 
+-- a replay is not one word alone, whatever its threshold, and no load
+no_alone : (words : List (List ℕ)) (text : Option (Bor (List ℕ))) (word : List ℕ) (command : Command) → IsAskedBy words (asks.Replay text)
+    → words ≡ word ∷ [] → command_alone word ≡ Some command → ⊥
+no_alone words None word command is are alone =
+    let same : word ≡ codes "replay" = cc (is, are) in
+    let bad : Some command ≡ None = sym alone ∙ ap command_alone same in cc
+no_alone words (Some text) word command (inl is) are alone = cc (is, are)
+no_alone words (Some text) word command (inr is) are alone = cc (is, are)
+
+no_load : (words : List (List ℕ)) (text : Option (Bor (List ℕ))) (seed batches : ℕ) → IsAskedBy words (asks.Replay text)
+    → AsksToLoad words seed batches → ⊥
+no_load words None seed batches is load = cc (is, load.words_are)
+no_load words (Some text) seed batches (inl is) load = cc (is, load.words_are)
+no_load words (Some text) seed batches (inr is) load = cc (is, load.words_are)
+
+of_sort : (words : List (List ℕ)) (asked : Asked) (command : Command) → IsAskedBy words asked → IsCommandOf words command → Sort words command
+    → Means asked command
+of_sort words (asks.Replay text) _ is which (replays threshold replay) = threshold_means words text threshold is replay
+of_sort words (asks.Replay text) _ is which (loads seed batches load) = absurd (no_load words text seed batches is load)
+of_sort words (asks.Replay text) _ is which (stands word command are alone) = absurd (no_alone words text word command is are alone)
+of_sort words (asks.Load seed_text count_text) _ is which (replays threshold (default are means)) = cc (is, are)
+of_sort words (asks.Load seed_text count_text) _ is which (replays threshold (apart other are means)) = cc (is, are)
+of_sort words (asks.Load seed_text count_text) _ is which (replays threshold (joined other are means)) = cc (is, are)
+of_sort words (asks.Load seed_text count_text) _ is which (loads seed batches load) =
+    let same : seed_text.now ≡ load.seed_text = cc (is, load.words_are) in
+    let other : count_text.now ≡ load.count_text = cc (is, load.words_are) in
+    (subst (λ t. IsSeed t seed) (sym same) load.seed_is, subst (λ t. IsCount t batches) (sym other) load.count_is)
+of_sort words (asks.Load seed_text count_text) _ is which (stands word command are alone) = cc (is, are)
+of_sort words (asks.Alone named) command is which sorted = one_command words command named which (alone_is words is.0 named is.1 is.2)
+
 pub means_of : (words : List (List ℕ)) (asked : Asked) (command : Command) → IsAskedBy words asked → IsCommandOf words command
     → Means asked command
-means_of words (asks.Replay text) (commands.Replay threshold) is command = threshold_means words text threshold is command
-means_of words asks.Recover commands.Recover is command = tt
-means_of words asks.Dump commands.Dump is command = tt
-means_of words (asks.Load seed_text count_text) (commands.Load seed batches) is command =
-    let same : seed_text.now ≡ command.seed_text = cc (is, command.words_are) in
-    let other : count_text.now ≡ command.count_text = cc (is, command.words_are) in
-    (subst (λ t. IsSeed t seed) (sym same) command.seed_is, subst (λ t. IsCount t batches) (sym other) command.count_is)
-means_of words (asks.Replay None) commands.Recover is command = cc
-means_of words (asks.Replay None) commands.Dump is command = cc
-means_of words (asks.Replay None) (commands.Load seed batches) is command = cc (is, command.words_are)
-means_of words (asks.Replay (Some text)) commands.Recover (inl is) command = cc
-means_of words (asks.Replay (Some text)) commands.Dump (inl is) command = cc
-means_of words (asks.Replay (Some text)) (commands.Load seed batches) (inl is) command = cc (is, command.words_are)
-means_of words (asks.Replay (Some text)) commands.Recover (inr is) command = cc
-means_of words (asks.Replay (Some text)) commands.Dump (inr is) command = cc
-means_of words (asks.Replay (Some text)) (commands.Load seed batches) (inr is) command = cc (is, command.words_are)
-means_of words asks.Recover (commands.Replay threshold) is (default are means) = cc
-means_of words asks.Recover (commands.Replay threshold) is (apart text are means) = cc
-means_of words asks.Recover (commands.Replay threshold) is (joined text are means) = cc
-means_of words asks.Recover commands.Dump is command = cc
-means_of words asks.Recover (commands.Load seed batches) is command = cc (is, command.words_are)
-means_of words asks.Dump (commands.Replay threshold) is (default are means) = cc
-means_of words asks.Dump (commands.Replay threshold) is (apart text are means) = cc
-means_of words asks.Dump (commands.Replay threshold) is (joined text are means) = cc
-means_of words asks.Dump commands.Recover is command = cc
-means_of words asks.Dump (commands.Load seed batches) is command = cc (is, command.words_are)
-means_of words (asks.Load seed_text count_text) (commands.Replay threshold) is (default are means) = cc
-means_of words (asks.Load seed_text count_text) (commands.Replay threshold) is (apart text are means) = cc
-means_of words (asks.Load seed_text count_text) (commands.Replay threshold) is (joined text are means) = cc
-means_of words (asks.Load seed_text count_text) commands.Recover is command = cc
-means_of words (asks.Load seed_text count_text) commands.Dump is command = cc
+means_of words asked command is which = of_sort words asked command is which (sort words command which)
 
 -- ---- what the call answers
 

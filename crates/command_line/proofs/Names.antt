@@ -1,6 +1,6 @@
 -- The first of the words names a command.
-use Rattle.std.proofs.Common.{◌≡◌, ◌⊎◌, inl, inr, ap, sym, refl, Bool, true, false, List, [], ◌∷◌, None, codes, is_some}
-use Rattle.std.specs.Prelude.{fold}
+use Rattle.std.proofs.Common.{◌≡◌, ◌⊎◌, inl, inr, ap, sym, refl, Bool, true, false, List, [], ◌∷◌, Option, Some, None, codes, is_some}
+use Rattle.std.specs.Prelude.{fold, option_map}
 use Rattle.std.specs.Str.{bytes_eq}
 use Rattle.std.proofs.lemmas.Slice.Eq.{bytes_eq-Decides}
 use Rattle.clap.specs.Walk.{Names, Text, Walk, idle, nothing_held, subcommand_met, walk_from, walked, settled, finished}
@@ -8,19 +8,20 @@ use Rattle.clap.specs.Simple.{Shape, built, entered}
 use Rattle.clap.specs.Kinds.{Kinds, or_else}
 use Rattle.clap.specs.Faults.{fault_of, check_fault, defaults_fault, entered_fault, settle_fault, turn_fault, walk_fault}
 use Rattle.clap.proofs.OnLiterals.{clap_on_literals}
-use Rattle.command_line.specs.Program.{has_end, program_app, bare_app, replay_app, load_app, threshold_rule}
+use Rattle.command_line.specs.declared.command.Command.{Command}
+use Rattle.command_line.specs.Program.{command_alone, names_alone, has_end, program_app, bare_app, replay_app, load_app, threshold_rule}
+use Rattle.command_line.proofs.Alone.{none_alone}
 use Rattle.command_line.proofs.Turns.{Passes, as_option, as_value, no_fault, turn}
 use Rattle.command_line.proofs.Walks.{neither}
 
 -- The words begin with the name of a command.
 pub data Named (words : List Text) : Type 0 where
   of_replay : (rest : List Text) → words ≡ codes "replay" ∷ rest → Named words
-  of_recover : (rest : List Text) → words ≡ codes "recover" ∷ rest → Named words
-  of_dump : (rest : List Text) → words ≡ codes "dump" ∷ rest → Named words
   of_load : (rest : List Text) → words ≡ codes "load" ∷ rest → Named words
+  of_alone : (word : Text) (command : Command) (rest : List Text) → command_alone word ≡ Some command → words ≡ word ∷ rest → Named words
 
 abbrev names : Names
-names = (codes "replay", []) ∷ (codes "recover", []) ∷ (codes "dump", []) ∷ (codes "load", []) ∷ []
+names = (codes "replay", []) ∷ (codes "load", []) ∷ names_alone
 
 -- a word is one of the names, or none is met
 named : (word : Text) (rest : List Text) → Named (word ∷ rest) ⊎ (subcommand_met names idle word ≡ None)
@@ -29,24 +30,19 @@ named word rest = first (bytes_eq (codes "replay") word) refl
     is : (name : Text) → bytes_eq name word ≡ true → word ∷ rest ≡ name ∷ rest
     is name same = ap (λ w. w ∷ rest) (sym ((bytes_eq-Decides name word).0 same))
 
-    fourth : (same : Bool) → bytes_eq (codes "load") word ≡ same → bytes_eq (codes "replay") word ≡ false → bytes_eq (codes "recover") word ≡ false
-        → bytes_eq (codes "dump") word ≡ false → Named (word ∷ rest) ⊎ (subcommand_met names idle word ≡ None)
-    fourth true d a b c = inl (of_load rest (is (codes "load") d))
-    fourth false d a b c = inr (rw (a, b, c, d) refl)
+    third : (alone : Option Command) → command_alone word ≡ alone → bytes_eq (codes "load") word ≡ false
+        → bytes_eq (codes "replay") word ≡ false → Named (word ∷ rest) ⊎ (subcommand_met names idle word ≡ None)
+    third (Some command) c b a = inl (of_alone word command rest c refl)
+    third None c b a = inr (rw (a, b) (ap (option_map (λ (s : Text × List Text). s.0)) (none_alone word c)))
 
-    third : (same : Bool) → bytes_eq (codes "dump") word ≡ same → bytes_eq (codes "replay") word ≡ false → bytes_eq (codes "recover") word ≡ false
+    second : (same : Bool) → bytes_eq (codes "load") word ≡ same → bytes_eq (codes "replay") word ≡ false
         → Named (word ∷ rest) ⊎ (subcommand_met names idle word ≡ None)
-    third true c a b = inl (of_dump rest (is (codes "dump") c))
-    third false c a b = fourth (bytes_eq (codes "load") word) refl a b c
-
-    second : (same : Bool) → bytes_eq (codes "recover") word ≡ same → bytes_eq (codes "replay") word ≡ false
-        → Named (word ∷ rest) ⊎ (subcommand_met names idle word ≡ None)
-    second true b a = inl (of_recover rest (is (codes "recover") b))
-    second false b a = third (bytes_eq (codes "dump") word) refl a b
+    second true b a = inl (of_load rest (is (codes "load") b))
+    second false b a = third (command_alone word) refl b a
 
     first : (same : Bool) → bytes_eq (codes "replay") word ≡ same → Named (word ∷ rest) ⊎ (subcommand_met names idle word ≡ None)
     first true a = inl (of_replay rest (is (codes "replay") a))
-    first false a = second (bytes_eq (codes "recover") word) refl a
+    first false a = second (bytes_eq (codes "load") word) refl a
 
 -- the first word's turn does not fail where the words do not
 first_passes : (word : Text) (rest : List Text) → fault_of program_app (word ∷ rest) ≡ []

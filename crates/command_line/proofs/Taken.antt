@@ -6,10 +6,12 @@ use Rattle.clap.specs.Faults.{fault_of}
 use Rattle.command_line.specs.declared.asked.Asked.{Asked}
 use Rattle.command_line.specs.declared.asked.Asked.TheVariants as asks
 use Rattle.command_line.specs.Asked.{IsAskedBy, IsReadFrom, IsReadFromNothing}
-use Rattle.command_line.specs.Program.{has_end, program_app}
-use Rattle.command_line.proofs.Enters.{Enters, leaf, threshold, seed, count, replay_enters, recover_enters, dump_enters, load_enters}
-use Rattle.command_line.proofs.Walks.{from}
-use Rattle.command_line.proofs.Names.{Named, begin_named, of_replay, of_recover, of_dump, of_load}
+use Rattle.command_line.specs.declared.command.Command.{Command}
+use Rattle.command_line.specs.Program.{command_alone, has_end, program_app}
+use Rattle.command_line.proofs.Alone.{alone_enters}
+use Rattle.command_line.proofs.Enters.{Enters, leaf, threshold, seed, count, replay_enters, load_enters}
+use Rattle.command_line.proofs.Walks.{from, neither}
+use Rattle.command_line.proofs.Names.{Named, begin_named, of_replay, of_load, of_alone}
 use Rattle.command_line.proofs.ReplayWords as replays
 use Rattle.command_line.proofs.LoadWords as loads
 use Rattle.command_line.proofs.NoWords.{takes_none}
@@ -47,31 +49,25 @@ replay_asks rest (replays.joined text are found) (asks.Replay None) read =
 replay_asks rest (replays.joined text are found) (asks.Replay (Some given)) read =
     let same : Some given.now ≡ Some text = read.1 ∙ ap (first_of (codes "threshold")) found in
     inr (ap (λ ws. codes "replay" ∷ ws) are ∙ cc)
-replay_asks rest taken asks.Recover read = differs 2 (codes "replay") (codes "recover") read refl
-replay_asks rest taken asks.Dump read = differs 0 (codes "replay") (codes "dump") read refl
 replay_asks rest taken (asks.Load seed_text count_text) read = differs 0 (codes "replay") (codes "load") read.0 refl
+replay_asks rest taken (asks.Alone command) read = cc
 
 load_asks : (rest : List Text) → loads.TakesLoad rest → (asked : Asked)
     → IsReadFrom (codes "load") (rows_after (seed ∷ count ∷ []) [] rest) asked → IsAskedBy (codes "load" ∷ rest) asked
 load_asks rest taken (asks.Replay text) read = differs 0 (codes "load") (codes "replay") read.0 refl
-load_asks rest taken asks.Recover read = differs 0 (codes "load") (codes "recover") read refl
-load_asks rest taken asks.Dump read = differs 0 (codes "load") (codes "dump") read refl
 load_asks rest taken (asks.Load seed_text count_text) read =
     let one : Some seed_text.now ≡ Some taken.seed_text = sym read.1 ∙ ap (first_of (codes "seed")) taken.found in
     let two : Some count_text.now ≡ Some taken.count_text = sym read.2 ∙ ap (first_of (codes "count")) taken.found in
     ap (λ ws. codes "load" ∷ ws) taken.are ∙ cc
+load_asks rest taken (asks.Alone command) read = cc
 
-recover_asks : (rows : List Row) (asked : Asked) → IsReadFrom (codes "recover") rows asked → IsAskedBy (codes "recover" ∷ []) asked
-recover_asks rows (asks.Replay text) read = differs 2 (codes "recover") (codes "replay") read.0 refl
-recover_asks rows asks.Recover read = refl
-recover_asks rows asks.Dump read = differs 0 (codes "recover") (codes "dump") read refl
-recover_asks rows (asks.Load seed_text count_text) read = differs 0 (codes "recover") (codes "load") read.0 refl
-
-dump_asks : (rows : List Row) (asked : Asked) → IsReadFrom (codes "dump") rows asked → IsAskedBy (codes "dump" ∷ []) asked
-dump_asks rows (asks.Replay text) read = differs 0 (codes "dump") (codes "replay") read.0 refl
-dump_asks rows asks.Recover read = differs 0 (codes "dump") (codes "recover") read refl
-dump_asks rows asks.Dump read = refl
-dump_asks rows (asks.Load seed_text count_text) read = differs 0 (codes "dump") (codes "load") read.0 refl
+alone_asks : (word : Text) (named : Command) (rows : List Row) (asked : Asked) → command_alone word ≡ Some named → IsReadFrom word rows asked
+    → IsAskedBy (word ∷ []) asked
+alone_asks word named rows (asks.Replay text) is read =
+    let bad : Some named ≡ None = sym is ∙ ap command_alone read.0 in cc
+alone_asks word named rows (asks.Load seed_text count_text) is read =
+    let bad : Some named ≡ None = sym is ∙ ap command_alone read.0 in cc
+alone_asks word named rows (asks.Alone command) is read = (word, refl, read)
 
 pub answers : (words : List Text) → has_end words ≡ false → fault_of program_app words ≡ [] → Answers words
 answers words whole passes = go (begin_named words whole passes)
@@ -87,28 +83,6 @@ answers words whole passes = go (begin_named words whole passes)
           asks = λ asked read. subst (λ ws. IsAskedBy ws asked) (sym are) (replay_asks rest taken asked read);
           something = λ nothing. nothing.0 refl;
         }
-    go (of_recover rest are) =
-        let none = takes_none (codes "recover") rest (subst (λ ws. has_end ws ≡ false) are whole)
-        (passes_behind (codes "recover") [] words rest recover_enters are passes) in
-        record {
-          name = codes "recover";
-          rows = rows_after [] [] rest;
-          met = ap (subcommand_of program_app) are ∙ recover_enters.found rest;
-          asks = λ asked read. subst (λ ws. IsAskedBy ws asked) (sym (are ∙ ap (λ ws. codes "recover" ∷ ws) none))
-              (recover_asks (rows_after [] [] rest) asked read);
-          something = λ nothing. nothing.1 refl;
-        }
-    go (of_dump rest are) =
-        let none = takes_none (codes "dump") rest (subst (λ ws. has_end ws ≡ false) are whole)
-        (passes_behind (codes "dump") [] words rest dump_enters are passes) in
-        record {
-          name = codes "dump";
-          rows = rows_after [] [] rest;
-          met = ap (subcommand_of program_app) are ∙ dump_enters.found rest;
-          asks = λ asked read. subst (λ ws. IsAskedBy ws asked) (sym (are ∙ ap (λ ws. codes "dump" ∷ ws) none))
-              (dump_asks (rows_after [] [] rest) asked read);
-          something = λ nothing. nothing.2 refl;
-        }
     go (of_load rest are) =
         let taken = loads.takes_load rest (subst (λ ws. has_end ws ≡ false) are whole)
         (passes_behind (codes "load") (seed ∷ count ∷ []) words rest load_enters are passes) in
@@ -117,6 +91,17 @@ answers words whole passes = go (begin_named words whole passes)
           rows = rows_after (seed ∷ count ∷ []) [] rest;
           met = ap (subcommand_of program_app) are ∙ load_enters.found rest;
           asks = λ asked read. subst (λ ws. IsAskedBy ws asked) (sym are) (load_asks rest taken asked read);
-          something = λ nothing. nothing.3 refl taken.seed_text taken.count_text
+          something = λ nothing. nothing.2 refl taken.seed_text taken.count_text
               (ap (first_of (codes "seed")) taken.found) (ap (first_of (codes "count")) taken.found);
+        }
+    go (of_alone word command rest is are) =
+        let none = takes_none word rest (neither _ _ (subst (λ ws. has_end ws ≡ false) are whole)).1
+        (passes_behind word [] words rest (alone_enters word command is) are passes) in
+        record {
+          name = word;
+          rows = rows_after [] [] rest;
+          met = ap (subcommand_of program_app) are ∙ (alone_enters word command is).found rest;
+          asks = λ asked read. subst (λ ws. IsAskedBy ws asked) (sym (are ∙ ap (λ ws. word ∷ ws) none))
+              (alone_asks word command (rows_after [] [] rest) asked is read);
+          something = λ nothing. let bad : Some command ≡ None = sym is ∙ nothing.1 in cc (bad);
         }

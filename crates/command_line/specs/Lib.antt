@@ -1,4 +1,4 @@
 pub mod Numbers
 pub mod Commands
-pub mod Asked
 pub mod Program
+pub mod Asked

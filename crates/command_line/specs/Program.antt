@@ -1,12 +1,14 @@
 -- The program, as `clap` is told of it. Nothing of it is seen from outside.
-use Rattle.std.specs.Prelude.{◌≡◌, Bool, true, false, [], Some, List, ℕ, codes}
+use Rattle.std.specs.Prelude.{◌≡◌, Bool, true, false, [], ◌∷◌, Option, Some, None, List, ℕ, codes, if◌then◌else◌}
 use Rattle.std.specs.List.{list_any}
 use Rattle.std.specs.Str.{bytes_eq}
-use Rattle.clap.specs.Walk.{Rule}
+use Rattle.clap.specs.Walk.{Names, Rule, Text}
 use Rattle.clap.specs.Simple.{App, app_of, new_app, new_rule, new_shape, with_rule, with_subcommand}
 use Rattle.clap.specs.declared.builder.action.ArgAction.TheVariants.{Set}
 use Rattle.clap.specs.declared.builder.command.Command.{Command}
 use Rattle.clap.specs.declared.builder.command.Command.TheViews.{out-Command}
+use Rattle.command_line.specs.declared.command.Command as commands
+use Rattle.command_line.specs.declared.command.Command.TheVariants.{Recover, Dump}
 
 -- `--threshold`, of which a second use is refused
 unfoldable pub threshold_rule : Rule
@@ -43,7 +45,17 @@ bare_app = record {
 unfoldable pub program_app : App
 program_app =
     with_subcommand (with_subcommand (with_subcommand (with_subcommand bare_app replay_app.top)
-    (new_shape (codes "recover"))) (new_shape (codes "dump"))) load_app.top
+    load_app.top) (new_shape (codes "recover"))) (new_shape (codes "dump"))
+
+-- the command that a word is alone
+abbrev pub command_alone : Text → Option commands.Command
+command_alone word = if bytes_eq word (codes "recover") then Some Recover
+    else if bytes_eq word (codes "dump") then Some Dump
+    else None
+
+-- the names of these, as `clap` has them
+abbrev pub names_alone : Names
+names_alone = (codes "recover", []) ∷ (codes "dump", []) ∷ []
 
 -- The command is told so, and none of its arguments is of its subcommands too.
 abbrev pub IsToldAs : App → Command → Type 0

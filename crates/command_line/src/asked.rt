@@ -12,9 +12,9 @@ use stall_monitor::THRESHOLD_MAX;
 #[derive(Clone, Copy)]
 pub(crate) enum Asked<'a> {
     Replay { threshold: Option<&'a str> },
-    Recover,
-    Dump,
     Load { seed: &'a str, count: &'a str },
+    /// A command that is one word alone.
+    Alone { command: Command },
 }
 
 impl Asked<'_> {
@@ -32,12 +32,11 @@ impl Asked<'_> {
             } => Some(Command::Replay {
                 threshold: small_number_in(text, THRESHOLD_MAX)?,
             }),
-            Asked::Recover => Some(Command::Recover),
-            Asked::Dump => Some(Command::Dump),
             Asked::Load { seed, count } => Some(Command::Load {
                 seed: number_in(seed, 0, u64::MAX)?,
                 batches: small_number_in(count, LOAD_MAX)?,
             }),
+            Asked::Alone { command } => Some(command),
         }
     }
 }

@@ -1,5 +1,8 @@
 //! The commands.
 
+ghost use Rattle.std.specs.Prelude.{◌≡◌};
+ghost use Rattle.command_line.specs.Program.{command_alone};
+
 use thiserror::Error;
 use wal_base::NoMemory;
 
@@ -28,6 +31,21 @@ pub enum Command {
         /// How many they are.
         batches: u32,
     },
+}
+
+impl Command {
+    /// The command that this word is alone.
+    pub(crate) fn alone(word: &str) -> Option<Command>
+        ensures { result ≡ command_alone word.now }
+    {
+        if word == "recover" {
+            Some(Command::Recover)
+        } else if word == "dump" {
+            Some(Command::Dump)
+        } else {
+            None
+        }
+    }
 }
 
 /// Why words are not read as a command.

@@ -9,6 +9,7 @@ ghost use Rattle.command_line.specs.Commands.{IsNoCommand};
 ghost use Rattle.command_line.specs.Asked.{IsAskedBy, IsReadFrom, IsReadFromNothing};
 
 use crate::asked::Asked;
+use crate::command::Command;
 use crate::program::program;
 use clap::ArgMatches;
 use clap::error::ErrorKind;
@@ -53,12 +54,12 @@ fn asked_in<'a>(matches: &ArgMatches<'a>) -> Option<Asked<'a>>
         "replay" => Some(Asked::Replay {
             threshold: found.get_str("threshold"),
         }),
-        "recover" => Some(Asked::Recover),
-        "dump" => Some(Asked::Dump),
         "load" => Some(Asked::Load {
             seed: found.get_str("seed")?,
             count: found.get_str("count")?,
         }),
-        _ => None,
+        _ => Some(Asked::Alone {
+            command: Command::alone(name)?,
+        }),
     }
 }

@@ -12,9 +12,9 @@ pub(crate) fn program<'a>(alloc: Global) -> Result<Command<'a>, AllocError>
 {
     bare(alloc)
         .subcommand(replay(alloc)?)?
+        .subcommand(load(alloc)?)?
         .subcommand(Command::new(alloc, "recover"))?
-        .subcommand(Command::new(alloc, "dump"))?
-        .subcommand(load(alloc)?)
+        .subcommand(Command::new(alloc, "dump"))
 }
 
 /// No command yet, and none of `clap`'s own words.

@@ -12,14 +12,14 @@ returns c =
     let one_is = one.shape c.in_ok-replay.ensures.1 ∙ ap₂ with_subcommand c.bare.ensures.0 (ap top c.in_ok-replay.ensures.0) in
     let one_local = one.globals ∙ ap₂ ◌||◌ c.bare.ensures.1 c.in_ok-replay.ensures.1 in
     let two = c.in_ok-subcommand-2.ensures in
-    let two_is = two.shape c.new.ensures.local ∙ ap₂ with_subcommand one_is (ap top c.new.ensures.app) in
-    let two_local = two.globals ∙ ap₂ ◌||◌ one_local c.new.ensures.local in
+    let two_is = two.shape c.in_ok-load.ensures.1 ∙ ap₂ with_subcommand one_is (ap top c.in_ok-load.ensures.0) in
+    let two_local = two.globals ∙ ap₂ ◌||◌ one_local c.in_ok-load.ensures.1 in
     let three = c.in_ok-subcommand-3.ensures in
-    let three_is = three.shape c.new-2.ensures.local ∙ ap₂ with_subcommand two_is (ap top c.new-2.ensures.app) in
-    let three_local = three.globals ∙ ap₂ ◌||◌ two_local c.new-2.ensures.local in
+    let three_is = three.shape c.new.ensures.local ∙ ap₂ with_subcommand two_is (ap top c.new.ensures.app) in
+    let three_local = three.globals ∙ ap₂ ◌||◌ two_local c.new.ensures.local in
     IfOk-weaker c.subcommand-4.result _ _
     (λ command adds. (
-      adds.shape c.in_ok-load.ensures.1 ∙ ap₂ with_subcommand three_is (ap top c.in_ok-load.ensures.0),
-      adds.globals ∙ ap₂ ◌||◌ three_local c.in_ok-load.ensures.1,
+      adds.shape c.new-2.ensures.local ∙ ap₂ with_subcommand three_is (ap top c.new-2.ensures.app),
+      adds.globals ∙ ap₂ ◌||◌ three_local c.new-2.ensures.local,
     ))
     c.subcommand-4.ensures
