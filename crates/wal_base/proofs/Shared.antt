@@ -14,3 +14,7 @@ part_of_part bytes start end from to order within =
     let whole : take (to - from) (drop from (take (end - start) rest)) ≡ take (to - from) (drop from rest) =
     ap (take (to - from)) left ∙ take-take (to - from) (end - start - from) (drop from rest) (omega (arith, inside)) in
     ap (λ (n : ℕ). take n (drop (start + from) bytes)) long ∙ ap (take (to - from)) (sym (drop-drop from start bytes)) ∙ sym whole
+
+-- A place within a part is no farther than the part is long.
+pub within_part : (bytes : List ℕ) (start end to : ℕ) → to ≤ length (slice_range bytes start end) → to ≤ end - start
+within_part bytes start end to within = omega (arith, length-take (end - start) (drop start bytes), within)

@@ -7,25 +7,30 @@ use crate::NoMemory;
 use std::alloc::Global;
 use std::fmt;
 use std::marker::Model;
+use std::mem::size_of;
 use std::sync::Arc;
 
-/// Bytes that stay as they are: a part of bytes that others may share. Contracts see the list of them.
+/// Bytes that stay as they are: a part of bytes that others may share, of which there are less than 2^32. Contracts see
+/// the list of them.
 #[derive(Drop)]
 pub struct Blob {
     bytes: Arc<Vec<u8>>,
-    from: usize,
-    to: usize,
+    from: u32,
+    to: u32,
 }
 
+// Each entry and each node of an index has two of them.
+const _: () = prove!(size_of::<Blob>() == 16);
+
 impl Model for Blob {
-    ghost use Rattle.std.specs.Prelude.{List, ℕ, ◌≤◌, length, slice_range};
+    ghost use Rattle.std.specs.Prelude.{List, ℕ, ◌≤◌, ◌<◌, ◌^◌, length, slice_range};
     ghost use Rattle.std.specs.Arc.{arc_value};
 
     ghost Value = { List ℕ };
 
     ghost view = { λ a. slice_range (arc_value a.bytes).items a.from a.to };
 
-    ghost invariant = { λ a. (a.from ≤ a.to) × (a.to ≤ length (arc_value a.bytes).items) };
+    ghost invariant = { λ a. (a.from ≤ a.to) × (a.to ≤ length (arc_value a.bytes).items) × (a.to < 2 ^ 32) };
 }
 
 impl Blob {
@@ -37,11 +42,13 @@ impl Blob {
         Blob::of_vec(alloc, bytes)
     }
 
-    /// Takes the bytes over, with no copy.
+    /// Takes the bytes over, with no copy. 2^32 bytes and more are out of memory.
     pub fn of_vec(alloc: Global, bytes: Vec<u8>) -> Result<Blob, NoMemory>
         ensures { IfOk result (λ blob. blob ≡ bytes.items) }
     {
-        let to = bytes.len();
+        let Ok(to) = u32::try_from(bytes.len()) else {
+            return Err(NoMemory);
+        };
         let bytes = Arc::new(alloc, bytes)?;
         Ok(Blob { bytes, from: 0, to })
     }
@@ -52,11 +59,12 @@ impl Blob {
         requires within { to ≤ length self.now }
         ensures { IfOk result (λ blob. blob ≡ slice_range self.now from to) }
     {
+        let start = self.from as usize;
         let bytes = Arc::try_clone(&self.bytes)?;
         Ok(Blob {
             bytes,
-            from: self.from + from,
-            to: self.from + to,
+            from: (start + from) as u32,
+            to: (start + to) as u32,
         })
     }
 
@@ -76,7 +84,7 @@ impl Blob {
     pub fn as_slice(&self) -> &[u8]
         ensures { result.now ≡ self.now }
     {
-        &self.bytes[self.from..self.to]
+        &self.bytes[self.from as usize..self.to as usize]
     }
 }
 
