@@ -34,6 +34,10 @@ written_entries entries = flat_map written_entry entries
 unfoldable pub written : Batch → List ℕ
 written batch = to_le_bytes w64 batch.first ++ to_le_bytes w32 (count_of batch.entries) ++ written_entries batch.entries
 
+-- the bytes that are written for the batch of one Set
+abbrev pub written_set : ℕ → List ℕ → List ℕ → List ℕ
+written_set first key value = written (record { first = first; entries = Set key value ∷ [] })
+
 -- the length of a batch of these entries, as it is written
 abbrev pub written_len : List Entry → ℕ
 written_len entries = 12 + length (written_entries entries)

@@ -162,11 +162,18 @@ fn header_of(bytes: &[u8]) -> Option<(u64, u32)>
     Some((first, said))
 }
 
-/// For how many entries a batch wants room, as far as its header says so: no more than there can be, since an entry has at
-/// least two bytes.
+/// How many entries a block has at most, unless one batch has more.
+pub(crate) const BLOCK: usize = 1024;
+
+/// How many bytes the texts of the batches of a block have at most, unless one batch has more. A block keeps them all
+/// until the last of its batches is let go.
+pub(crate) const BLOCK_TEXT: usize = 1 << 17;
+
+/// For how many entries a batch gets room before they are read. That is what its header says, which may be wrong: so no
+/// more than a block, or four times the memory of the text, since an entry takes 64 bytes there.
 pub(crate) fn room_of(text: &[u8]) -> usize {
     match header_of(text) {
-        Some((_, said)) => cmp::min(said as usize, text.len() / 2),
+        Some((_, said)) => cmp::min(said as usize, cmp::max(BLOCK, text.len() / 16)),
         None => 0,
     }
 }

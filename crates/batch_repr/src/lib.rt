@@ -1,9 +1,10 @@
 //! The text of a batch: entries are built, numbered, and stand as the bytes that go to the log; and bytes are
 //! read back as the batch that they spell.
 //!
-//! Stands on `wal_base` alone. The layers above use two contracts: the bytes of a numbered batch are the one
-//! written spelling of what was built, and numbering takes no memory; and reading answers the batch exactly
-//! where the bytes spell one, and otherwise the first fault from left to right.
+//! Stands on `wal_base` alone. The layers above use three contracts: the bytes of a numbered batch are the one
+//! written spelling of what was built, and numbering takes no memory; `put_set` adds that spelling of one Set to
+//! a text; and reading answers the batch exactly where the bytes spell one, and otherwise the first fault from
+//! left to right.
 //!
 //! What holds of each value here: a builder and an unnumbered batch hold entries within their limits, spelled
 //! after a header that is not written yet; a numbered batch holds its written text, and an entry of it is
@@ -36,6 +37,7 @@ pub use shared_entries::SharedEntries;
 pub use theorems::{bytes_have_one_reading, fits_exactly_where_not_refused, shortest_is_written};
 pub use unnumbered::{Unnumbered, UnnumberedBytes};
 pub use unwritten::Unwritten;
+pub use writing::put_set;
 
 #[cfg(test)]
 mod tests;

@@ -13,7 +13,7 @@ ghost use Rattle.batch_repr.specs.Returned.{MemoryOr, OkOrMemory, ErrOrMemory};
 ghost use Rattle.batch_repr.specs.Blocks.{AddsSpelled, AddsRead, batches_over, Divide};
 
 use crate::batch::{Batch, Batches};
-use crate::decoding::{read_batch, room_of};
+use crate::decoding::{BLOCK, BLOCK_TEXT, read_batch, room_of};
 use crate::fault::BatchFault;
 use crate::shared_entries::SharedEntries;
 use std::alloc::Global;
@@ -21,9 +21,6 @@ use std::cmp;
 use std::marker::Model;
 use std::sync::Arc;
 use wal_base::{Blob, Entry, NoMemory};
-
-/// How many entries a block has at most, unless one batch has more.
-const BLOCK: usize = 1024;
 
 /// A batch whose entries stand in the block that is being filled, after those of the batches before it.
 #[derive(Drop)]
@@ -35,8 +32,8 @@ struct Head {
 
 /// Reads batches, one text after another. Contracts see the list of those that were read.
 ///
-/// Their entries stand in blocks, one batch's after another's, and each batch has a part of one: so no batch takes memory of its
-/// own.
+/// Their entries stand in blocks, one batch's after another's, and each batch has a part of one: so no batch takes
+/// memory of its own.
 #[derive(Drop)]
 pub struct BatchReader {
     alloc: Global,
@@ -44,6 +41,8 @@ pub struct BatchReader {
     batches: Batches,
     /// The entries of the others.
     block: Vec<Entry>,
+    /// How many bytes their texts have.
+    text_len: usize,
     heads: Vec<Head>,
 }
 
@@ -72,6 +71,7 @@ impl BatchReader {
             alloc,
             batches,
             block,
+            text_len: 0,
             heads,
         })
     }
@@ -98,6 +98,7 @@ impl BatchReader {
             mut batches,
             block,
             heads,
+            ..
         } = self;
         share_block(alloc, &mut batches, block, &heads)?;
         Ok(batches)
@@ -108,12 +109,14 @@ impl BatchReader {
         ensures met { MatchResult result (AddsRead text.now self) (MemoryOr (IsFirstFault text.now)) }
         ensures bytes { OnOk result (IsBytes text.now) }
     {
+        let len = text.as_slice().len();
         let BatchReader {
             alloc,
             batches,
             mut block,
+            text_len,
             mut heads,
-        } = self.with_room(room_of(text.as_slice()))?;
+        } = self.with_room(room_of(text.as_slice()), len)?;
         let first = read_batch(&mut block, text)?;
         let Ok(end) = u32::try_from(block.len()) else {
             return Err(BatchFault::NoMemory);
@@ -123,15 +126,17 @@ impl BatchReader {
             alloc,
             batches,
             block,
+            text_len: text_len.saturating_add(len),
             heads,
         })
     }
 
-    /// Begins the next block where so many entries more do not stand in this one.
-    fn with_room(self, more: usize) -> Result<BatchReader, NoMemory>
+    /// Begins the next block where so many entries more, of a text of this length, do not stand in this one.
+    fn with_room(self, more: usize, len: usize) -> Result<BatchReader, NoMemory>
         ensures { IfOk result (λ reader. reader ≡ self) }
     {
-        if self.block.len().saturating_add(more) <= BLOCK {
+        let is_short = self.text_len.saturating_add(len) <= BLOCK_TEXT;
+        if is_short && self.block.len().saturating_add(more) <= BLOCK {
             return Ok(self);
         }
         let BatchReader {
@@ -139,17 +144,26 @@ impl BatchReader {
             mut batches,
             block,
             mut heads,
+            ..
         } = self;
         share_block(alloc, &mut batches, block, &heads)?;
         heads.clear();
-        let block = Vec::with_capacity(alloc, cmp::max(more, BLOCK))?;
+        let block = Vec::with_capacity(alloc, next_room(more, len))?;
         Ok(BatchReader {
             alloc,
             batches,
             block,
+            text_len: 0,
             heads,
         })
     }
+}
+
+/// For how many entries the next block has room, which begins with a text of this length and so many entries: as many as
+/// texts like that one would fill it with, and it grows where later ones have more.
+fn next_room(more: usize, len: usize) -> usize {
+    let texts = BLOCK_TEXT / cmp::max(len, 1);
+    cmp::max(more, cmp::min(more.saturating_mul(texts), BLOCK))
 }
 
 /// Adds the batches that these heads have in a block. They share it, and it keeps no more room than they need.

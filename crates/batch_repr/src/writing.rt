@@ -2,12 +2,13 @@
 
 ghost use Rattle.std.specs.Prelude.{◌≡◌, ◌<◌, ◌≤◌, ◌^◌, ◌++◌, length, take, drop, OnOk};
 ghost use Rattle.std.specs.Int.{w32, w64, to_le_bytes};
+ghost use Rattle.wal_base.specs.declared.entry.Entry.TheVariants.{Set};
 ghost use Rattle.batch_repr.specs.Limits.{IsWithinLimits};
-ghost use Rattle.batch_repr.specs.Written.{varint, byte_string, written_entry};
+ghost use Rattle.batch_repr.specs.Written.{varint, byte_string, written_entry, written_set};
 
 use crate::limits::HEADER;
 use std::alloc::AllocError;
-use wal_base::Entry;
+use wal_base::{Entry, NoMemory};
 
 /// Adds the shortest spelling of a number. After an `Err` more bytes may stand after the old ones.
 fn push_varint(out: &mut Vec<u8>, n: u32) -> Result<(), AllocError>
@@ -41,11 +42,7 @@ pub(crate) fn push_entry(out: &mut Vec<u8>, entry: &Entry) -> Result<(), AllocEr
     ensures kept { take (length out.old.items) out.new.items ≡ out.old.items }
 {
     match entry {
-        Entry::Set { key, value } => {
-            out.push(1)?;
-            push_string(out, key.as_slice())?;
-            push_string(out, value.as_slice())
-        }
+        Entry::Set { key, value } => push_set(out, key.as_slice(), value.as_slice()),
         Entry::Delete { key } => {
             out.push(0)?;
             push_string(out, key.as_slice())
@@ -60,6 +57,32 @@ pub(crate) fn push_entry(out: &mut Vec<u8>, entry: &Entry) -> Result<(), AllocEr
             push_string(out, end.as_slice())
         }
     }
+}
+
+/// Adds a Set, as an entry. After an `Err` more bytes may stand after the old ones.
+#[tactic(auto, unfolding(crate::specs::Written::written_entry))]
+fn push_set(out: &mut Vec<u8>, key: &[u8], value: &[u8]) -> Result<(), AllocError>
+    requires { IsWithinLimits (Set key.now value.now) }
+    ensures ok { OnOk result
+        (out.new.items ≡ out.old.items ++ written_entry (Set key.now value.now)) }
+    ensures kept { take (length out.old.items) out.new.items ≡ out.old.items }
+{
+    out.push(1)?;
+    push_string(out, key)?;
+    push_string(out, value)
+}
+
+/// Adds the text of a batch of one Set: the one written spelling. The key and the value are copied to there alone.
+///
+/// After an `Err` more bytes may stand after the old ones.
+pub fn put_set(out: &mut Vec<u8>, first: u64, key: &[u8], value: &[u8]) -> Result<(), NoMemory>
+    requires { IsWithinLimits (Set key.now value.now) }
+    ensures { OnOk result (out.new.items ≡ out.old.items ++ written_set first key.now value.now) }
+{
+    out.extend_from_slice(&first.to_le_bytes())?;
+    out.extend_from_slice(&1u32.to_le_bytes())?;
+    push_set(out, key, value)?;
+    Ok(())
 }
 
 /// Writes a header over the first bytes.
