@@ -1,4 +1,4 @@
--- The step that both walks of `src/call_log.rt` share: a struct without fields is made of nothing.
+-- The step that the walks of `CallLog`, and of other structs without fields, share: one is made of nothing.
 use Rattle.std.proofs.Common.{List, [], ◌∷◌, refl}
 use seplogic.Ra.Ura.{Ura}
 use mir.Val.{Val, vstruct, vnil}

@@ -4,6 +4,7 @@ use Rattle.std.proofs.lemmas.List.{take-append-drop, take-append-le, take-take}
 use Rattle.wal_base.specs.Prefixes.{IsPrefixOf}
 use Rattle.disk_face.specs.declared.Side.{Side}
 use Rattle.disk_face.specs.declared.SegName.{SegName}
+use Rattle.disk_face.specs.declared.FilePlace.TheVariants.{Segment, Table}
 use Rattle.disk_face.specs.View.{Place, segment, table, Act, creating, writing, syncing, File, Files}
 use Rattle.disk_face.specs.Image.{IsImageOf, IsImage, IsChanceFree, IsSoundFile, IsSound, IsRested, as_read, dirs_as_read}
 use Rattle.disk_face.specs.Calls.{AfterDone, AfterFailed}
@@ -44,20 +45,20 @@ pub removed_image : (p : Place) (f g : Option File) (o : Option (List ℕ)) → 
 removed_image p f None o removed im = inl (image_of_none p o im)
 removed_image p None (Some g) o removed im = absurd removed
 removed_image p (Some f) (Some g) None removed im = inl refl
-removed_image (segment side name) (Some f) (Some g) (Some bytes) removed im = inr
+removed_image (Segment side name) (Some f) (Some g) (Some bytes) removed im = inr
     (λ made. subst (λ (h : File). IsPrefixOf (take h.stable h.sent) bytes) removed (im (ap (λ (h : File). h.created) removed ∙ made)))
-removed_image (table upto) (Some f) (Some g) (Some bytes) removed im = inr
+removed_image (Table upto) (Some f) (Some g) (Some bytes) removed im = inr
     (λ made. im (ap (λ (h : File). h.created) removed ∙ made) ∙ ap (λ (h : File). h.sent) removed)
 
 -- a sync only takes images away
 pub sync_image : (p : Place) (f : File) (o : Option (List ℕ)) → IsSoundFile f → IsImageOf p (Some (record f { stable = f.done })) o → IsImageOf p (Some f) o
 sync_image p f None sound im = im
-sync_image (segment side name) f (Some bytes) sound im = λ made. begins_shorter f.stable f.done f.sent bytes sound.stable (im made)
-sync_image (table n) f (Some bytes) sound im = im
+sync_image (Segment side name) f (Some bytes) sound im = λ made. begins_shorter f.stable f.done f.sent bytes sound.stable (im made)
+sync_image (Table n) f (Some bytes) sound im = im
 
 -- the start of a write adds no image of a segment
 pub write_image : (side : Side) (name : SegName) (f : File) (more : List ℕ) (o : Option (List ℕ)) → IsSoundFile f
-    → IsImageOf (segment side name) (Some (record f { sent = f.sent ++ more })) o → IsImageOf (segment side name) (Some f) o
+    → IsImageOf (Segment side name) (Some (record f { sent = f.sent ++ more })) o → IsImageOf (segment side name) (Some f) o
 write_image side name f more None sound im = im
 write_image side name f more (Some bytes) sound im = λ made. subst (λ (l : List ℕ). IsPrefixOf l bytes)
     (take-append-le f.stable f.sent more (omega (arith, sound.stable, sound.done))) (im made)
@@ -66,13 +67,13 @@ write_image side name f more (Some bytes) sound im = λ made. subst (λ (l : Lis
 same_image : (p : Place) (f : File) (done : ℕ) (reads : List ℕ) (o : Option (List ℕ))
     → IsImageOf p (Some (record f { done = done; reads = reads })) o → IsImageOf p (Some f) o
 same_image p f done reads None im = im
-same_image (segment side name) f done reads (Some bytes) im = im
-same_image (table upto) f done reads (Some bytes) im = im
+same_image (Segment side name) f done reads (Some bytes) im = im
+same_image (Table upto) f done reads (Some bytes) im = im
 
 created_image : (p : Place) (f : File) (o : Option (List ℕ)) → IsImageOf p (Some (record f { created = true })) o → IsImageOf p (Some f) o
 created_image p f None im = λ made. im refl
-created_image (segment side name) f (Some bytes) im = λ made. im refl
-created_image (table upto) f (Some bytes) im = λ made. im refl
+created_image (Segment side name) f (Some bytes) im = λ made. im refl
+created_image (Table upto) f (Some bytes) im = λ made. im refl
 
 -- an operation that is done only takes images away
 pub done_image : (p : Place) (act : Act) (f g : Option File) (o : Option (List ℕ)) → ((h : File) → f ≡ Some h → IsSoundFile h)
@@ -92,8 +93,8 @@ failed_image p syncing (Some f) g o after im = subst (λ (h : Option File). IsIm
 -- what a read finds of a sound file is one of its images
 pub read_image : (p : Place) (f : Option File) → ((g : File) → f ≡ Some g → IsSound p g) → IsImageOf p f (as_read p f)
 read_image p None sound = tt
-read_image (table upto) (Some f) sound = (sound f refl).1
-read_image (segment side name) (Some f) sound = go f.created refl (sound f refl)
+read_image (Table upto) (Some f) sound = (sound f refl).1
+read_image (Segment side name) (Some f) sound = go f.created refl (sound f refl)
   where
     go : (made : Bool) → f.created ≡ made → IsSound (segment side name) f → IsImageOf (segment side name) (Some f) (as_read (segment side name) (Some f))
     go false is s = rw is (λ e. cc)
@@ -101,8 +102,8 @@ read_image (segment side name) (Some f) sound = go f.created refl (sound f refl)
 
 -- a created file reads as it stands
 pub read_created : (p : Place) (o : Option File) (f : File) → o ≡ Some f → f.created ≡ true → as_read p o ≡ Some f.reads
-read_created (segment side name) o f is created = ap (as_read (segment side name)) is ∙ rw created refl
-read_created (table upto) o f is created = ap (as_read (table upto)) is
+read_created (Segment side name) o f is created = ap (as_read (segment side name)) is ∙ rw created refl
+read_created (Table upto) o f is created = ap (as_read (table upto)) is
 
 -- a disk as it reads is one of its images
 pub reads_as_image : (files : Files) → ((p : Place) (f : File) → files p ≡ Some f → IsSound p f) → IsImage files (dirs_as_read files)

@@ -1,12 +1,12 @@
 -- Digits with zeros in front are read back as their number, and hold no dash.
-use Rattle.std.proofs.Common.{◌≡◌, ◌≢◌, ℕ, zero, suc, ◌+◌, ◌-◌, ◌<◌, ◌^◌, List, [], ◌∷◌, ◌++◌, length, get_or, replicate, Option, Some, None, Bor, Result, Ok, Err, take, refl, sym, ◌∙◌, ap, arith}
+use Rattle.std.proofs.Common.{◌≡◌, ◌≢◌, ℕ, zero, suc, ◌+◌, ◌-◌, ◌<◌, ◌^◌, List, [], ◌∷◌, ◌++◌, length, get_or, replicate, Option, Some, None, Bor, Result, Ok, Err, take, drop, refl, sym, ◌∙◌, ap, arith}
 use Rattle.std.specs.Fmt.{decimal}
 use Rattle.std.specs.Str.{IsAscii, IsUtf8}
 use Rattle.std.specs.Str.Parse.{AllDigits, digits_value, ParsesUnsigned}
 use Rattle.std.proofs.lemmas.Str.Parse.{IsNumeralModel, numerals_by_value, tells_digits, parse_gives, not_in_digits}
 use Rattle.std.proofs.lemmas.Fmt.{decimal_nonempty, digits_decimal, digits_value-decimal, IsAscii-from_digits}
 use Rattle.std.proofs.lemmas.List.{length-append, append-nil}
-use Rattle.std.proofs.Math.Seq.{take-append_seam}
+use Rattle.std.proofs.Math.Seq.{take-append_seam, drop-append_seam}
 use Rattle.std.proofs.lemmas.Str.{IsAscii-append, IsUtf8-from_ascii}
 use Rattle.std.proofs.lemmas.Str.Pattern.{IsSplitOnceResult, split_parts, split_after}
 use Rattle.std.specs.Option.{MatchOption}
@@ -101,6 +101,12 @@ pub cut_off : (text bytes end stem : List ℕ) → text ≡ bytes ++ end → ste
 cut_off text bytes end stem is cut =
     let size : length text - length end ≡ length bytes = omega (arith, ap length is ∙ length-append bytes end) in
     cut ∙ ap (λ (n : ℕ). take n text) size ∙ ap (take (length bytes)) is ∙ take-append_seam bytes end
+
+-- the end of a text that ends so
+pub end_is : (text bytes end : List ℕ) → text ≡ bytes ++ end → drop (length text - length end) text ≡ end
+end_is text bytes end is =
+    let size : length text - length end ≡ length bytes = omega (arith, ap length is ∙ length-append bytes end) in
+    ap (λ (n : ℕ). drop n text) size ∙ ap (drop (length bytes)) is ∙ drop-append_seam bytes end
 
 -- ASCII is read as text
 pub read_ascii : {E : Type 0} (stem bytes : List ℕ) (Bad : E → Type 0) (r : Result (Bor (List ℕ)) E) (o : Option (Bor (List ℕ))) → IsAscii bytes → stem ≡ bytes

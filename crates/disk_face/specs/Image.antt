@@ -1,7 +1,8 @@
 -- What a crash may leave of the files, and when no torn chunk passes for a whole one (docs/formats/disk.md, "Images").
 use Rattle.std.specs.Prelude.{◌≡◌, ℕ, ◌≤◌, ◌%◌, ◌^◌, true, false, List, [], take, drop, length, Option, Some, None, if◌then◌else◌}
 use Rattle.wal_base.specs.Prefixes.{IsPrefixOf}
-use Rattle.disk_face.specs.View.{Place, segment, table, File, Files, Dirs, DiskView, files}
+use Rattle.disk_face.specs.declared.FilePlace.TheVariants.{Segment, Table}
+use Rattle.disk_face.specs.View.{Place, File, Files, Dirs, DiskView, files}
 
 -- What a crash may leave of one file. It may be gone if it was not created, or is leaving.
 -- The bytes of a segment past the stable ones are free. A table is there whole.
@@ -9,8 +10,8 @@ abbrev pub IsImageOf : Place → Option File → Option (List ℕ) → Type 0
 IsImageOf p None None = Unit {0}
 IsImageOf p None (Some bytes) = ⊥
 IsImageOf p (Some f) None = (f.created ≡ true → f.leaving ≡ true)
-IsImageOf (segment s n) (Some f) (Some bytes) = (f.created ≡ true → IsPrefixOf (take f.stable f.sent) bytes)
-IsImageOf (table n) (Some f) (Some bytes) = (f.created ≡ true → bytes ≡ f.sent)
+IsImageOf (Segment s n) (Some f) (Some bytes) = (f.created ≡ true → IsPrefixOf (take f.stable f.sent) bytes)
+IsImageOf (Table n) (Some f) (Some bytes) = (f.created ≡ true → bytes ≡ f.sent)
 
 -- what a crash may leave of all files: no other file is there
 abbrev pub IsImage : Files → Dirs → Type 0
@@ -22,8 +23,8 @@ log_number wal = wal % 2 ^ 32
 
 -- the log number of a file's chunks: the low 32 bits of its number
 abbrev pub log_of : Place → ℕ
-log_of (segment s n) = log_number n.wal
-log_of (table upto) = log_number upto
+log_of (Segment s n) = log_number n.wal
+log_of (Table upto) = log_number upto
 
 -- `Chunk bytes at log size` says that a whole chunk of that log number and of that many bytes stands there.
 -- Wherever one stands in a file of the image, the same bytes were sent to that place.
@@ -41,8 +42,8 @@ pub record IsSoundFile (f : File) : Type 0 where
 -- What is true of the file at a place: it is sound, nothing was sent to a segment that is not created, and a table that is
 -- there reads as it was sent.
 abbrev pub IsSound : Place → File → Type 0
-IsSound (segment s n) f = IsSoundFile f × (f.created ≡ false → f.sent ≡ [])
-IsSound (table n) f = IsSoundFile f × (f.created ≡ true → f.reads ≡ f.sent)
+IsSound (Segment s n) f = IsSoundFile f × (f.created ≡ false → f.sent ≡ [])
+IsSound (Table n) f = IsSoundFile f × (f.created ≡ true → f.reads ≡ f.sent)
 
 -- a file is whole: created, read as it was sent, and sent in full
 pub record IsRestedFile (f : File) : Type 0 where
@@ -58,8 +59,8 @@ IsRested files = (p : Place) (f : File) → files p ≡ Some f → IsRestedFile 
 -- What a read finds of the file at a place. The creation of a segment must be completed; a table reads as it stands, whole or not.
 abbrev pub as_read : Place → Option File → Option (List ℕ)
 as_read p None = None
-as_read (segment s n) (Some f) = if f.created then Some f.reads else None
-as_read (table n) (Some f) = Some f.reads
+as_read (Segment s n) (Some f) = if f.created then Some f.reads else None
+as_read (Table n) (Some f) = Some f.reads
 
 -- the directories as they read now
 abbrev pub dirs_as_read : Files → Dirs

@@ -33,6 +33,14 @@ own_polls_of d = on_side d.polls
 abbrev pub outer : {D : Type 0} → (D → DiskView) → ScriptedDisk D → DiskView
 outer view d = stalled (view d.inner) d.polls.primary d.polls.secondary d.calls
 
+-- this holds of what the outer disk meant, and of what it means now
+abbrev pub Outside : {D : Type 0} → (D → DiskView) → (DiskView → DiskView → Type 0) → ScriptedDisk D → ScriptedDisk D → Type 0
+Outside view Goes old new = Goes (outer view old) (outer view new)
+
+-- this holds of what the disk within meant, and of what it means now
+abbrev pub Inside : {D : Type 0} → (D → DiskView) → (DiskView → DiskView → Type 0) → ScriptedDisk D → ScriptedDisk D → Type 0
+Inside view Goes old new = Goes (within view old) (within view new)
+
 -- the polls that the outer disk answers itself stay
 abbrev pub OwnPollsStay : {D : Type 0} → ScriptedDisk D → ScriptedDisk D → Type 0
 OwnPollsStay old new = own_polls_of new ≡ own_polls_of old

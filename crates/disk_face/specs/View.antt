@@ -3,15 +3,22 @@ use Rattle.std.specs.Prelude.{◌≡◌, ◌≢◌, ℕ, ◌≤◌, Bool, true, 
 use Rattle.disk_face.specs.declared.Side.{Side}
 use Rattle.disk_face.specs.declared.Side.TheVariants.{Primary, Secondary}
 use Rattle.disk_face.specs.declared.SegName.{SegName}
+use Rattle.disk_face.specs.declared.FilePlace.{FilePlace}
+use Rattle.disk_face.specs.declared.FilePlace.TheVariants.{Segment, Table}
 use Rattle.disk_face.specs.declared.Listed.{Listed}
 use Rattle.disk_face.specs.declared.TableListed.{TableListed}
 use Rattle.disk_face.specs.declared.OpId.{OpId}
 use Rattle.disk_face.specs.declared.Progress.{Progress}
 
 -- where a file stands: a segment in one of the two directories, or a table in the primary one
-pub data Place : Type 0 where
-  segment : Side → SegName → Place
-  table : ℕ → Place
+abbrev pub Place : Type 0
+Place = FilePlace
+
+abbrev pub segment : Side → SegName → Place
+segment side name = Segment side name
+
+abbrev pub table : ℕ → Place
+table upto = Table upto
 
 -- what an operation in flight does to its file
 pub data Act : Type 0 where

@@ -2,12 +2,12 @@
 
 ghost use Rattle.std.specs.Prelude.{◌≡◌, List, [], ◌∷◌, is_ok};
 ghost use Rattle.std.specs.Borrow.{ftrue};
-ghost use Rattle.disk_face.specs.View.{segment, table, Call, was_listed, was_read, was_started, was_polled};
+ghost use Rattle.disk_face.specs.View.{Call, was_listed, was_read, was_started, was_polled};
 ghost use Rattle.disk_face.specs.View.{tables_were_listed, table_was_read, table_was_put, was_removed};
 ghost use Rattle.disk_face.specs.Asked.{answered};
 ghost use Rattle.disk_face.specs.Calls.{flight_of};
 
-use crate::{Disk, DiskErr, DiskOp, Names, OpId, Progress, SegName, Side, TableNames};
+use crate::{Disk, DiskErr, DiskOp, FilePlace, Names, OpId, Progress, SegName, Side, TableNames};
 use std::fmt;
 use std::marker::Model;
 
@@ -74,18 +74,11 @@ impl CallLog {
         *self = self.made(&(upto, bytes), answer);
     }
 
-    /// A segment was to be removed, with this answer.
-    pub fn note_drop(&mut self, side: Side, name: SegName, answer: &Result<(), DiskErr>)
-        ensures { self.new.calls ≡ was_removed (segment side name) (is_ok answer.now) ∷ self.old.calls }
+    /// A file was to be removed, with this answer.
+    pub fn note_removal(&mut self, place: FilePlace, answer: &Result<(), DiskErr>)
+        ensures { self.new.calls ≡ was_removed place (is_ok answer.now) ∷ self.old.calls }
     {
-        *self = self.made(&(side, name), answer);
-    }
-
-    /// A table was to be removed, with this answer.
-    pub fn note_table_drop(&mut self, upto: u64, answer: &Result<(), DiskErr>)
-        ensures { self.new.calls ≡ was_removed (table upto) (is_ok answer.now) ∷ self.old.calls }
-    {
-        *self = self.made(&upto, answer);
+        *self = self.made(&place, answer);
     }
 
     /// This operation was put in flight.

@@ -47,6 +47,30 @@ pub struct SegName {
     pub index: u32,
 }
 
+/// The name of a table: the number of the last WAL whose batches it holds, at most 999,999,999,999.
+#[derive(Clone, Copy, Debug, PartialEq, Eq)]
+pub struct TableName {
+    /// The number.
+    pub upto: u64,
+}
+
+/// Where a file stands.
+#[derive(Clone, Copy, Debug, PartialEq, Eq)]
+pub enum FilePlace {
+    /// A segment, in one of the two directories.
+    Segment {
+        /// In which directory.
+        side: Side,
+        /// Which segment.
+        name: SegName,
+    },
+    /// A table, in the primary directory.
+    Table {
+        /// The number of the last WAL whose batches it holds, at most 999,999,999,999.
+        upto: u64,
+    },
+}
+
 /// A segment of a listing.
 #[derive(Clone, Copy, Debug, PartialEq, Eq)]
 pub struct Listed {

@@ -1,14 +1,16 @@
-//! The names of segments: one spelling each, read and written.
+//! The names of segments and of tables: one spelling each, read and written.
 
 ghost use Rattle.std.specs.Prelude.{◌≡◌, ◌+◌, ◌≤◌, ◌<◌, ◌++◌, length, IfSome, IfNone, OnOk, OnErr, Some};
 ghost use Rattle.std.specs.Option.{MatchOption};
 ghost use Rattle.arrayvec.specs.ArrayVec.{array_vec_len};
 ghost use Rattle.disk_face.specs.declared.SegName.{SegName};
+ghost use Rattle.disk_face.specs.declared.TableName.{TableName};
 ghost use Rattle.disk_face.specs.Image.{log_number};
 ghost use Rattle.disk_face.specs.Listing.{IsSegmentName};
 ghost use Rattle.disk_face.specs.Names.{filled, seg_text, NamesNone, FindsNamed, OfEachStem, CutsStem};
+ghost use Rattle.disk_face.specs.Names.{table_name_text, NamesTable, NamesNoTable, FindsTable};
 
-use crate::SegName;
+use crate::{SegName, TableName};
 use arrayvec::ArrayVec;
 use wal_base::{Buf, NoMemory};
 
@@ -18,7 +20,7 @@ pub const WAL_MAX: u64 = 999_999_999_999;
 /// The greatest index of a segment: its three digits are all 9.
 pub const INDEX_MAX: u32 = 999;
 
-/// Room for two numbers of 20 digits, a dash and `.log`.
+/// Room for two numbers of 20 digits, a dash and an end of four.
 const TEXT_ROOM: usize = 45;
 
 impl SegName {
@@ -56,21 +58,52 @@ impl SegName {
     }
 }
 
-/// The only name of which the text may be the spelling.
+impl TableName {
+    /// Reads the one spelling of a name. `None` exactly where the text is the spelling of no name.
+    pub fn parse(text: &[u8]) -> Option<TableName>
+        ensures some { IfSome result (NamesTable text.now) }
+        ensures none { IfNone result (NamesNoTable text.now) }
+    {
+        let name = table_candidate(text)?;
+        if name.upto > WAL_MAX || spell_table(name).as_slice() != text {
+            return None;
+        }
+        Some(name)
+    }
+
+    /// Adds the spelling of the name. After an error nothing was added.
+    pub fn put(&self, out: &mut Buf) -> Result<(), NoMemory>
+        ensures ok { OnOk result (out.new ≡ out.old ++ table_name_text self.now.upto) }
+        ensures err { OnErr result (out.new ≡ out.old) }
+    {
+        let spelling = spell_table(*self);
+        out.append(spelling.as_slice())
+    }
+}
+
+/// The only name of a segment of which the text may be the spelling.
 fn candidate(text: &[u8]) -> Option<SegName>
     ensures { FindsNamed text.now result }
 {
-    let (wal, index) = split(stem(text)?);
+    let (wal, index) = split(stem(text, b".log")?);
     let wal = wal.parse::<u64>().ok()?;
     let index = index.parse::<u32>().ok()?;
     Some(SegName { wal, index })
 }
 
-/// What stands before `.log`, if it is text.
-fn stem(text: &[u8]) -> Option<&str>
-    ensures { OfEachStem text.now (λ bytes. MatchOption result ⊥ (λ stem. stem.now ≡ bytes)) }
+/// The only name of a table of which the text may be the spelling.
+fn table_candidate(text: &[u8]) -> Option<TableName>
+    ensures { FindsTable text.now result }
 {
-    let stem = text.strip_suffix(b".log")?;
+    let upto = stem(text, b".tab")?.parse::<u64>().ok()?;
+    Some(TableName { upto })
+}
+
+/// What stands before that end, if it is text.
+fn stem<'t>(text: &'t [u8], end: &[u8]) -> Option<&'t str>
+    ensures { OfEachStem end.now text.now (λ bytes. MatchOption result ⊥ (λ s. s.now ≡ bytes)) }
+{
+    let stem = text.strip_suffix(end)?;
     std::str::from_utf8(stem).ok()
 }
 
@@ -94,6 +127,15 @@ fn spell(name: SegName) -> ArrayVec<u8, TEXT_ROOM>
         push_filled(&mut text, 3, u64::from(name.index));
     }
     push_all(&mut text, b".log");
+    text
+}
+
+fn spell_table(name: TableName) -> ArrayVec<u8, TEXT_ROOM>
+    ensures { result.items ≡ table_name_text name.upto }
+{
+    let mut text = ArrayVec::new();
+    push_filled(&mut text, 6, name.upto);
+    push_all(&mut text, b".tab");
     text
 }
 

@@ -9,8 +9,8 @@ ghost use Rattle.disk_face.specs.Tables.{AsksForTable, NotesPut, NotesRemoval};
 ghost use Rattle.disk_face.specs.Seen.{bare};
 
 use crate::{
-    BySide, CallLog, Disk, DiskErr, DiskOp, Names, OpId, Progress, SegName, Side, StallDisk,
-    TableDisk, TableNames,
+    BySide, CallLog, Disk, DiskErr, DiskOp, FilePlace, Names, OpId, Progress, SegName, Side,
+    StallDisk, TableDisk, TableNames,
 };
 use std::alloc::Global;
 use wal_base::NoMemory;
@@ -150,7 +150,8 @@ impl TableDisk for NoDisk {
     {
         // There is no segment to remove.
         let answer = Err(DiskErr::NoMemory);
-        self.log.note_drop(side, name, &answer);
+        self.log
+            .note_removal(FilePlace::Segment { side, name }, &answer);
         answer
     }
 
@@ -162,7 +163,7 @@ impl TableDisk for NoDisk {
     {
         // There is no table to remove.
         let answer = Err(DiskErr::NoMemory);
-        self.log.note_table_drop(upto, &answer);
+        self.log.note_removal(FilePlace::Table { upto }, &answer);
         answer
     }
 }

@@ -2,15 +2,18 @@
 
 ghost use Rattle.std.specs.Prelude.{◌≡◌, ◌≤◌, ◌<◌, ℕ, length, drop, IfOk, OnErr, IsSome, IsTrue};
 ghost use Rattle.disk_face.specs.declared.Side.{Side};
-ghost use Rattle.disk_face.specs.View.{DiskView, segment, was_polled, IsFree};
-ghost use Rattle.disk_face.specs.Listing.{IsAscending, AreSegmentNames};
-ghost use Rattle.disk_face.specs.Answers.{CountsFailure, CountsNoOther, NotesListing, AsksFor, NotesStart, ListsFiles, ReadsSegment, ReadsNoFile, MayStartOn, IsStarted};
+ghost use Rattle.disk_face.specs.declared.Side.TheVariants.{Primary};
+ghost use Rattle.disk_face.specs.View.{DiskView, segment, table, was_polled, IsFree};
+ghost use Rattle.disk_face.specs.Listing.{IsAscending, AreSegmentNames, AreTablesAscending, AreTableNumbers, IsTableNumber};
+ghost use Rattle.disk_face.specs.Answers.{CountsFailure, CountsNoOther, NotesListing, AsksFor, NotesStart, ListsFiles, ReadsFile, ReadsSegment, ReadsNoFile, MayStartOn, IsStarted};
 ghost use Rattle.disk_face.specs.Calls.{place_of, GoesOn, SameDisk, StallsStay, FaultsStayBut, StallsStayBut, Notes, Polled, Stalls};
+ghost use Rattle.disk_face.specs.Tables.{NotesTables, AsksForTable, NotesPut, NotesRemoval, ListsTables, Puts, Drops, DropsTable, StandsWhole, IsGone, IsThere};
 ghost use Rattle.disk_face.specs.Script.{stalled, TellsOf, BeginsOver, RaisesOwnPolls};
-ghost use Rattle.disk_face.specs.Seen.{outer, within, own_polls_of, OwnPollsStay, OuterSends, AnswersWhileOwn, PassesOnElse};
+ghost use Rattle.disk_face.specs.Seen.{outer, within, own_polls_of, OwnPollsStay, OuterSends, AnswersWhileOwn, PassesOnElse, Outside, Inside};
 
 use crate::{
-    BySide, CallLog, Disk, DiskErr, DiskOp, Names, OpId, Progress, SegName, Side, StallDisk,
+    BySide, CallLog, Disk, DiskErr, DiskOp, FilePlace, Names, OpId, Progress, SegName, Side,
+    StallDisk, TableDisk, TableNames,
 };
 use std::marker::Model;
 use wal_base::NoMemory;
@@ -185,5 +188,111 @@ impl<D: Disk> StallDisk for ScriptDisk<D> {
         ensures within { within D.view self.new ≡ within D.view self.old }
     {
         self.polls.add(side, polls);
+    }
+}
+
+impl<D: TableDisk> TableDisk for ScriptDisk<D> {
+    fn tables(&mut self) -> Result<TableNames, DiskErr>
+        ensures goes_on { Outside D.view GoesOn self.old self.new }
+        ensures same { Outside D.view SameDisk self.old self.new }
+        ensures failed { Outside D.view (CountsFailure Primary result) self.old self.new }
+        ensures steady { Outside D.view (CountsNoOther Primary result) self.old self.new }
+        ensures stalls { Outside D.view StallsStay self.old self.new }
+        ensures noted { Outside D.view (NotesTables result) self.old self.new }
+        ensures ascending { IfOk result AreTablesAscending }
+        ensures numbers { IfOk result AreTableNumbers }
+        ensures tables { ListsTables D.tells result (outer D.view self.old) }
+
+        // The polls that this disk answers itself stay, and the disk within is asked once.
+        ensures own { OwnPollsStay self.old self.new }
+        ensures once { Inside D.view (NotesTables result) self.old self.new }
+    {
+        let answer = self.inner.tables();
+        self.log.note_tables(&answer);
+        answer
+    }
+
+    fn read_table(&mut self, upto: u64, at: u64, buf: &mut [u8]) -> Result<usize, DiskErr>
+        requires { IsTableNumber upto }
+        ensures goes_on { Outside D.view GoesOn self.old self.new }
+        ensures same { Outside D.view SameDisk self.old self.new }
+        ensures failed { Outside D.view (CountsFailure Primary result) self.old self.new }
+        ensures steady { Outside D.view (CountsNoOther Primary result) self.old self.new }
+        ensures stalls { Outside D.view StallsStay self.old self.new }
+        ensures noted { Outside D.view (AsksForTable upto buf.old) self.old self.new }
+        ensures within { IfOk result (λ n. n ≤ length buf.new) }
+        ensures beyond { IfOk result (λ n. drop n buf.new ≡ drop n buf.old) }
+        ensures bytes { ReadsFile D.tells (table upto) at buf.new result (outer D.view self.old) }
+        ensures no_file { ReadsNoFile D.tells (table upto) result (outer D.view self.old) }
+
+        // The polls that this disk answers itself stay, and the disk within is asked once.
+        ensures own { OwnPollsStay self.old self.new }
+        ensures once { Inside D.view (AsksForTable upto buf.old) self.old self.new }
+    {
+        self.log.note_table_read(upto, buf.len());
+        self.inner.read_table(upto, at, buf)
+    }
+
+    fn put_table(&mut self, upto: u64, bytes: &[u8]) -> Result<(), DiskErr>
+        requires { IsTableNumber upto }
+        ensures goes_on { Outside D.view GoesOn self.old self.new }
+        ensures flights { (outer D.view self.new).in_flight ≡ (outer D.view self.old).in_flight }
+        ensures failed { Outside D.view (CountsFailure Primary result) self.old self.new }
+        ensures steady { Outside D.view (CountsNoOther Primary result) self.old self.new }
+        ensures stalls { Outside D.view StallsStay self.old self.new }
+        ensures noted { Outside D.view (NotesPut upto bytes.now result) self.old self.new }
+        ensures moments { Outside D.view (Puts D.tells upto bytes.now) self.old self.new }
+        ensures put { StandsWhole D.tells (table upto) bytes.now result (outer D.view self.new) }
+
+        // The polls that this disk answers itself stay, and the disk within is asked once.
+        ensures own { OwnPollsStay self.old self.new }
+        ensures once { Inside D.view (NotesPut upto bytes.now result) self.old self.new }
+    {
+        let answer = self.inner.put_table(upto, bytes);
+        self.log.note_put(upto, bytes, &answer);
+        answer
+    }
+
+    fn drop_segment(&mut self, side: Side, name: SegName) -> Result<(), DiskErr>
+        requires free { IsFree (outer D.view self.old) (segment side name) }
+        requires there { IsThere D.tells (segment side name) (outer D.view self.old) }
+        ensures goes_on { Outside D.view GoesOn self.old self.new }
+        ensures flights { (outer D.view self.new).in_flight ≡ (outer D.view self.old).in_flight }
+        ensures failed { Outside D.view (CountsFailure side result) self.old self.new }
+        ensures steady { Outside D.view (CountsNoOther side result) self.old self.new }
+        ensures stalls { Outside D.view StallsStay self.old self.new }
+        ensures noted { Outside D.view (NotesRemoval (segment side name) result) self.old self.new }
+        ensures moments { Outside D.view (Drops D.tells side name) self.old self.new }
+        ensures gone { IsGone D.tells (segment side name) result (outer D.view self.new) }
+
+        // The polls that this disk answers itself stay, and the disk within is asked once.
+        ensures own { OwnPollsStay self.old self.new }
+        ensures once { Inside D.view (NotesRemoval (segment side name) result) self.old self.new }
+    {
+        let answer = self.inner.drop_segment(side, name);
+        self.log
+            .note_removal(FilePlace::Segment { side, name }, &answer);
+        answer
+    }
+
+    fn drop_table(&mut self, upto: u64) -> Result<(), DiskErr>
+        requires number { IsTableNumber upto }
+        requires there { IsThere D.tells (table upto) (outer D.view self.old) }
+        ensures goes_on { Outside D.view GoesOn self.old self.new }
+        ensures flights { (outer D.view self.new).in_flight ≡ (outer D.view self.old).in_flight }
+        ensures failed { Outside D.view (CountsFailure Primary result) self.old self.new }
+        ensures steady { Outside D.view (CountsNoOther Primary result) self.old self.new }
+        ensures stalls { Outside D.view StallsStay self.old self.new }
+        ensures noted { Outside D.view (NotesRemoval (table upto) result) self.old self.new }
+        ensures moments { Outside D.view (DropsTable D.tells upto) self.old self.new }
+        ensures gone { IsGone D.tells (table upto) result (outer D.view self.new) }
+
+        // The polls that this disk answers itself stay, and the disk within is asked once.
+        ensures own { OwnPollsStay self.old self.new }
+        ensures once { Inside D.view (NotesRemoval (table upto) result) self.old self.new }
+    {
+        let answer = self.inner.drop_table(upto);
+        self.log.note_removal(FilePlace::Table { upto }, &answer);
+        answer
     }
 }

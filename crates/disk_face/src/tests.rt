@@ -4,7 +4,7 @@ ghost use Rattle.disk_face.specs.Listing.{IsTableNumber};
 
 use crate::{
     BySide, CallLog, Disk, DiskErr, DiskOp, NoDisk, OpId, Progress, ScriptDisk, SegName, Side,
-    StallDisk, TableDisk,
+    StallDisk, TableDisk, TableName,
 };
 use std::mem::size_of;
 use wal_base::{Buf, NoMemory};
@@ -90,11 +90,16 @@ fn a_script_passes_calls_on_to_the_disk_within(rt: HostRuntime) {
     for side in [Side::Primary, Side::Secondary] {
         assert_eq!(rt; listed_on(&mut disk, side), Ok(0));
         assert_eq!(rt; read_two(&mut disk, side, name), (Ok(0), *b".."));
+        assert_eq!(rt; drop_segment(&mut disk, side, name), Err(DiskErr::NoMemory));
     }
     assert_eq!(rt;
         create_stalled(&mut disk, Side::Primary, name),
         Err(DiskErr::NoMemory)
     );
+    assert_eq!(rt; tables_on(&mut disk), Ok(0));
+    assert_eq!(rt; read_table_two(&mut disk, 0), (Ok(0), *b".."));
+    assert_eq!(rt; put_table(&mut disk, 1), Err(DiskErr::NoMemory));
+    assert_eq!(rt; drop_table(&mut disk, 1), Err(DiskErr::NoMemory));
     assert_eq!(rt; tables_on(&mut disk.into_inner()), Ok(0));
 }
 
@@ -155,14 +160,51 @@ fn a_name_has_one_spelling(rt: HostRuntime) {
 }
 
 #[test]
+fn a_table_has_one_spelling(rt: HostRuntime) {
+    let spellings = [
+        ("000000.tab", 0),
+        ("000012.tab", 12),
+        ("1234567.tab", 1_234_567),
+        ("999999999999.tab", 999_999_999_999),
+    ];
+    for (text, upto) in spellings {
+        let name = TableName { upto };
+        assert_eq!(rt; TableName::parse(text.as_bytes()), Some(name), "at {text}");
+    }
+    let others = [
+        "",
+        ".tab",
+        "000001",
+        "1.tab",
+        "0000001.tab",
+        "1000000000000.tab",
+        "18446744073709551616.tab",
+        "000001.TAB",
+        "000001.tab.tab",
+        "000001.tab ",
+        "000001.tab.tmp",
+        "00000a.tab",
+        "-00001.tab",
+        "+00001.tab",
+        "000001-001.tab",
+        "000001.log",
+    ];
+    for text in others {
+        assert_eq!(rt; TableName::parse(text.as_bytes()), None, "at {text}");
+    }
+    assert_eq!(rt; SegName::parse(b"000001.tab"), None);
+}
+
+#[test]
 fn names_are_put_after_one_another(rt: HostRuntime) -> Result<(), NoMemory> {
     let mut text = Buf::new(rt.alloc())?;
     for (wal, index) in [(1, 0), (1, 1), (1_234_567, 12), (999_999_999_999, 999)] {
         SegName { wal, index }.put(&mut text)?;
     }
+    TableName { upto: 12 }.put(&mut text)?;
     assert_eq!(rt;
         text.as_slice(),
-        b"000001.log000001-001.log1234567-012.log999999999999-999.log".as_slice()
+        b"000001.log000001-001.log1234567-012.log999999999999-999.log000012.tab".as_slice()
     );
     Ok(())
 }

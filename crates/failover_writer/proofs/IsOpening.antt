@@ -14,6 +14,7 @@ use Rattle.block_record.specs.declared.records.Shown.{Shown}
 use Rattle.block_record.specs.ReadOut.{leaves_open, chunk_end, place_after, stopped_at, IsChain, block_front, IsChunkRow, ShowsCorrupt, TellsShown, ChunksStandIn}
 use Rattle.disk_face.specs.declared.Side.{Side}
 use Rattle.disk_face.specs.declared.SegName.{SegName}
+use Rattle.disk_face.specs.declared.FilePlace.TheVariants.{Segment, Table}
 use Rattle.disk_face.specs.View.{Place, segment, table, File, Files, Dirs}
 use Rattle.disk_face.specs.Listing.{IsSegmentName}
 use Rattle.disk_face.specs.Image.{IsImageOf, IsImage, IsChanceFree, IsRestedFile, IsRested, as_read, dirs_as_read, log_number}
@@ -281,8 +282,8 @@ as_read_synced p o n (inl e) = ap (as_read p) e
 as_read_synced p o n (inr (f, was, is)) = ap (as_read p) is ∙ same p ∙ ap (as_read p) (sym was)
   where
     same : (q : Place) → as_read q (Some (record f { stable = f.done })) ≡ as_read q (Some f)
-    same (segment side name) = refl
-    same (table upto) = refl
+    same (Segment side name) = refl
+    same (Table upto) = refl
 
 pub read_synced : (old now : Files) → OnlySynced old now → dirs_as_read now ≡ dirs_as_read old
 read_synced old now only = λ i p. as_read_synced p (old p) (now p) (only p) i

@@ -6,6 +6,7 @@ use Rattle.crc_chunk.specs.Chunk.{IsChunkOf}
 use Rattle.batch_repr.specs.declared.batch.Batch.{Batch}
 use Rattle.disk_face.specs.declared.Side.{Side}
 use Rattle.disk_face.specs.declared.SegName.{SegName}
+use Rattle.disk_face.specs.declared.FilePlace.TheVariants.{Segment, Table}
 use Rattle.disk_face.specs.View.{Place, segment, table, Files, Dirs, DiskView, files}
 use Rattle.disk_face.specs.Image.{IsImageOf, IsImage, IsChanceFree}
 use Rattle.disk_face.proofs.Laws.{same_number, image_of_none}
@@ -51,17 +52,17 @@ is_own_or_not wal name = elim (same_number name.wal wal) [
 
 -- The place is none of a segment of the WAL.
 IsNotOwn : ℕ → Place → Type 0
-IsNotOwn wal (segment side name) = IsOwn wal name → ⊥
-IsNotOwn wal (table upto) = Unit {0}
+IsNotOwn wal (Segment side name) = IsOwn wal name → ⊥
+IsNotOwn wal (Table upto) = Unit {0}
 
 elsewhere_not_own : (wal : ℕ) (p : Place) → IsElsewhere wal p → IsNotOwn wal p
 unfolding IsNotOwn IsOwn
-elsewhere_not_own wal (segment side name) other = λ own. other own.0
-elsewhere_not_own wal (table upto) other = tt
+elsewhere_not_own wal (Segment side name) other = λ own. other own.0
+elsewhere_not_own wal (Table upto) other = tt
 
 without : ℕ → Dirs → Dirs
-without wal dirs (segment side name) = chosen (is_own_or_not wal name) None (dirs (segment side name))
-without wal dirs (table upto) = dirs (table upto)
+without wal dirs (Segment side name) = chosen (is_own_or_not wal name) None (dirs (segment side name))
+without wal dirs (Table upto) = dirs (table upto)
 
 without_own : (wal : ℕ) (dirs : Dirs) (side : Side) (name : SegName) → IsOwn wal name → without wal dirs (segment side name) ≡ None
 unfolding without
@@ -69,17 +70,17 @@ without_own wal dirs side name own = chosen_left (is_own_or_not wal name) None (
 
 without_other : (wal : ℕ) (dirs : Dirs) (p : Place) → IsNotOwn wal p → without wal dirs p ≡ dirs p
 unfolding without IsNotOwn
-without_other wal dirs (segment side name) other = chosen_right (is_own_or_not wal name) None (dirs (segment side name)) other
-without_other wal dirs (table upto) e = refl
+without_other wal dirs (Segment side name) other = chosen_right (is_own_or_not wal name) None (dirs (segment side name)) other
+without_other wal dirs (Table upto) e = refl
 
 -- A place is one of the WAL's, or not.
 own_or_not : (wal : ℕ) (p : Place) → ((side : Side) × (name : SegName) × (p ≡ segment side name) × IsOwn wal name) ⊎ IsNotOwn wal p
 unfolding IsNotOwn
-own_or_not wal (segment side name) = elim (is_own_or_not wal name) [
+own_or_not wal (Segment side name) = elim (is_own_or_not wal name) [
   | inl own ↦ inl (side, name, refl, own)
   | inr other ↦ inr other
 ]
-own_or_not wal (table upto) = inr tt
+own_or_not wal (Table upto) = inr tt
 
 -- ---- the other files
 

@@ -8,6 +8,7 @@ use Rattle.crc_chunk.specs.Chunk.{IsChunkOf}
 use Rattle.crc_chunk.proofs.Laws.{same_in_whole}
 use Rattle.block_record.specs.Framing.{laid}
 use Rattle.batch_repr.specs.declared.batch.Batch.{Batch}
+use Rattle.disk_face.specs.declared.FilePlace.TheVariants.{Segment, Table}
 use Rattle.disk_face.specs.View.{Place, segment, table, File, Files, DiskView, files}
 use Rattle.disk_face.specs.Image.{IsImageOf, IsImage, IsChanceFree, IsRestedFile, IsRested, log_of, as_read, dirs_as_read}
 use Rattle.disk_face.specs.Calls.{fresh}
@@ -36,8 +37,8 @@ record ReadsAsImage (place : Place) (f : Option File) : Type 0 where
 
 -- What was sent to a file is an image of it.
 sent_is_image : (place : Place) (f : File) → IsImageOf place (Some f) (Some f.sent)
-sent_is_image (segment side name) f = λ made. (drop f.stable f.sent, sym (take-append-drop f.stable f.sent))
-sent_is_image (table upto) f = λ made. refl
+sent_is_image (Segment side name) f = λ made. (drop f.stable f.sent, sym (take-append-drop f.stable f.sent))
+sent_is_image (Table upto) f = λ made. refl
 
 rested_reads : (place : Place) (f : Option File) → ((g : File) → f ≡ Some g → IsRestedFile g) → ReadsAsImage place f
 rested_reads place None rested = record { image = tt; was_sent = λ g bytes at size is read here. absurd cc }

@@ -5,6 +5,7 @@ use Rattle.std.specs.List.{AllByRecursion}
 use Rattle.std.proofs.lemmas.List.Elements.{Contains-append_cases, Contains-push_cases}
 use Rattle.std.proofs.lemmas.List.Sums.{sum_by-append}
 use Rattle.disk_face.specs.declared.Side.{Side}
+use Rattle.disk_face.specs.declared.FilePlace.TheVariants.{Segment, Table}
 use Rattle.disk_face.specs.View.{Place, segment, table, DiskView}
 use Rattle.batch_repr.specs.declared.batch.Batch.{Batch}
 use Rattle.log_writer.specs.Writer.{Writer}
@@ -15,8 +16,8 @@ use Rattle.failover_writer.specs.Ranges.{side_at, IsSegmentAt, AreJoined, sent_t
 
 -- the index that a place names
 abbrev pub index_in : Place → ℕ
-index_in (segment side name) = name.index
-index_in (table number) = 0
+index_in (Segment side name) = name.index
+index_in (Table number) = 0
 
 -- the place of the segment of this index
 abbrev pub place_at : ℕ → ℕ → Place

@@ -6,6 +6,7 @@ use Rattle.batch_repr.specs.declared.batch.Batch.{Batch}
 use Rattle.batch_repr.specs.Batches.{end_after}
 use Rattle.disk_face.specs.declared.Side.{Side}
 use Rattle.disk_face.specs.declared.SegName.{SegName}
+use Rattle.disk_face.specs.declared.FilePlace.TheVariants.{Segment, Table}
 use Rattle.disk_face.specs.View.{Place, segment, table, File, Files, Dirs, DiskView, files, AtEachMoment}
 use Rattle.disk_face.specs.Image.{IsImage, IsChanceFree}
 use Rattle.disk_face.specs.Listing.{IsSegmentName}
@@ -17,8 +18,8 @@ use Rattle.failover_writer.specs.Ranges.{StandsFor}
 
 -- the place is not of this WAL
 abbrev pub IsElsewhere : ℕ → Place → Type 0
-IsElsewhere wal (segment side name) = name.wal ≢ wal
-IsElsewhere wal (table upto) = Unit {0}
+IsElsewhere wal (Segment side name) = name.wal ≢ wal
+IsElsewhere wal (Table upto) = Unit {0}
 
 -- These are the segments of the WAL in the directories, by their indexes.
 pub record AreSegmentsOf (dirs : Dirs) (wal : ℕ) (segments : List Stored) : Type 0 where
