@@ -1,88 +1,116 @@
 -- What one moment more means for the whole disk.
-use Rattle.std.proofs.Common.{◌≡◌, ◌≢◌, ◌≤◌, ◌++◌, ℕ, suc, false, List, [], ◌∷◌, length, take, drop, ap, sym, ◌∙◌, refl, subst, Option, Some, None, arith, length-append}
+use Rattle.std.proofs.Common.{◌≡◌, ◌≤◌, ◌<◌, ℕ, zero, suc, List, [], ◌∷◌, ◌++◌, length, length-append, drop, ap, sym, ◌∙◌, refl, subst, Option, Some, None, arith}
 use Rattle.std.specs.Prelude.{Result, Ok, Err, OnErr}
-use Rattle.std.proofs.lemmas.List.{take_all, take-append-le}
+use Rattle.std.proofs.lemmas.List.{drop-append-le}
+use native.Mathlib.Decide.{dec_le}
 use Rattle.disk_face.specs.declared.Side.{Side}
-use Rattle.disk_face.specs.declared.SegName.{SegName}
-use Rattle.disk_face.specs.View.{Place, segment, Flight, Act, creating, writing, syncing, File, Files, Call, files}
-use Rattle.disk_face.specs.Calls.{fresh, GoesOn, ChangesFile, AfterDone, AfterFailed, MayStart, after_start}
+use Rattle.disk_face.specs.View.{Place, Flight, Act, creating, writing, syncing, File, Files, Call, files}
+use Rattle.disk_face.specs.Calls.{GoesOn, ChangesFile, AfterFailed}
+use Rattle.disk_face.specs.Tables.{ChangesInCall}
 use Rattle.mem_disk.specs.declared.parts.MemFile.{MemFile}
 use Rattle.mem_disk.specs.declared.parts.MemOp.{MemOp}
-use Rattle.mem_disk.specs.declared.parts.Undo.{Undo}
-use Rattle.mem_disk.specs.Mem.{files_held, undone, undo_at, all_undone, mem_view, flight_in, ChangesAt}
-use Rattle.mem_disk.proofs.Held.{held_fresh}
-use Rattle.mem_disk.proofs.Past.{StaysBehind, undone_back, past_kept, now_held}
+use Rattle.mem_disk.specs.Finite.{now_held}
+use Rattle.mem_disk.specs.Mem.{files_held, first_or_now, at_moment, mem_view, flight_in, ChangesAt}
 
-all_taken : (xs : List ℕ) → take (length xs) xs ≡ xs
-all_taken xs = take_all (length xs) xs (omega arith)
+-- the files that stand now
+pub files_now : (past : List (List MemFile)) (now : List MemFile) → files_held (at_moment past now (length past)) ≡ files_held now
+files_now past now = ap files_held (now_held past now)
 
-pub stays_same : (f : Option File) → StaysBehind f f
-stays_same None = tt
-stays_same (Some f) = all_taken f.sent
+-- a moment that has passed stays what it was
+pub past_kept : (past : List (List MemFile)) (old new : List MemFile) (k : ℕ) → k ≤ length past → at_moment (past ++ old ∷ []) new k ≡ at_moment past old k
+past_kept past old new k le = ap (first_or_now new) (drop-append-le k past (old ∷ []) le) ∙ go (drop k past)
+  where
+    go : (later : List (List MemFile)) → first_or_now new (later ++ old ∷ []) ≡ first_or_now old later
+    go [] = refl
+    go (was ∷ later) = refl
 
-pub stays_done : (act : Act) (f g : Option File) → AfterDone act f g → StaysBehind f g
-stays_done act None g h = tt
-stays_done creating (Some f) g h = subst (λ (o : Option File). StaysBehind (Some f) o) (sym h) (all_taken f.sent)
-stays_done writing (Some f) g h = subst (λ (o : Option File). StaysBehind (Some f) o) (sym h.2) (all_taken f.sent)
-stays_done syncing (Some f) g h = subst (λ (o : Option File). StaysBehind (Some f) o) (sym h) (all_taken f.sent)
+drop_none : (n : ℕ) → ◌≡◌ {A = List (List MemFile)} (drop n []) []
+drop_none zero = refl
+drop_none (suc n) = refl
 
-stays_begun : (act : Act) (bytes : List ℕ) (f g : Option File) → ((x : File) → f ≡ Some x → x.created ≡ false → x ≡ fresh) → MayStart act f
-    → g ≡ after_start act bytes f → StaysBehind f g
-stays_begun act bytes None g new may e = tt
-stays_begun creating bytes (Some f) g new may e =
-    let f_is : f ≡ fresh = new f refl may in
-    subst (λ (o : Option File). StaysBehind (Some f) o) (sym e) (subst (λ (x : File). take (length x.sent) [] ≡ x.sent) (sym f_is) refl)
-stays_begun writing bytes (Some f) g new may e =
-    subst (λ (o : Option File). StaysBehind (Some f) o) (sym e) (take-append-le (length f.sent) f.sent bytes (omega arith) ∙ all_taken f.sent)
-stays_begun syncing bytes (Some f) g new may e = subst (λ (o : Option File). StaysBehind (Some f) o) (sym e) (all_taken f.sent)
+-- from the last moment on the files stand as they do now
+now_after : (past : List (List MemFile)) (now : List MemFile) (k : ℕ) → length past ≤ k → at_moment past now k ≡ now
+now_after [] now k le = ap (first_or_now now) (drop_none k)
+now_after (was ∷ past) now zero le = absurd (omega (arith, le))
+now_after (was ∷ past) now (suc k) le = now_after past now k (omega (arith, le))
 
-pub stays_started : (act : Act) (bytes : List ℕ) (fs : List MemFile) (p : Place) (g : Option File) → MayStart act (files_held fs p)
-    → g ≡ after_start act bytes (files_held fs p) → StaysBehind (files_held fs p) g
-stays_started act bytes fs p g may e = stays_begun act bytes (files_held fs p) g (λ x is. held_fresh fs p x is) may e
+module _ (fs gs : List MemFile) (ops ops' : List MemOp) (past past' : List (List MemFile)) (f f' p p' : Side → ℕ) (calls calls' : List Call)
+    (longer : past' ≡ past ++ fs ∷ []) where
+  next : length past' ≡ suc (length past)
+  next = ap length longer ∙ omega (arith, length-append past (fs ∷ []))
 
-module _ (fs gs : List MemFile) (ops ops' : List MemOp) (log log' : List Undo) (u : Undo) (f f' p p' : Side → ℕ) (calls calls' : List Call)
-    (longer : log' ≡ log ++ u ∷ []) where
-  next : length log' ≡ suc (length log)
-  next = ap length longer ∙ omega (arith, length-append log (u ∷ []))
-
-  pub goes_on_moment : undone u (files_held gs) ≡ files_held fs → ((s : Side) → f s ≤ f' s) → ((s : Side) → p' s ≤ p s)
-      → GoesOn (mem_view fs ops log f p calls) (mem_view gs ops' log' f' p' calls')
+  pub goes_on_moment : ((s : Side) → f s ≤ f' s) → ((s : Side) → p' s ≤ p s)
+      → GoesOn (mem_view fs ops past f p calls) (mem_view gs ops' past' f' p' calls')
   unfolding mem_view
-  goes_on_moment back faults polls = record {
+  goes_on_moment faults polls = record {
     faults = faults;
     polls = polls;
     clock = omega (arith, next);
-    history = λ k le. ap (λ (l : List Undo). all_undone (drop k l) (files_held gs)) longer ∙ past_kept log u (files_held fs) (files_held gs) back k le;
+    history = λ k le. ap (λ (l : List (List MemFile)). files_held (at_moment l gs k)) longer ∙ ap files_held (past_kept past fs gs k le);
   }
 
   pub changes_moment : (place : Place) (Change : Option File → Option File → Type 0)
-      → ChangesAt place Change (files_held fs) (files_held gs) → ChangesFile place Change (mem_view fs ops log f p calls)
-      (mem_view gs ops' log' f' p' calls')
+      → ChangesAt place Change (files_held fs) (files_held gs) → ChangesFile place Change (mem_view fs ops past f p calls)
+      (mem_view gs ops' past' f' p' calls')
   unfolding mem_view
   changes_moment place Change h = record {
     clock = next;
-    here = subst (λ (x : Files). Change (x place) (files (mem_view gs ops' log' f' p' calls') place)) (sym (now_held log (files_held fs)))
-        (subst (λ (x : Files). Change (files_held fs place) (x place)) (sym (now_held log' (files_held gs))) h.here);
-    others = λ q ne. ap (λ (x : Files). x q) (now_held log' (files_held gs)) ∙ h.others q ne ∙ ap (λ (x : Files). x q) (sym (now_held log (files_held fs)));
+    here = subst (λ (x : Files). Change (x place) (files (mem_view gs ops' past' f' p' calls') place)) (sym (files_now past fs))
+        (subst (λ (x : Files). Change (files_held fs place) (x place)) (sym (files_now past' gs)) h.here);
+    others = λ q ne. ap (λ (x : Files). x q) (files_now past' gs) ∙ h.others q ne ∙ ap (λ (x : Files). x q) (sym (files_now past fs));
   }
 
-pub view_same : (fs gs : List MemFile) (ops ops' : List MemOp) (log log' : List Undo) (f p : Side → ℕ) (calls : List Call)
-    → files_held gs ≡ files_held fs → ops' ≡ ops → log' ≡ log → mem_view gs ops' log' f p calls ≡ mem_view fs ops log f p calls
+-- a call in two moments
+pub call_in_two : (fs mid gs : List MemFile) (ops ops' : List MemOp) (past past' : List (List MemFile)) (f f' p p' : Side → ℕ) (calls calls' : List Call)
+    → past' ≡ (past ++ fs ∷ []) ++ mid ∷ [] → (place : Place) (First Second : Option File → Option File → Type 0) (Form : Option File → Type 0)
+    → ((g : Option File) → First (files_held fs place) g → Form g) → ((g : Option File) → Second (files_held mid place) g → Form g)
+    → ChangesAt place First (files_held fs) (files_held mid) → ChangesAt place Second (files_held mid) (files_held gs)
+    → ChangesInCall place Form (mem_view fs ops past f p calls) (mem_view gs ops' past' f' p' calls')
 unfolding mem_view
-view_same fs gs ops ops' log log' f p calls e o l = λ i. record {
+call_in_two fs mid gs ops ops' past past' f f' p p' calls calls' longer place First Second Form to_first to_second first second = record {
+  later = omega (arith, clock);
+  here = λ k after le. elim (dec_le k (suc (length past))) [
+    | yes low ↦ subst (λ (l : List MemFile). Form (files_held l place)) (sym (between k after low)) (to_first (files_held mid place) first.here)
+    | no high ↦ subst (λ (l : List MemFile). Form (files_held l place)) (sym (ends k high)) (to_second (files_held gs place) second.here)
+  ];
+  others = λ k after le q ne. elim (dec_le k (suc (length past))) [
+    | yes low ↦ ap (λ (l : List MemFile). files_held l q) (between k after low) ∙ first.others q ne ∙ ap (λ (x : Files). x q) (sym (files_now past fs))
+    | no high ↦ ap (λ (l : List MemFile). files_held l q) (ends k high) ∙ second.others q ne ∙ first.others q ne
+        ∙ ap (λ (x : Files). x q) (sym (files_now past fs))
+  ];
+}
+  where
+    front : length (past ++ fs ∷ []) ≡ suc (length past)
+    front = omega (arith, length-append past (fs ∷ []))
+
+    clock : length past' ≡ suc (suc (length past))
+    clock = ap length longer ∙ omega (arith, length-append (past ++ fs ∷ []) (mid ∷ []), front)
+
+    between : (k : ℕ) → length past < k → k ≤ suc (length past) → at_moment past' gs k ≡ mid
+    between k after low = ap (λ (l : List (List MemFile)). at_moment l gs k) longer ∙ past_kept (past ++ fs ∷ []) mid gs k (omega (arith, low, front))
+        ∙ now_after (past ++ fs ∷ []) mid k (omega (arith, after, front))
+
+    ends : (k : ℕ) → (k ≤ suc (length past) → ⊥) → at_moment past' gs k ≡ gs
+    ends k high = now_after past' gs k (omega (arith, high, clock))
+
+pub view_same : (fs gs : List MemFile) (ops ops' : List MemOp) (past : List (List MemFile)) (f p : Side → ℕ) (calls : List Call)
+    → files_held gs ≡ files_held fs → ops' ≡ ops → mem_view gs ops' past f p calls ≡ mem_view fs ops past f p calls
+unfolding mem_view
+view_same fs gs ops ops' past f p calls e o = λ i. record {
   faults = f;
   polls_left = p;
   in_flight = flight_in (o i);
-  clock = length (l i);
-  history = λ k. all_undone (drop k (l i)) (e i);
+  clock = length past;
+  history = λ k. same k i;
   calls = calls;
 }
-
--- what stands in the undo record takes the change back
-pub taken_back : (side : Side) (name : SegName) (fs : List MemFile) (u : Undo) (new : Files)
-    → u ≡ undo_at side name (files_held fs (segment side name)) → StaysBehind (files_held fs (segment side name)) (new (segment side name))
-    → ((q : Place) → q ≢ segment side name → new q ≡ files_held fs q) → undone u new ≡ files_held fs
-taken_back side name fs u new e stays others = ap (λ (v : Undo). undone v new) e ∙ undone_back side name fs new stays others
+  where
+    same : (k : ℕ) → files_held (at_moment past gs k) ≡ files_held (at_moment past fs k)
+    same k = go (drop k past)
+      where
+        go : (later : List (List MemFile)) → files_held (first_or_now gs later) ≡ files_held (first_or_now fs later)
+        go [] = e
+        go (was ∷ later) = refl
 
 pub same_flight : (o : Option Flight) (x y : Flight) → o ≡ Some x → o ≡ Some y → x ≡ y
 same_flight o x y a b = let z : Some x ≡ Some y = sym a ∙ b in cc
@@ -96,14 +124,3 @@ failed_file syncing (Some f) = refl
 pub on_err : {T E : Type 0} (r : Result T E) (P : Type 0) → P → OnErr r P
 on_err (Ok x) P h = tt
 on_err (Err e) P h = h
-
-pub may_now : (act : Act) (p : Place) (log : List Undo) (now : Files) → MayStart act (all_undone (drop (length log) log) now p) → MayStart act (now p)
-may_now act p log now may = subst (λ (x : Files). MayStart act (x p)) (now_held log now) may
-
-pub started_back : (act : Act) (bytes : List ℕ) (p : Place) (side : Side) (name : SegName) (fs gs : List MemFile) (u : Undo)
-    → segment side name ≡ p → u ≡ undo_at side name (files_held fs (segment side name)) → MayStart act (files_held fs p)
-    → ChangesAt p (λ f g. g ≡ after_start act bytes f) (files_held fs) (files_held gs) → undone u (files_held gs) ≡ files_held fs
-started_back act bytes p side name fs gs u place e may change =
-    taken_back side name fs u (files_held gs) e
-    (subst (λ (p : Place). StaysBehind (files_held fs p) (files_held gs p)) (sym place) (stays_started act bytes fs p (files_held gs p) may change.here))
-    (λ q ne. change.others q (λ h. ne (h ∙ sym place)))

@@ -1,22 +1,22 @@
 -- What a crash leaves is an image that rests, and each image is left by some picks.
 use Rattle.std.proofs.Common.{◌≡◌, inl, inr, ℕ, Bool, true, false, List, [], ◌∷◌, ◌++◌, length, take, drop, Option, Some, None, sym, ap, subst, refl, ◌∙◌}
-use Rattle.std.specs.Prelude.{option_map, unwrap_or, if◌then◌else◌}
+use Rattle.std.specs.Prelude.{option_map, unwrap_or, if◌then◌else◌, IsTrue}
 use Rattle.std.proofs.lemmas.List.{drop_at}
 use Rattle.wal_base.specs.Prefixes.{IsPrefixOf}
 use Rattle.disk_face.specs.declared.Side.{Side}
 use Rattle.disk_face.specs.declared.SegName.{SegName}
+use Rattle.disk_face.specs.declared.FilePlace.TheVariants.{Segment, Table}
 use Rattle.disk_face.specs.View.{Place, segment, table, File, Files, Dirs}
-use Rattle.disk_face.specs.Image.{IsImageOf, IsImage, IsRestedFile, IsRested, as_read, dirs_as_read}
+use Rattle.disk_face.specs.Image.{IsImageOf, IsImage, IsSound, IsRestedFile, IsRested, as_read, dirs_as_read}
 use Rattle.disk_face.specs.Tables.{whole}
-use Rattle.disk_face.proofs.Laws.{same_place, image_of_none}
+use Rattle.disk_face.proofs.Laws.{same_place, image_of_none, read_image}
 use Rattle.mem_disk.specs.declared.parts.MemFile.{MemFile}
 use Rattle.mem_disk.specs.declared.picks.FilePick.{FilePick}
-use Rattle.mem_disk.specs.Finite.{is_at_only, no_table}
-use Rattle.mem_disk.specs.declared.parts.Undo.{Undo}
-use Rattle.mem_disk.specs.Mem.{is_at, file_of, files_held, all_undone, ChangesAt}
-use Rattle.mem_disk.specs.Picks.{tail_of, picked, picked_dirs, whole_files}
+use Rattle.mem_disk.specs.Finite.{is_at_only, sound_held}
+use Rattle.mem_disk.specs.Mem.{is_at, is_table, files_held, at_moment, ChangesAt}
+use Rattle.mem_disk.specs.Picks.{tail_of, stands_as_read, picked, picked_dirs, whole_files, StandAsRead}
 use Rattle.mem_disk.proofs.Held.{held_skip}
-use Rattle.mem_disk.proofs.Past.{now_held}
+use Rattle.mem_disk.proofs.Calls.{files_now}
 
 -- files that stand whole read as the directories
 pub read_whole : (dirs : Dirs) (files : Files) → ((p : Place) → files p ≡ whole_files dirs p) → (p : Place) → dirs_as_read files p ≡ dirs p
@@ -24,8 +24,8 @@ read_whole dirs files is p = ap (as_read p) (is p) ∙ go p (dirs p)
   where
     go : (q : Place) (o : Option (List ℕ)) → as_read q (option_map whole o) ≡ o
     go q None = refl
-    go (segment side name) (Some bytes) = refl
-    go (table upto) (Some bytes) = refl
+    go (Segment side name) (Some bytes) = refl
+    go (Table upto) (Some bytes) = refl
 
 pub whole_again : (dirs : Dirs) (files : Files) → ((p : Place) → files p ≡ whole_files dirs p) → (p : Place) → files p ≡ whole_files (dirs_as_read files) p
 whole_again dirs files is p = is p ∙ ap (option_map whole) (sym (read_whole dirs files is p))
@@ -38,9 +38,9 @@ whole_rested dirs files is p f at = go (dirs p) (sym (is p) ∙ at)
     go (Some bytes) e = let f_is : whole bytes ≡ f = cc in subst IsRestedFile f_is (record { created = refl; stays = refl; done = refl; reads = refl })
 
 -- a file that is put keeps files at rest
-pub rested_put : (side : Side) (name : SegName) (bytes : List ℕ) (old new : Files)
-    → ChangesAt (segment side name) (λ f g. g ≡ Some (whole bytes)) old new → IsRested old → IsRested new
-rested_put side name bytes old new changes rested p f at = elim (same_place p (segment side name)) [
+pub rested_put : (place : Place) (bytes : List ℕ) (old new : Files)
+    → ChangesAt place (λ f g. g ≡ Some (whole bytes)) old new → IsRested old → IsRested new
+rested_put place bytes old new changes rested p f at = elim (same_place p place) [
   | inl e ↦
       let here : Some (whole bytes) ≡ Some f = sym changes.here ∙ ap new (sym e) ∙ at in
       let f_is : whole bytes ≡ f = cc in
@@ -48,10 +48,10 @@ rested_put side name bytes old new changes rested p f at = elim (same_place p (s
   | inr ne ↦ rested p f (sym (changes.others p ne) ∙ at)
 ]
 
--- what picks leave is an image: no table is held
-picked_image : (side : Side) (name : SegName) (f : Option File) (tail : Option (List ℕ)) → IsImageOf (segment side name) f (picked f tail)
-picked_image side name None tail = tt
-picked_image side name (Some f) tail = go f.created refl tail
+-- what picks leave of a file is an image of it
+free_image : (side : Side) (name : SegName) (f : File) (tail : Option (List ℕ))
+    → IsImageOf (segment side name) (Some f) (if f.created then Some (take f.stable f.sent ++ unwrap_or tail []) else tail)
+free_image side name f tail = go f.created refl tail
   where
     go : (b : Bool) → f.created ≡ b → (tail : Option (List ℕ)) → IsImageOf (segment side name) (Some f)
         (if f.created then Some (take f.stable f.sent ++ unwrap_or tail []) else tail)
@@ -59,65 +59,63 @@ picked_image side name (Some f) tail = go f.created refl tail
     go false is None = rw is (λ e. cc)
     go false is (Some bytes) = rw is (λ e. cc)
 
+picked_image : (p : Place) (f : Option File) (tail : Option (List ℕ)) → ((g : File) → f ≡ Some g → IsSound p g) → IsImageOf p f (picked p f tail)
+picked_image p None tail sound = tt
+picked_image (Table upto) (Some f) tail sound = read_image (table upto) (Some f) sound
+picked_image (Segment side name) (Some f) tail sound = go f.leaving
+  where
+    go : (b : Bool) → IsImageOf (segment side name) (Some f)
+        (if b then as_read (segment side name) (Some f) else if f.created then Some (take f.stable f.sent ++ unwrap_or tail []) else tail)
+    go true = read_image (segment side name) (Some f) sound
+    go false = free_image side name f tail
+
 pub picked_is_image : (fs : List MemFile) (picks : List FilePick) → IsImage (files_held fs) (picked_dirs (files_held fs) picks)
-picked_is_image fs picks (segment side name) = picked_image side name (files_held fs (segment side name)) (tail_of picks (segment side name))
-picked_is_image fs picks (table n) = subst (λ (o : Option File). IsImageOf (table n) o (picked o (tail_of picks (table n)))) (sym (no_table fs n)) tt
+picked_is_image fs picks p = picked_image p (files_held fs p) (tail_of picks p) (sound_held fs p)
 
 -- the tail that an image has of a file
 abbrev front_of : Option File → ℕ
 front_of None = 0
 front_of (Some f) = if f.created then length (take f.stable f.sent) else 0
 
--- a pick of each file, by the image
+-- a pick of each segment, by the image
 module _ (files : Files) (dirs : Dirs) where
-  abbrev tail_at : Side → SegName → Option (List ℕ)
-  tail_at side name = option_map (drop (front_of (files (segment side name)))) (dirs (segment side name))
+  abbrev tail_at : Place → Option (List ℕ)
+  tail_at p = option_map (drop (front_of (files p))) (dirs p)
 
-  abbrev pick_of : MemFile → FilePick
-  pick_of f = record { side = f.side; name = f.name; tail = tail_at f.side f.name }
+  abbrev picks_at : Place → List FilePick
+  picks_at (Segment side name) = record { side = side; name = name; tail = tail_at (segment side name) } ∷ []
+  picks_at (Table upto) = []
 
   abbrev pub picks_of : List MemFile → List FilePick
   picks_of [] = []
-  picks_of (f ∷ fs) = pick_of f ∷ picks_of fs
+  picks_of (f ∷ fs) = picks_at f.place ++ picks_of fs
 
-  tail_picked : (fs : List MemFile) (side : Side) (name : SegName) (f : File) → files_held fs (segment side name) ≡ Some f
-      → tail_of (picks_of fs) (segment side name) ≡ tail_at side name
-  tail_picked [] side name f is = cc
-  tail_picked (x ∷ xs) side name f is = go (is_at x.side x.name (segment side name)) refl (tail_picked xs side name f)
+  -- the pick of a place, in front of others
+  pick_first : (q p : Place) (picks : List FilePick) → is_table p ≡ false → is_at q p ≡ true → tail_of (picks_at q ++ picks) p ≡ tail_at p
+  pick_first (Segment side name) p picks kind at = rw at (ap tail_at (sym (is_at_only (segment side name) p at)))
+  pick_first (Table upto) p picks kind at =
+      let clash : true ≡ false = ap is_table (sym (is_at_only (table upto) p at)) ∙ kind in
+      cc
+
+  pick_later : (q p : Place) (picks : List FilePick) → is_at q p ≡ false → tail_of (picks_at q ++ picks) p ≡ tail_of picks p
+  pick_later (Segment side name) p picks at = rw at refl
+  pick_later (Table upto) p picks at = refl
+
+  tail_picked : (fs : List MemFile) (p : Place) (f : File) → is_table p ≡ false → files_held fs p ≡ Some f → tail_of (picks_of fs) p ≡ tail_at p
+  tail_picked [] p f kind is = cc
+  tail_picked (x ∷ xs) p f kind is = go (is_at x.place p) refl (tail_picked xs p f kind)
     where
-      go : (b : Bool) → is_at x.side x.name (segment side name) ≡ b
-          → (files_held xs (segment side name) ≡ Some f → tail_of (picks_of xs) (segment side name) ≡ tail_at side name)
-          → tail_of (picks_of (x ∷ xs)) (segment side name) ≡ tail_at side name
-      go true at deeper =
-          let e : segment side name ≡ segment x.side x.name = is_at_only x.side x.name (segment side name) at in
-          let sides : x.side ≡ side = cc in
-          let names : x.name ≡ name = cc in
-          rw at (λ i. tail_at (sides i) (names i))
-      go false at deeper = rw at (deeper (sym (held_skip x xs (segment side name) at) ∙ is))
+      go : (b : Bool) → is_at x.place p ≡ b → (files_held xs p ≡ Some f → tail_of (picks_of xs) p ≡ tail_at p) → tail_of (picks_of (x ∷ xs)) p ≡ tail_at p
+      go true at deeper = pick_first x.place p (picks_of xs) kind at
+      go false at deeper = pick_later x.place p (picks_of xs) at ∙ deeper (sym (held_skip x xs p at) ∙ is)
 
 -- the picks leave the image
-held_stays : (fs : List MemFile) (p : Place) (f : File) → files_held fs p ≡ Some f → f.leaving ≡ false
-held_stays [] p f is = cc
-held_stays (x ∷ xs) p f is = go (is_at x.side x.name p) refl (held_stays xs p f)
-  where
-    stays : (m : MemFile) → (file_of m).leaving ≡ false
-    stays m = made m.created refl
-      where
-        made : (b : Bool) → m.created ≡ b → (file_of m).leaving ≡ false
-        made true is = rw is refl
-        made false is = rw is refl
-
-    go : (b : Bool) → is_at x.side x.name p ≡ b → (files_held xs p ≡ Some f → f.leaving ≡ false) → f.leaving ≡ false
-    go true at deeper = let z : Some (file_of x) ≡ Some f = rw at at is in let f_is : file_of x ≡ f = cc in subst
-        (λ (g : File). g.leaving ≡ false) f_is (stays x)
-    go false at deeper = deeper (rw at at is)
-
-left_image : (side : Side) (name : SegName) (f : File) (o : Option (List ℕ)) → f.leaving ≡ false → IsImageOf (segment side name) (Some f) o
-    → picked (Some f) (option_map (drop (front_of (Some f))) o) ≡ o
-left_image side name f o stays im = go f.created refl o im
+free_left : (side : Side) (name : SegName) (f : File) (o : Option (List ℕ)) → f.leaving ≡ false → IsImageOf (segment side name) (Some f) o
+    → (if f.created then Some (take f.stable f.sent ++ unwrap_or (option_map (drop (front_of (Some f))) o) []) else option_map (drop (front_of (Some f))) o) ≡ o
+free_left side name f o stays im = go f.created refl o im
   where
     go : (b : Bool) → f.created ≡ b → (o : Option (List ℕ)) → IsImageOf (segment side name) (Some f) o
-        → picked (Some f) (option_map (drop (front_of (Some f))) o) ≡ o
+        → (if f.created then Some (take f.stable f.sent ++ unwrap_or (option_map (drop (front_of (Some f))) o) []) else option_map (drop (front_of (Some f))) o) ≡ o
     go true is None im = let clash : true ≡ false = sym (im is) ∙ stays in cc
     go true is (Some bytes) im =
         let front : List ℕ = take f.stable f.sent in
@@ -127,33 +125,37 @@ left_image side name f o stays im = go f.created refl o im
     go false is None im = rw is refl
     go false is (Some bytes) im = rw is refl
 
-pub image_picked : (fs : List MemFile) (dirs : Dirs) → IsImage (files_held fs) dirs → (p : Place)
-    → picked_dirs (files_held fs) (picks_of (files_held fs) dirs fs) p ≡ dirs p
-image_picked fs dirs im (table n) = ap (λ (o : Option File). picked o (tail_of (picks_of (files_held fs) dirs fs) (table n)))
-    (no_table fs n) ∙ sym (image_of_none (table n) (dirs (table n))
-    (subst (λ (o : Option File). IsImageOf (table n) o (dirs (table n))) (no_table fs n) (im (table n))))
-image_picked fs dirs im (segment side name) = go (files_held fs (segment side name)) refl (im (segment side name))
+left_image : (p : Place) (f : File) (o tail : Option (List ℕ)) → (is_table p ≡ false → tail ≡ option_map (drop (front_of (Some f))) o)
+    → IsImageOf p (Some f) o → (IsTrue (stands_as_read p f) → o ≡ as_read p (Some f)) → picked p (Some f) tail ≡ o
+left_image (Table upto) f o tail tail_is im stands = sym (stands refl)
+left_image (Segment side name) f o tail tail_is im stands = go f.leaving refl
   where
-    go : (o : Option File) → files_held fs (segment side name) ≡ o
-        → IsImageOf (segment side name) (files_held fs (segment side name)) (dirs (segment side name))
-        → picked_dirs (files_held fs) (picks_of (files_held fs) dirs fs) (segment side name) ≡ dirs (segment side name)
-    go None is here = ap (λ (o : Option File). picked o (tail_of (picks_of (files_held fs) dirs fs) (segment side name))) is
-        ∙ sym (image_of_none (segment side name) (dirs (segment side name))
-        (subst (λ (o : Option File). IsImageOf (segment side name) o (dirs (segment side name))) is here))
-    go (Some f) is here =
-        let tail : tail_of (picks_of (files_held fs) dirs fs) (segment side name) ≡ option_map (drop (front_of (Some f))) (dirs (segment side name)) =
-        tail_picked (files_held fs) dirs fs side name f is ∙ ap (λ (o : Option File). option_map (drop (front_of o)) (dirs (segment side name))) is in
-        ap (λ (o : Option File). picked o (tail_of (picks_of (files_held fs) dirs fs) (segment side name))) is ∙ ap (picked (Some f)) tail
-        ∙ left_image side name f (dirs (segment side name)) (held_stays fs (segment side name) f is)
-        (subst (λ (o : Option File). IsImageOf (segment side name) o (dirs (segment side name))) is here)
+    go : (b : Bool) → f.leaving ≡ b
+        → (if b then as_read (segment side name) (Some f) else if f.created then Some (take f.stable f.sent ++ unwrap_or tail []) else tail) ≡ o
+    go true is = sym (stands is)
+    go false is = subst (λ (t : Option (List ℕ)). (if f.created then Some (take f.stable f.sent ++ unwrap_or t []) else t) ≡ o) (sym (tail_is refl))
+        (free_left side name f o is im)
+
+pub image_picked : (fs : List MemFile) (dirs : Dirs) → IsImage (files_held fs) dirs → StandAsRead (files_held fs) dirs → (p : Place)
+    → picked_dirs (files_held fs) (picks_of (files_held fs) dirs fs) p ≡ dirs p
+image_picked fs dirs im stand p = go (files_held fs p) refl (im p)
+  where
+    go : (o : Option File) → files_held fs p ≡ o → IsImageOf p (files_held fs p) (dirs p)
+        → picked_dirs (files_held fs) (picks_of (files_held fs) dirs fs) p ≡ dirs p
+    go None is here = ap (λ (o : Option File). picked p o (tail_of (picks_of (files_held fs) dirs fs) p)) is
+        ∙ sym (image_of_none p (dirs p) (subst (λ (o : Option File). IsImageOf p o (dirs p)) is here))
+    go (Some f) is here = ap (λ (o : Option File). picked p o (tail_of (picks_of (files_held fs) dirs fs) p)) is
+        ∙ left_image p f (dirs p) (tail_of (picks_of (files_held fs) dirs fs) p)
+        (λ kind. tail_picked (files_held fs) dirs fs p f kind is ∙ ap (λ (o : Option File). option_map (drop (front_of o)) (dirs p)) is)
+        (subst (λ (o : Option File). IsImageOf p o (dirs p)) is here) (stand p f is)
 
 -- what a crash leaves, in words of the files before it
-pub crash_stands : (fs kept : List MemFile) (log : List Undo) (new : Files) (shown picks : List FilePick) → shown ≡ picks
+pub crash_stands : (fs kept : List MemFile) (past : List (List MemFile)) (new : Files) (shown picks : List FilePick) → shown ≡ picks
     → new ≡ files_held kept → ((p : Place) → files_held kept p ≡ whole_files (picked_dirs (files_held fs) shown) p)
-    → (p : Place) → new p ≡ whole_files (picked_dirs (all_undone (drop (length log) log) (files_held fs)) picks) p
-crash_stands fs kept log new shown picks e is left p =
+    → (p : Place) → new p ≡ whole_files (picked_dirs (files_held (at_moment past fs (length past))) picks) p
+crash_stands fs kept past new shown picks e is left p =
     ap (λ (f : Files). f p) is ∙ left p ∙ ap (λ (l : List FilePick). whole_files (picked_dirs (files_held fs) l) p) e
-    ∙ ap (λ (f : Files). whole_files (picked_dirs f picks) p) (sym (now_held log (files_held fs)))
+    ∙ ap (λ (f : Files). whole_files (picked_dirs f picks) p) (sym (files_now past fs))
 
 pub crash_image : (fs : List MemFile) (old new : Files) (picks : List FilePick) → old ≡ files_held fs
     → ((p : Place) → new p ≡ whole_files (picked_dirs old picks) p) → IsImage old (dirs_as_read new)

@@ -1,10 +1,10 @@
 mod Orders
 mod Held
 mod Puts
-mod Past
-mod Flights
+mod Removals
 mod Calls
 mod ListedFiles
+mod ListedTables
 mod Crashes
 mod Chances
 mod Images

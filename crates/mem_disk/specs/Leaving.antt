@@ -1,17 +1,16 @@
 -- What a crash leaves of the files of a disk in memory (docs/formats/disk.md, "Images").
-use Rattle.std.specs.Prelude.{◌≡◌, List, [], ◌∷◌, ◌++◌, Option, Some, IfSome, option_map}
+use Rattle.std.specs.Prelude.{◌≡◌, List, [], ◌∷◌, ◌++◌, Option, IfSome, option_map}
 use Rattle.std.specs.Option.{option_to_list}
-use Rattle.disk_face.specs.View.{segment}
 use Rattle.disk_face.specs.Tables.{whole}
 use Rattle.mem_disk.specs.declared.parts.MemFile.{MemFile}
 use Rattle.mem_disk.specs.declared.picks.FilePick.{FilePick}
-use Rattle.mem_disk.specs.Mem.{file_of, IsFor}
-use Rattle.mem_disk.specs.Picks.{tail_of, picked}
+use Rattle.mem_disk.specs.Mem.{file_of}
+use Rattle.mem_disk.specs.Picks.{left_of}
 
--- what a crash leaves of one file, if anything: the bytes that the pick leaves, as a whole file of the same segment
+-- what a crash leaves of one file, if anything: the bytes that the pick leaves, as a whole file of the same place
 pub record IsLeft (picks : List FilePick) (f : MemFile) (left : Option MemFile) : Type 0 where
-  pub is_for : IfSome left (IsFor f.side f.name)
-  pub bytes : option_map file_of left ≡ option_map whole (picked (Some (file_of f)) (tail_of picks (segment f.side f.name)))
+  pub place : IfSome left (λ m. m.place ≡ f.place)
+  pub bytes : option_map file_of left ≡ option_map whole (left_of picks f)
 
 -- what a crash leaves of one file is after what was left before
 abbrev pub IsOneMoreLeft : List FilePick → MemFile → List MemFile → List MemFile → Type 0

@@ -1,5 +1,6 @@
 pub mod Mem
 pub mod Plan
+pub mod Failing
 pub mod Picks
 pub mod Leaving
 pub mod Sent

@@ -5,35 +5,59 @@ use Rattle.disk_face.specs.declared.Side.{Side}
 use Rattle.disk_face.specs.declared.SegName.{SegName}
 use Rattle.disk_face.specs.declared.OpId.{OpId}
 use Rattle.disk_face.specs.declared.Listed.{Listed}
-use Rattle.disk_face.specs.View.{Place, segment, table, Act, creating, writing, syncing, Flight, File, Files, Call, DiskView}
+use Rattle.disk_face.specs.declared.TableListed.{TableListed}
+use Rattle.disk_face.specs.declared.FilePlace.TheVariants.{Segment, Table}
+use Rattle.disk_face.specs.View.{Place, segment, Act, creating, writing, syncing, Flight, File, Files, Call, DiskView}
 use Rattle.disk_face.specs.Calls.{fresh}
+use Rattle.disk_face.specs.Tables.{whole}
 pub use Rattle.disk_face.specs.View.{side_eq}
 use Rattle.mem_disk.specs.declared.parts.MemFile.{MemFile}
 use Rattle.mem_disk.specs.declared.parts.MemAct.{MemAct}
 use Rattle.mem_disk.specs.declared.parts.MemAct.TheVariants.{Create, Write, Sync}
 use Rattle.mem_disk.specs.declared.parts.MemOp.{MemOp}
-use Rattle.mem_disk.specs.declared.parts.Undo.{Undo}
 
--- whether the place is that of this segment
-abbrev pub is_at : Side → SegName → Place → Bool
-is_at side name (segment s n) = side_eq side s && (name.wal == n.wal && name.index == n.index)
-is_at side name (table upto) = false
+-- whether both are the same place
+abbrev pub is_at : Place → Place → Bool
+is_at (Segment s n) (Segment t m) = side_eq s t && (n.wal == m.wal && n.index == m.index)
+is_at (Segment s n) (Table upto) = false
+is_at (Table upto) (Segment s n) = false
+is_at (Table n) (Table m) = n == m
 
--- a file that is not created yet is empty, whatever stands in its other fields
-abbrev pub file_of : MemFile → File
-file_of f = if f.created then record {
+-- whether a table stands there
+abbrev pub is_table : Place → Bool
+is_table (Segment s n) = false
+is_table (Table upto) = true
+
+-- a segment that is not created yet is empty, whatever stands in its other fields
+abbrev pub segment_of : MemFile → File
+segment_of f = if f.created then record {
   sent = f.sent.items;
   done = f.done;
   stable = f.stable;
   created = true;
-  leaving = false;
+  leaving = f.leaving;
   reads = take f.done f.sent.items;
-} else fresh
+} else record fresh { leaving = f.leaving }
+
+-- A table that is created is whole, whatever numbers stand in its other fields. One that is not reads as far as it is done.
+abbrev pub table_of : MemFile → File
+table_of f = if f.created then record (whole f.sent.items) { leaving = f.leaving } else record {
+  sent = f.sent.items;
+  done = f.done;
+  stable = f.stable;
+  created = false;
+  leaving = f.leaving;
+  reads = take f.done f.sent.items;
+}
+
+-- the file, in the words of a disk
+abbrev pub file_of : MemFile → File
+file_of f = if is_table f.place then table_of f else segment_of f
 
 -- the files, each at its place
 abbrev pub files_held : List MemFile → Files
 files_held [] p = None
-files_held (f ∷ fs) p = if is_at f.side f.name p then Some (file_of f) else files_held fs p
+files_held (f ∷ fs) p = if is_at f.place p then Some (file_of f) else files_held fs p
 
 -- what the operation does, in the words of a disk
 abbrev pub act_in_memory : MemAct → Act
@@ -53,52 +77,28 @@ flight_in ops id = flight_if id (slice_get ops id.number)
 -- where the first file of this place stands
 abbrev pub index_at : Place → List MemFile → Option ℕ
 index_at p [] = None
-index_at p (f ∷ fs) = if is_at f.side f.name p then Some 0 else option_map suc (index_at p fs)
+index_at p (f ∷ fs) = if is_at f.place p then Some 0 else option_map suc (index_at p fs)
 
--- what takes the next change of this file back
-abbrev pub undo_at : Side → SegName → Option File → Undo
-undo_at side name None = record { side = side; name = name; there = false; sent = 0; done = 0; stable = 0; created = false }
-undo_at side name (Some f) = record { side = side; name = name; there = true; sent = length f.sent; done = f.done; stable = f.stable; created = f.created }
+-- the first list of files, or the files now where there is none
+abbrev pub first_or_now : List MemFile → List (List MemFile) → List MemFile
+first_or_now now [] = now
+first_or_now now (was ∷ later) = was
 
--- the file as it was
-abbrev pub was_of : Undo → Option File → Option File
-was_of u None = None
-was_of u (Some f) =
-    if u.there then Some (if u.created then record {
-      sent = take u.sent f.sent;
-      done = u.done;
-      stable = u.stable;
-      created = true;
-      leaving = false;
-      reads = take u.done (take u.sent f.sent);
-    } else fresh)
-    else None
-
--- one change taken back
-abbrev pub undone : Undo → Files → Files
-undone u files p = if is_at u.side u.name p then was_of u (files p) else files p
-
--- the changes taken back, the last of them first
-abbrev pub all_undone : List Undo → Files → Files
-all_undone [] files = files
-all_undone (u ∷ us) files = undone u (all_undone us files)
+-- the files at that moment, by those at each moment that has passed
+abbrev pub at_moment : List (List MemFile) → List MemFile → ℕ → List MemFile
+at_moment past now k = first_or_now now (drop k past)
 
 -- what the disk means
-unfoldable pub mem_view : List MemFile → List MemOp → List Undo → (Side → ℕ) → (Side → ℕ) → List Call → DiskView
-mem_view files ops log faults polls calls =
+unfoldable pub mem_view : List MemFile → List MemOp → List (List MemFile) → (Side → ℕ) → (Side → ℕ) → List Call → DiskView
+mem_view files ops past faults polls calls =
     record {
       faults = faults;
       polls_left = polls;
       in_flight = flight_in ops;
-      clock = length log;
-      history = λ k. all_undone (drop k log) (files_held files);
+      clock = length past;
+      history = λ k. files_held (at_moment past files k);
       calls = calls;
     }
-
--- how many operations are in flight
-abbrev pub live_in : List MemOp → ℕ
-live_in [] = 0
-live_in (op ∷ ops) = if op.live then suc (live_in ops) else live_in ops
 
 -- one file alone may change
 pub record ChangesAt (p : Place) (Change : Option File → Option File → Type 0) (old new : Files) : Type 0 where
@@ -121,58 +121,81 @@ FlightsStayBut id old new = (q : OpId) → q ≢ id → flight_in new q ≡ flig
 abbrev pub is_before : SegName → SegName → Bool
 is_before a b = nat_lt a.wal b.wal || (a.wal == b.wal && nat_lt a.index b.index)
 
--- whether the file stands before each of its side in the list
-abbrev pub is_before_all : MemFile → List MemFile → Bool
-is_before_all m [] = true
-is_before_all m (x ∷ xs) = (not (side_eq m.side x.side) || is_before m.name x.name) && is_before_all m xs
+-- Whether a file at the first place may stand before one at the second: segments of a side ascend by name, tables by number.
+abbrev pub precedes : Place → Place → Bool
+precedes (Segment s n) (Segment t m) = not (side_eq s t) || is_before n m
+precedes (Segment s n) (Table upto) = true
+precedes (Table upto) (Segment s n) = true
+precedes (Table n) (Table m) = nat_lt n m
 
--- whether each file stands before all later ones of its side
+-- whether a file at that place may stand before each of the list
+abbrev pub is_before_all : Place → List MemFile → Bool
+is_before_all p [] = true
+is_before_all p (x ∷ xs) = precedes p x.place && is_before_all p xs
+
+-- whether each file may stand before all later ones
 abbrev pub is_ordered : List MemFile → Bool
 is_ordered [] = true
-is_ordered (m ∷ ms) = is_before_all m ms && is_ordered ms
+is_ordered (m ∷ ms) = is_before_all m.place ms && is_ordered ms
 
--- each file stands before all later ones of its side
+-- each file stands before all later ones of its kind and side
 abbrev pub AreInOrder : List MemFile → Type 0
 AreInOrder fs = is_ordered fs ≡ true
 
--- whether a file of that segment goes before this one
-abbrev pub goes_before : Side → SegName → MemFile → Bool
-goes_before side name m = side_eq m.side side && not (is_before m.name name)
+-- whether a file of that place goes before this one
+abbrev pub goes_before : Place → MemFile → Bool
+goes_before p m = not (precedes m.place p)
 
 -- the files with one more, at its place in the order
 abbrev pub put : MemFile → List MemFile → List MemFile
 put m [] = m ∷ []
-put m (x ∷ xs) = if goes_before m.side m.name x then m ∷ x ∷ xs else x ∷ put m xs
+put m (x ∷ xs) = if goes_before m.place x then m ∷ x ∷ xs else x ∷ put m xs
 
 -- whether the name is in range
 abbrev pub is_named : SegName → Bool
 is_named name = nat_le name.wal WAL_MAX && nat_le name.index INDEX_MAX
 
+-- what a listing of the side has of a segment
+abbrev pub listed_at : Side → Place → MemFile → List Listed
+listed_at side (Segment s n) m = if m.created && (side_eq s side && is_named n) then record { name = n; len = m.done } ∷ [] else []
+listed_at side (Table upto) m = []
+
 -- what a listing of the side has of one file
 abbrev pub listed_one : Side → MemFile → List Listed
-listed_one side m = if m.created && (side_eq m.side side && is_named m.name) then record { name = m.name; len = m.done } ∷ [] else []
+listed_one side m = listed_at side m.place m
 
 -- what a listing of the side has of the files
 abbrev pub listed_of : Side → List MemFile → List Listed
 listed_of side [] = []
 listed_of side (m ∷ ms) = listed_one side m ++ listed_of side ms
 
--- it is the file of this segment
-abbrev pub IsFor : Side → SegName → MemFile → Type 0
-IsFor side name m = (m.side ≡ side) × (m.name ≡ name)
+-- what a listing of the tables has of a file: of a table, how many of its bytes a read gives
+abbrev pub table_at : Place → MemFile → List TableListed
+table_at (Segment s n) m = []
+table_at (Table n) m = if nat_le n WAL_MAX then record { upto = n; len = length (table_of m).reads } ∷ [] else []
 
--- a file of this segment is put in the order at i
-abbrev pub IsPutAt : Side → SegName → List MemFile → ℕ → Type 0
-IsPutAt side name fs i = (m : MemFile) → m.side ≡ side → m.name ≡ name → put m fs ≡ insert fs i m
+-- what a listing of the tables has of one file
+abbrev pub table_one : MemFile → List TableListed
+table_one m = table_at m.place m
 
--- the file of this segment stands at i
-pub record FoundAt (side : Side) (name : SegName) (fs : List MemFile) (i : ℕ) : Type 0 where
+-- what a listing of the tables has of the files
+abbrev pub tables_of : List MemFile → List TableListed
+tables_of [] = []
+tables_of (m ∷ ms) = table_one m ++ tables_of ms
+
+-- a file of this place is put in the order at i
+abbrev pub IsPutAt : Place → List MemFile → ℕ → Type 0
+IsPutAt p fs i = (m : MemFile) → m.place ≡ p → put m fs ≡ insert fs i m
+
+-- the file of this place stands at i
+pub record FoundAt (p : Place) (fs : List MemFile) (i : ℕ) : Type 0 where
   pub below : i < length fs
-  pub is_for : (d : MemFile) → IsFor side name (slice_index_or fs i d)
-  pub here : (d : MemFile) → files_held fs (segment side name) ≡ Some (file_of (slice_index_or fs i d))
-  pub set_here : (m : MemFile) → IsFor side name m → files_held (slice_set fs i m) (segment side name) ≡ Some (file_of m)
-  pub set_others : (m : MemFile) → IsFor side name m → (q : Place) → q ≢ segment side name → files_held (slice_set fs i m) q ≡ files_held fs q
-  pub set_ordered : (m : MemFile) → IsFor side name m → AreInOrder fs → AreInOrder (slice_set fs i m)
+  pub place : (d : MemFile) → (slice_index_or fs i d).place ≡ p
+  pub kind : (d : MemFile) → is_table (slice_index_or fs i d).place ≡ is_table p
+  pub here : (d : MemFile) → files_held fs p ≡ Some (file_of (slice_index_or fs i d))
+  pub set_here : (m : MemFile) → m.place ≡ p → files_held (slice_set fs i m) p ≡ Some (file_of m)
+  pub set_others : (m : MemFile) → m.place ≡ p → (q : Place) → q ≢ p → files_held (slice_set fs i m) q ≡ files_held fs q
+  pub set_ordered : (m : MemFile) → m.place ≡ p → AreInOrder fs → AreInOrder (slice_set fs i m)
 
 -- no file is created there
 abbrev pub IsUncreated : Option File → Type 0

@@ -15,10 +15,14 @@ pub record Plan : Type 0 where
   pub failing_calls : List ℕ
   -- how many such calls there were. The count stops at its last value
   pub calls : ℕ
+  -- the calls on tables, and the removals, that are to fail
+  pub failing_table_calls : List ℕ
+  -- how many such calls there were. The count stops at its last value
+  pub table_calls : ℕ
 
 -- no failure was asked for, and nothing is counted
 abbrev pub nothing_planned : Plan
-nothing_planned = record { failing_ops = []; starts = 0; failing_calls = []; calls = 0 }
+nothing_planned = record { failing_ops = []; starts = 0; failing_calls = []; calls = 0; failing_table_calls = []; table_calls = 0 }
 
 -- one operation more is to fail
 abbrev pub failing_op : ℕ → Plan → Plan
@@ -35,6 +39,18 @@ FailsNext plan = Contains plan.failing_calls plan.calls
 -- one call of `list` or `read` more
 abbrev pub after_call : Plan → Plan
 after_call plan = record plan { calls = min (plan.calls + 1) (2 ^ 64 - 1) }
+
+-- one call on tables, or removal, more is to fail. Its number is counted from 0 over those that are made from now on
+abbrev pub failing_table_call : ℕ → Plan → Plan
+failing_table_call number plan = record plan { failing_table_calls = plan.failing_table_calls ++ min (plan.table_calls + number) (2 ^ 64 - 1) ∷ [] }
+
+-- the next call on tables, or removal, is to fail
+abbrev pub FailsTableCall : Plan → Type 0
+FailsTableCall plan = Contains plan.failing_table_calls plan.table_calls
+
+-- one call on tables, or removal, more
+abbrev pub after_table_call : Plan → Plan
+after_table_call plan = record plan { table_calls = min (plan.table_calls + 1) (2 ^ 64 - 1) }
 
 -- one operation more was started
 abbrev pub after_op : Plan → Plan

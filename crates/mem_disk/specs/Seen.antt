@@ -16,12 +16,19 @@ use Rattle.mem_disk.specs.Plan.{Plan}
 -- what the fields of a disk in memory stand for
 abbrev pub seen : MemDisk → DiskView
 seen d =
-    mem_view d.files.items d.ops.items d.undos.items (by_side d.faults.primary d.faults.secondary)
+    mem_view d.files.items d.ops.items d.moments.past (by_side d.faults.primary d.faults.secondary)
     (by_side d.polls.primary d.polls.secondary) d.log.calls
 
 -- the failures that were asked for, and how far the counts are
 abbrev pub plan_of : MemDisk → Plan
-plan_of d = record { failing_ops = d.fail_ops.items; starts = length d.ops.items; failing_calls = d.calls.numbers.items; calls = d.calls.calls }
+plan_of d = record {
+  failing_ops = d.fail_ops.items;
+  starts = length d.ops.items;
+  failing_calls = d.calls.numbers.items;
+  calls = d.calls.calls;
+  failing_table_calls = d.table_calls.numbers.items;
+  table_calls = d.table_calls.calls;
+}
 
 -- a read of the segment gives these bytes
 abbrev pub SegmentReads : DiskView → Side → SegName → List ℕ → Type 0
@@ -31,17 +38,29 @@ SegmentReads v side name bytes = as_read (segment side name) (files v (segment s
 abbrev pub SegmentSent : DiskView → Side → SegName → List ℕ → Type 0
 SegmentSent v side name bytes = as_sent (files v (segment side name)) ≡ Some bytes
 
--- the buffer is filled from that place of the segment, if it is there
+-- the buffer is filled from there in the file of that place, if it is there
+abbrev pub FileFills : DiskView → Place → ℕ → List ℕ → ℕ → Type 0
+FileFills v p = FillsIfThere (files v p)
+
+-- where no file is at the place, nothing is read
+abbrev pub NoneIfNoFile : DiskView → Place → ℕ → Type 0
+NoneIfNoFile v p n = files v p ≡ None → n ≡ 0
+
+-- the same of a segment
 abbrev pub SegmentFills : DiskView → Side → SegName → ℕ → List ℕ → ℕ → Type 0
-SegmentFills v side name = FillsIfThere (files v (segment side name))
+SegmentFills v side name = FileFills v (segment side name)
 
 -- where the segment is not there, nothing is read
 abbrev pub NoneIfAbsent : DiskView → Side → SegName → ℕ → Type 0
-NoneIfAbsent v side name n = files v (segment side name) ≡ None → n ≡ 0
+NoneIfAbsent v side name = NoneIfNoFile v (segment side name)
 
--- one moment passes, in which the segment stands whole, with these bytes
+-- one moment passes, in which the file of the place stands whole, with these bytes
+abbrev pub PutsWholeAt : Place → List ℕ → DiskView → DiskView → Type 0
+PutsWholeAt p bytes = ChangesFile p (λ f g. g ≡ Some (whole bytes))
+
+-- the same of a segment
 abbrev pub PutsWhole : Side → SegName → List ℕ → DiskView → DiskView → Type 0
-PutsWhole side name bytes = ChangesFile (segment side name) (λ f g. g ≡ Some (whole bytes))
+PutsWhole side name = PutsWholeAt (segment side name)
 
 -- the directories read as a crash may leave the files before
 abbrev pub ReadsImageOf : DiskView → DiskView → Type 0

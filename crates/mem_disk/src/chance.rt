@@ -2,14 +2,16 @@
 
 ghost use Rattle.std.specs.Prelude.{◌≡◌, ◌↔◌, ℕ, ◌+◌, ◌<◌, ◌≤◌, ◌^◌, length, take, drop, IfOk, IfSome, IfNone, IsTrue};
 ghost use Rattle.crc_chunk.specs.Chunk.{IsChunkOf};
+ghost use Rattle.disk_face.specs.Image.{log_of};
 ghost use Rattle.mem_disk.specs.Mem.{files_held, AreInOrder};
 ghost use Rattle.mem_disk.specs.Picks.{DecidesChance};
 ghost use Rattle.mem_disk.specs.Sent.{IsSentAt, AreChunksSent, IsFileSent, AreFilesSent};
 
 use crate::files::sent_in;
 use crate::parts::MemFile;
-use crate::picks::{FilePick, add_tail, kept_len, tail_for};
+use crate::picks::{FilePick, add_tail, kept_len, tail_of_file};
 use crc_chunk::chunk_in;
+use disk_face::{FilePlace, SegName};
 use std::alloc::Global;
 use wal_base::NoMemory;
 
@@ -54,16 +56,30 @@ fn are_chunks_sent(bytes: &[u8], sent: &[u8], log: u32) -> bool
     true
 }
 
+// The log number of a file's chunks.
+fn log_at(place: FilePlace) -> u32
+    ensures { result ≡ log_of place }
+{
+    match place {
+        FilePlace::Segment { name, .. } => name.log(),
+        FilePlace::Table { upto } => SegName {
+            wal: upto,
+            index: 0,
+        }
+        .log(),
+    }
+}
+
 fn is_file_sent(alloc: Global, file: &MemFile, picks: &[FilePick]) -> Result<bool, NoMemory>
     ensures { IfOk result (λ sent. IsTrue sent ↔ IsFileSent picks.now file.now) }
 {
-    let tail = tail_for(picks, file.side, file.name);
+    let tail = tail_of_file(picks, file);
     let Some(kept) = kept_len(file, tail) else {
         return Ok(true);
     };
     let mut bytes = Vec::from_slice(alloc, &file.sent[..kept])?;
     add_tail(&mut bytes, tail)?;
-    let log = file.name.log();
+    let log = log_at(file.place);
     Ok(are_chunks_sent(&bytes, sent_in(file), log))
 }
 

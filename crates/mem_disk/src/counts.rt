@@ -2,7 +2,7 @@
 
 ghost use Rattle.std.specs.Prelude.{◌≡◌, ◌+◌, ◌^◌, ◌-◌, ◌↔◌, min, IsTrue, Contains};
 
-/// The calls of `list` and `read` that are to fail.
+/// The calls of one kind that are to fail.
 #[derive(Drop)]
 pub struct CallFaults {
     /// Their numbers.

@@ -6,7 +6,7 @@ ghost use Rattle.mem_disk.specs.Picks.{LeaveWhole};
 ghost use Rattle.mem_disk.specs.Leaving.{IsLeft, IsOneMoreLeft, AreLeft};
 
 use crate::parts::MemFile;
-use crate::picks::{FilePick, add_tail, kept_len, tail_for};
+use crate::picks::{FilePick, add_tail, kept_len, tail_of_file};
 use std::alloc::Global;
 use wal_base::NoMemory;
 
@@ -14,13 +14,12 @@ use wal_base::NoMemory;
 fn left_of(file: MemFile, picks: &[FilePick]) -> Result<Option<MemFile>, NoMemory>
     ensures { IfOk result (IsLeft picks.now file) }
 {
-    let tail = tail_for(picks, file.side, file.name);
+    let tail = tail_of_file(picks, &file);
     let Some(kept) = kept_len(&file, tail) else {
         return Ok(None);
     };
     let MemFile {
-        side,
-        name,
+        place,
         mut sent,
         ..
     } = file;
@@ -28,12 +27,12 @@ fn left_of(file: MemFile, picks: &[FilePick]) -> Result<Option<MemFile>, NoMemor
     add_tail(&mut sent, tail)?;
     let len = sent.len();
     Ok(Some(MemFile {
-        side,
-        name,
+        place,
         sent,
         done: len,
         stable: len,
         created: true,
+        leaving: false,
     }))
 }
 

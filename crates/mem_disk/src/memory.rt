@@ -1,28 +1,35 @@
 //! The disk in memory.
 #![tactic(auto, unfolding(crate::specs::Mem::mem_view))]
 
-ghost use Rattle.std.specs.Prelude.{◌≡◌, ◌↔◌, ◌+◌, ◌≤◌, true, [], length, drop, vec_capacity, IfOk, IfNone, IfSome, OnOk, OnErr, IsErrOf, IsSome, IsTrue, None, Some};
+ghost use Rattle.std.specs.Prelude.{◌≡◌, ◌↔◌, ◌+◌, ◌≤◌, true, [], length, drop, IfOk, IfNone, IfSome, OnOk, OnErr, IsErrOf, IsSome, IsTrue, None, Some};
 ghost use Rattle.disk_face.specs.declared.Side.{Side};
-ghost use Rattle.disk_face.specs.View.{Place, segment, files, by_side, was_polled, IsFree, NothingInFlight};
+ghost use Rattle.disk_face.specs.declared.Side.TheVariants.{Primary};
+ghost use Rattle.disk_face.specs.View.{Place, segment, table, files, by_side, was_polled, IsFree, NothingInFlight};
 ghost use Rattle.disk_face.specs.Image.{IsRested, as_read};
-ghost use Rattle.disk_face.specs.Listing.{IsAscending, AreSegmentNames, IsListing};
+ghost use Rattle.disk_face.specs.Listing.{IsAscending, AreSegmentNames, IsListing, AreTablesAscending, AreTableNumbers, IsTableNumber, IsTableListing};
 ghost use Rattle.disk_face.specs.Answers.{CountsFailure, CountsNoOther, NotesListing, AsksFor, NotesStart, MayStartOn, IsStarted, SendsTo};
 ghost use Rattle.disk_face.specs.Calls.{place_of, GoesOn, SameDisk, StallsStay, FaultsStayBut, StallsStayBut, Notes, Polled, Stalls};
+ghost use Rattle.disk_face.specs.Tables.{whole, NotesTables, AsksForTable, NotesPut, NotesRemoval, PutsTable, Removes};
 ghost use Rattle.mem_disk.specs.Picks.{DecidesChance};
-ghost use Rattle.mem_disk.specs.Plan.{Plan, nothing_planned, failing_op, failing_call, FailsNext, after_call, after_op, AnswersByPlan, TakesOnePoll};
+ghost use Rattle.mem_disk.specs.Failing.{AnswersIf, LeavesPart, LeavesFile};
+ghost use Rattle.mem_disk.specs.Plan.{Plan, nothing_planned, failing_op, failing_call, failing_table_call, FailsNext, FailsTableCall, after_call, after_table_call, after_op, AnswersByPlan, TakesOnePoll};
 ghost use Rattle.mem_disk.specs.Finite.{finite_mem, sound_mem};
-ghost use Rattle.mem_disk.specs.Mem.{files_held, live_in, AreInOrder};
+ghost use Rattle.mem_disk.specs.Mem.{files_held, AreInOrder};
 
 use crate::chance::is_chance_free;
 use crate::counts::CallFaults;
 use crate::crash::files_left;
-use crate::files::{begin, content_of, place, read_file, sent_of, settle, undo_of};
-use crate::listing::list_files;
+use crate::files::{
+    begin, content_of, leave, place_whole, put_as_planned, read_file, remove, sent_of, settle,
+};
+use crate::listing::{list_files, list_tables};
+use crate::moments::Moments;
 use crate::ops::{begin_op, end_op, op_of};
-use crate::parts::{MemFile, MemOp, Undo};
+use crate::parts::{MemFile, MemOp};
 use crate::picks::CrashPick;
 use disk_face::{
-    BySide, CallLog, Disk, DiskErr, DiskOp, Names, OpId, Progress, SegName, Side, StallDisk,
+    BySide, CallLog, Disk, DiskErr, DiskOp, FilePlace, Names, OpId, Progress, SegName, Side,
+    StallDisk, TableDisk, TableNames,
 };
 use std::alloc::Global;
 use wal_base::NoMemory;
@@ -46,22 +53,21 @@ pub struct MemDisk {
     alloc: Global,
     files: Vec<MemFile>,
     ops: Vec<MemOp>,
-    // One for each moment that has passed, in order.
-    undos: Vec<Undo>,
+    moments: Moments,
     faults: BySide,
     polls: BySide,
     fail_ops: Vec<u64>,
     calls: CallFaults,
+    table_calls: CallFaults,
     log: CallLog,
     ghost ordered: { AreInOrder files.items },
-    ghost room: { length undos.items + live_in ops.items ≤ vec_capacity undos },
 }
 
 /// How many files a new disk has room for.
 const FIRST_FILES: usize = 8;
 
 impl MemDisk {
-    ghost use Rattle.mem_disk.specs.Seen.{seen, plan_of, SegmentReads, SegmentSent, PutsWhole, ReadsImageOf, ReadsPicked, StandsAsRead};
+    ghost use Rattle.mem_disk.specs.Seen.{seen, plan_of, SegmentReads, SegmentSent, PutsWhole, PutsWholeAt, ReadsImageOf, ReadsPicked, StandsAsRead};
 
     /// Two empty directories, no fault, no poll to stall, and nothing in flight. `Err` means out of memory.
     pub fn new(alloc: Global) -> Result<MemDisk, NoMemory>
@@ -92,13 +98,42 @@ impl MemDisk {
         ensures plan { plan_of self.new ≡ plan_of self.old }
         ensures rested { IsRested (files (seen self.old)) → IsRested (files (seen self.new)) }
     {
-        let Some(room) = self.ops.len().checked_add(1) else {
-            return Err(NoMemory);
-        };
-        self.undos.reserve(room)?;
-        let undo = undo_of(&self.files, side, name);
-        place(self.alloc, &mut self.files, side, name, bytes)?;
-        self.undos.push_reserved(undo);
+        self.put_whole(FilePlace::Segment { side, name }, bytes)
+    }
+
+    /// Places a whole table, all of it stable. `Err` means out of memory, and changes nothing.
+    pub fn place_table(&mut self, upto: u64, bytes: &[u8]) -> Result<(), NoMemory>
+        requires number { IsTableNumber upto }
+        requires absent { files (seen self.old) (table upto) ≡ None }
+        ensures goes_on { GoesOn (seen self.old) (seen self.new) }
+        ensures flights { (seen self.new).in_flight ≡ (seen self.old).in_flight }
+        ensures put { OnOk result (PutsWholeAt (table upto) bytes.now (seen self.old) (seen self.new)) }
+        ensures err { OnErr result (seen self.new ≡ seen self.old) }
+        ensures stalls { StallsStay (seen self.old) (seen self.new) }
+        ensures steady { (seen self.new).faults ≡ (seen self.old).faults }
+        ensures calls { (seen self.new).calls ≡ (seen self.old).calls }
+        ensures plan { plan_of self.new ≡ plan_of self.old }
+        ensures rested { IsRested (files (seen self.old)) → IsRested (files (seen self.new)) }
+    {
+        self.put_whole(FilePlace::Table { upto }, bytes)
+    }
+
+    // Puts a whole file where none is.
+    fn put_whole(&mut self, place: FilePlace, bytes: &[u8]) -> Result<(), NoMemory>
+        requires absent { files (seen self.old) place ≡ None }
+        ensures goes_on { GoesOn (seen self.old) (seen self.new) }
+        ensures flights { (seen self.new).in_flight ≡ (seen self.old).in_flight }
+        ensures put { OnOk result (PutsWholeAt place bytes.now (seen self.old) (seen self.new)) }
+        ensures err { OnErr result (seen self.new ≡ seen self.old) }
+        ensures stalls { StallsStay (seen self.old) (seen self.new) }
+        ensures steady { (seen self.new).faults ≡ (seen self.old).faults }
+        ensures calls { (seen self.new).calls ≡ (seen self.old).calls }
+        ensures plan { plan_of self.new ≡ plan_of self.old }
+        ensures rested { IsRested (files (seen self.old)) → IsRested (files (seen self.new)) }
+    {
+        let moments = self.moments.and(&self.files);
+        place_whole(self.alloc, &mut self.files, place, bytes)?;
+        self.moments = moments;
         Ok(())
     }
 
@@ -124,6 +159,20 @@ impl MemDisk {
         Ok(())
     }
 
+    /// The call of that number is to fail, of those on tables and the removals: `tables`, `read_table`, `put_table`,
+    /// `drop_segment` and `drop_table`. They are counted from 0, over all of them that are made from now on. A put
+    /// that fails leaves the first half of the table, rounded down, and a removal that fails the file. `Err` is out
+    /// of memory.
+    pub fn fail_table_call(&mut self, number: u64) -> Result<(), NoMemory>
+        ensures same { seen self.new ≡ seen self.old }
+        ensures planned { OnOk result (plan_of self.new ≡ failing_table_call number (plan_of self.old)) }
+        ensures err { OnErr result (plan_of self.new ≡ plan_of self.old) }
+    {
+        let number = self.table_calls.calls.saturating_add(number);
+        self.table_calls.numbers.push(number)?;
+        Ok(())
+    }
+
     /// What a read gives. `None` exactly where no file of that segment is created.
     pub fn content(&self, side: Side, name: SegName) -> Option<&[u8]>
         ensures some { IfSome result (λ bytes. SegmentReads (seen self.now) side name bytes.now) }
@@ -142,7 +191,8 @@ impl MemDisk {
     }
 
     /// The image that the pick names, as a disk in which every byte is stable: no fault, no poll to stall, nothing
-    /// in flight, and no failure asked for. `Err` means out of memory, and gives the disk up.
+    /// in flight, and no failure asked for. Tables, and files whose removal failed, stand in it as they read. `Err`
+    /// means out of memory, and gives the disk up.
     pub fn crash(self, pick: &CrashPick) -> Result<MemDisk, NoMemory>
         ensures image { IfOk result (λ disk. ReadsImageOf (seen self) (seen disk)) }
         ensures picked { IfOk result (λ disk. ReadsPicked (seen self) pick.now.files (seen disk)) }
@@ -167,6 +217,37 @@ impl MemDisk {
         is_chance_free(self.alloc, &self.files, pick.files.as_slice())
     }
 
+    // Removes the file of a place, in the directory of that side.
+    fn take_away(&mut self, side: Side, place: FilePlace) -> Result<(), DiskErr>
+        ensures goes_on { GoesOn (seen self.old) (seen self.new) }
+        ensures flights { (seen self.new).in_flight ≡ (seen self.old).in_flight }
+        ensures failed { CountsFailure side result (seen self.old) (seen self.new) }
+        ensures steady { CountsNoOther side result (seen self.old) (seen self.new) }
+        ensures stalls { StallsStay (seen self.old) (seen self.new) }
+        ensures noted { NotesRemoval place result (seen self.old) (seen self.new) }
+        ensures moments { Removes place (seen self.old) (seen self.new) }
+        ensures gone { OnOk result (files (seen self.new) place ≡ None) }
+        ensures no_memory { IsErrOf result DiskErr.NoMemory → ⊥ }
+        ensures fails { IsErrOf result DiskErr.Failed ↔ FailsTableCall (plan_of self.old) }
+        ensures left { LeavesFile place result (seen self.old) (seen self.new) }
+        ensures counts { plan_of self.new ≡ after_table_call (plan_of self.old) }
+    {
+        let fails = self.table_calls.next();
+        self.moments = self.moments.and(&self.files);
+        leave(&mut self.files, place);
+        if fails {
+            self.faults.raise(side);
+            let answer = Err(DiskErr::Failed);
+            self.log.note_removal(place, &answer);
+            return answer;
+        }
+        self.moments = self.moments.and(&self.files);
+        remove(&mut self.files, place);
+        let answer = Ok(());
+        self.log.note_removal(place, &answer);
+        answer
+    }
+
     /// A disk that holds these files, on which nothing has happened yet.
     fn holding(alloc: Global, kept: Vec<MemFile>) -> MemDisk
         requires ordered { AreInOrder kept.items }
@@ -181,7 +262,7 @@ impl MemDisk {
             alloc,
             files: kept,
             ops: Vec::new(alloc),
-            undos: Vec::new(alloc),
+            moments: Moments::new(),
             faults: BySide {
                 primary: 0,
                 secondary: 0,
@@ -192,6 +273,10 @@ impl MemDisk {
             },
             fail_ops: Vec::new(alloc),
             calls: CallFaults {
+                numbers: Vec::new(alloc),
+                calls: 0,
+            },
+            table_calls: CallFaults {
                 numbers: Vec::new(alloc),
                 calls: 0,
             },
@@ -258,7 +343,8 @@ impl Disk for MemDisk {
             self.faults.raise(side);
             return Err(DiskErr::Failed);
         }
-        Ok(read_file(&self.files, side, name, at, buf))
+        let place = FilePlace::Segment { side, name };
+        Ok(read_file(&self.files, place, at, buf))
     }
 
     fn start(&mut self, op: DiskOp<'_>) -> Result<OpId, NoMemory>
@@ -277,15 +363,11 @@ impl Disk for MemDisk {
         ensures not_counted { OnErr result (plan_of self.new ≡ plan_of self.old) }
     {
         let made = op_of(op);
-        let Some(room) = self.ops.len().checked_add(2) else {
-            return Err(NoMemory);
-        };
         self.ops.reserve(1)?;
-        self.undos.reserve(room)?;
-        let undo = undo_of(&self.files, made.side, made.name);
+        let moments = self.moments.and(&self.files);
         begin(self.alloc, &mut self.files, op)?;
+        self.moments = moments;
         let number = begin_op(&mut self.ops, made);
-        self.undos.push_reserved(undo);
         let id = OpId {
             side: made.side,
             number,
@@ -317,8 +399,7 @@ impl Disk for MemDisk {
             return Progress::Pending;
         }
         let op = end_op(&mut self.ops, id);
-        let undo = undo_of(&self.files, op.side, op.name);
-        self.undos.push_reserved(undo);
+        self.moments = self.moments.and(&self.files);
         if self.fail_ops.contains(&id.number) {
             self.faults.raise(id.side);
             self.log.note_poll(id, Progress::Failed);
@@ -329,9 +410,9 @@ impl Disk for MemDisk {
         Progress::Done
     }
 
-    ghost finite = { λ d k told le. finite_mem k d.files.items d.ops.items d.undos.items (by_side d.faults.primary d.faults.secondary) (by_side d.polls.primary d.polls.secondary) d.log.calls };
+    ghost finite = { λ d k told le. finite_mem k d.files.items d.ops.items d.moments.past (by_side d.faults.primary d.faults.secondary) (by_side d.polls.primary d.polls.secondary) d.log.calls };
 
-    ghost sound = { λ d p f told is. sound_mem d.files.items d.ops.items d.undos.items (by_side d.faults.primary d.faults.secondary) (by_side d.polls.primary d.polls.secondary) d.log.calls p f is };
+    ghost sound = { λ d p f told is. sound_mem d.files.items d.ops.items d.moments.past (by_side d.faults.primary d.faults.secondary) (by_side d.polls.primary d.polls.secondary) d.log.calls p f is };
 }
 
 impl StallDisk for MemDisk {
@@ -342,5 +423,126 @@ impl StallDisk for MemDisk {
         ensures plan { plan_of self.new ≡ plan_of self.old }
     {
         self.polls.add(side, polls);
+    }
+}
+
+impl TableDisk for MemDisk {
+    ghost use Rattle.mem_disk.specs.Seen.{seen, plan_of, FileFills, NoneIfNoFile};
+
+    fn tables(&mut self) -> Result<TableNames, DiskErr>
+        ensures goes_on { GoesOn (seen self.old) (seen self.new) }
+        ensures same { SameDisk (seen self.old) (seen self.new) }
+        ensures failed { CountsFailure Primary result (seen self.old) (seen self.new) }
+        ensures steady { CountsNoOther Primary result (seen self.old) (seen self.new) }
+        ensures stalls { StallsStay (seen self.old) (seen self.new) }
+        ensures noted { NotesTables result (seen self.old) (seen self.new) }
+        ensures ascending { IfOk result AreTablesAscending }
+        ensures numbers { IfOk result AreTableNumbers }
+        ensures tables { IfOk result (IsTableListing (files (seen self.old))) }
+
+        // It fails exactly at the calls that were to fail.
+        ensures fails { IsErrOf result DiskErr.Failed ↔ FailsTableCall (plan_of self.old) }
+        ensures counts { plan_of self.new ≡ after_table_call (plan_of self.old) }
+    {
+        if self.table_calls.next() {
+            self.faults.raise(Side::Primary);
+            let answer = Err(DiskErr::Failed);
+            self.log.note_tables(&answer);
+            return answer;
+        }
+        let answer = list_tables(self.alloc, &self.files);
+        self.log.note_tables(&answer);
+        answer
+    }
+
+    fn read_table(&mut self, upto: u64, at: u64, buf: &mut [u8]) -> Result<usize, DiskErr>
+        ensures goes_on { GoesOn (seen self.old) (seen self.new) }
+        ensures same { SameDisk (seen self.old) (seen self.new) }
+        ensures failed { CountsFailure Primary result (seen self.old) (seen self.new) }
+        ensures steady { CountsNoOther Primary result (seen self.old) (seen self.new) }
+        ensures stalls { StallsStay (seen self.old) (seen self.new) }
+        ensures noted { AsksForTable upto buf.old (seen self.old) (seen self.new) }
+        ensures within { IfOk result (λ n. n ≤ length buf.new) }
+        ensures beyond { IfOk result (λ n. drop n buf.new ≡ drop n buf.old) }
+        ensures bytes { IfOk result (FileFills (seen self.old) (table upto) at buf.new) }
+        ensures no_file { IfOk result (NoneIfNoFile (seen self.old) (table upto)) }
+
+        // It fails exactly at the calls that were to fail.
+        ensures fails { IsErrOf result DiskErr.Failed ↔ FailsTableCall (plan_of self.old) }
+        ensures counts { plan_of self.new ≡ after_table_call (plan_of self.old) }
+    {
+        self.log.note_table_read(upto, buf.len());
+        if self.table_calls.next() {
+            self.faults.raise(Side::Primary);
+            return Err(DiskErr::Failed);
+        }
+        let place = FilePlace::Table { upto };
+        Ok(read_file(&self.files, place, at, buf))
+    }
+
+    fn put_table(&mut self, upto: u64, bytes: &[u8]) -> Result<(), DiskErr>
+        ensures goes_on { GoesOn (seen self.old) (seen self.new) }
+        ensures flights { (seen self.new).in_flight ≡ (seen self.old).in_flight }
+        ensures failed { CountsFailure Primary result (seen self.old) (seen self.new) }
+        ensures steady { CountsNoOther Primary result (seen self.old) (seen self.new) }
+        ensures stalls { StallsStay (seen self.old) (seen self.new) }
+        ensures noted { NotesPut upto bytes.now result (seen self.old) (seen self.new) }
+        ensures moments { PutsTable upto bytes.now (seen self.old) (seen self.new) }
+        ensures put { OnOk result (files (seen self.new) (table upto) ≡ Some (whole bytes.now)) }
+
+        // It fails exactly at the calls that were to fail, unless there is no memory, and leaves half of the table then.
+        ensures fails { AnswersIf (FailsTableCall (plan_of self.old)) result }
+        ensures part { LeavesPart upto bytes.now result (seen self.new) }
+        ensures counts { plan_of self.new ≡ after_table_call (plan_of self.old) }
+    {
+        let fails = self.table_calls.next();
+        // First no table of that number is there, also where no memory is left for this one.
+        self.moments = self.moments.and(&self.files);
+        remove(&mut self.files, FilePlace::Table { upto });
+        self.moments = self.moments.and(&self.files);
+        let answer = put_as_planned(self.alloc, &mut self.files, upto, bytes, fails);
+        if let Err(DiskErr::Failed) = answer {
+            self.faults.raise(Side::Primary);
+        }
+        self.log.note_put(upto, bytes, &answer);
+        answer
+    }
+
+    fn drop_segment(&mut self, side: Side, name: SegName) -> Result<(), DiskErr>
+        ensures goes_on { GoesOn (seen self.old) (seen self.new) }
+        ensures flights { (seen self.new).in_flight ≡ (seen self.old).in_flight }
+        ensures failed { CountsFailure side result (seen self.old) (seen self.new) }
+        ensures steady { CountsNoOther side result (seen self.old) (seen self.new) }
+        ensures stalls { StallsStay (seen self.old) (seen self.new) }
+        ensures noted { NotesRemoval (segment side name) result (seen self.old) (seen self.new) }
+        ensures moments { Removes (segment side name) (seen self.old) (seen self.new) }
+        ensures gone { OnOk result (files (seen self.new) (segment side name) ≡ None) }
+
+        // It takes no memory, fails exactly at the calls that were to fail, and leaves the file then.
+        ensures no_memory { IsErrOf result DiskErr.NoMemory → ⊥ }
+        ensures fails { IsErrOf result DiskErr.Failed ↔ FailsTableCall (plan_of self.old) }
+        ensures left { LeavesFile (segment side name) result (seen self.old) (seen self.new) }
+        ensures counts { plan_of self.new ≡ after_table_call (plan_of self.old) }
+    {
+        self.take_away(side, FilePlace::Segment { side, name })
+    }
+
+    fn drop_table(&mut self, upto: u64) -> Result<(), DiskErr>
+        ensures goes_on { GoesOn (seen self.old) (seen self.new) }
+        ensures flights { (seen self.new).in_flight ≡ (seen self.old).in_flight }
+        ensures failed { CountsFailure Primary result (seen self.old) (seen self.new) }
+        ensures steady { CountsNoOther Primary result (seen self.old) (seen self.new) }
+        ensures stalls { StallsStay (seen self.old) (seen self.new) }
+        ensures noted { NotesRemoval (table upto) result (seen self.old) (seen self.new) }
+        ensures moments { Removes (table upto) (seen self.old) (seen self.new) }
+        ensures gone { OnOk result (files (seen self.new) (table upto) ≡ None) }
+
+        // It takes no memory, fails exactly at the calls that were to fail, and leaves the file then.
+        ensures no_memory { IsErrOf result DiskErr.NoMemory → ⊥ }
+        ensures fails { IsErrOf result DiskErr.Failed ↔ FailsTableCall (plan_of self.old) }
+        ensures left { LeavesFile (table upto) result (seen self.old) (seen self.new) }
+        ensures counts { plan_of self.new ≡ after_table_call (plan_of self.old) }
+    {
+        self.take_away(Side::Primary, FilePlace::Table { upto })
     }
 }

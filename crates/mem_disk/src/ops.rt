@@ -4,7 +4,7 @@ ghost use Rattle.std.specs.Prelude.{length, ◌≡◌, ◌+◌, ◌<◌, ◌≤�
 ghost use Rattle.disk_face.specs.declared.OpId.{OpId};
 ghost use Rattle.disk_face.specs.View.{segment};
 ghost use Rattle.disk_face.specs.Calls.{flight_of, place_of, side_of};
-ghost use Rattle.mem_disk.specs.Mem.{flight_in, flight_kept, id_of, FlightsStayBut, live_in, act_in_memory};
+ghost use Rattle.mem_disk.specs.Mem.{flight_in, flight_kept, id_of, FlightsStayBut, act_in_memory};
 
 use crate::parts::{MemAct, MemOp};
 use disk_face::{DiskOp, OpId, Side};
@@ -44,7 +44,6 @@ pub fn end_op(ops: &mut Vec<MemOp>, id: OpId) -> MemOp
     ensures flight { flight_in ops.old.items id ≡ Some (flight_kept result) }
     ensures gone { flight_in ops.new.items id ≡ None }
     ensures others { FlightsStayBut id ops.old.items ops.new.items }
-    ensures count { live_in ops.new.items + 1 ≡ live_in ops.old.items }
     ensures length { length ops.new.items ≡ length ops.old.items }
 {
     let number = id.number as usize;
@@ -60,7 +59,6 @@ pub fn begin_op(ops: &mut Vec<MemOp>, op: MemOp) -> u64
     ensures absent { flight_in ops.old.items (id_of op result) ≡ None }
     ensures here { flight_in ops.new.items (id_of op result) ≡ Some (flight_kept op) }
     ensures others { FlightsStayBut (id_of op result) ops.old.items ops.new.items }
-    ensures count { live_in ops.new.items ≡ live_in ops.old.items + 1 }
     ensures number { result ≡ length ops.old.items }
     ensures length { length ops.new.items ≡ length ops.old.items + 1 }
 {

@@ -1,17 +1,15 @@
-//! What a disk in memory keeps of its files, its operations and its moments.
+//! What a disk in memory keeps of its files and its operations.
 
 ghost use Rattle.std.specs.Prelude.{◌≤◌, length};
 
-use disk_face::{SegName, Side};
+use disk_face::{FilePlace, SegName, Side};
 
-/// A segment of which a creation was started, or that was put. Until it is created it reads as empty, whatever
-/// stands in its other fields.
+/// A segment of which a creation was started, or that was put, or a table. Until it is created a segment reads as
+/// empty, whatever stands in its other fields, and a table as far as it is done.
 #[derive(Drop)]
 pub struct MemFile {
-    /// In which directory.
-    pub side: Side,
-    /// Which segment.
-    pub name: SegName,
+    /// Where it stands.
+    pub place: FilePlace,
     /// The bytes of all writes started, in order.
     pub sent: Vec<u8>,
     /// How many of them the completed writes cover. A read gives these.
@@ -20,6 +18,8 @@ pub struct MemFile {
     pub stable: usize,
     /// Whether its creation was completed.
     pub created: bool,
+    /// Whether its removal was begun and not completed.
+    pub leaving: bool,
     ghost within: { done ≤ length sent.items },
     ghost ordered: { stable ≤ done },
 }
@@ -35,7 +35,7 @@ pub enum MemAct {
     Sync,
 }
 
-/// An operation that was started.
+/// An operation that was started. It is on a segment, since no operation is on a table.
 #[derive(Clone, Copy)]
 pub struct MemOp {
     /// In which directory.
@@ -46,23 +46,4 @@ pub struct MemOp {
     pub act: MemAct,
     /// Whether it is still in flight.
     pub live: bool,
-}
-
-/// What takes one change of a file back: the file as it was. Bytes are only added, so their number is enough.
-#[derive(Clone, Copy)]
-pub struct Undo {
-    /// In which directory.
-    pub side: Side,
-    /// Which segment.
-    pub name: SegName,
-    /// Whether there was a file.
-    pub there: bool,
-    /// How many bytes were sent.
-    pub sent: usize,
-    /// How many of them were done.
-    pub done: usize,
-    /// How many of them were stable.
-    pub stable: usize,
-    /// Whether it was created.
-    pub created: bool,
 }

@@ -5,6 +5,8 @@ ghost use Rattle.disk_face.specs.Calls.{place_of};
 ghost use Rattle.disk_face.specs.Answers.{MayStartOn};
 ghost use Rattle.mem_disk.specs.Changes.{FlightsStay, IsPerformed};
 
+mod tables;
+
 use crate::{CrashPick, FilePick, FilePicks, MemDisk};
 use crc_chunk::{ChunkKind, HEADER, put_chunk, put_sync_chunk};
 use disk_face::{Disk, DiskErr, DiskOp, Listed, Progress, ScriptDisk, SegName, Side, StallDisk};

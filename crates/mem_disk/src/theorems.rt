@@ -8,7 +8,8 @@ ghost use Rattle.mem_disk.specs.Seen.{seen};
 use crate::memory::MemDisk;
 use disk_face::Disk;
 
-/// Whatever a crash may leave of a disk, there are picks that name it.
+/// Whatever a crash may leave of a disk, if tables, and files whose removal failed, stand in it as they read, there
+/// are picks that name it.
 pub fn each_image_has_a_pick()
     ensures { (disk : MemDisk) → EachImageHasPicks (files (seen disk)) }
 {}

@@ -11,7 +11,7 @@ pub put_file-requires-clause-absent : goal.put_file-requires-clause-absent
 put_file-requires-clause-absent c =
     let p : Place = segment Primary c.args.name in
     c.in_ok-crashed.ensures.stable p ∙ ap (option_map whole) (c.in_ok-crashed.ensures.picked p
-    ∙ ap (λ (o : Option File). picked o (tail_of c.args.pick.now.files p)) c.requires.absent)
+    ∙ ap (λ (o : Option File). picked p o (tail_of c.args.pick.now.files p)) c.requires.absent)
 
 pub put_file-requires-clause-free : goal.put_file-requires-clause-free
 put_file-requires-clause-free c = λ id f at place.
