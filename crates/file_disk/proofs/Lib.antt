@@ -3,3 +3,5 @@ mod Once
 mod Filled
 mod Absent
 mod Sorts
+mod Tables
+mod Views

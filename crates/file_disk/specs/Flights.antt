@@ -5,8 +5,8 @@ use Rattle.std.specs.BTreeMap.{get}
 use Rattle.disk_face.specs.declared.Side.{Side}
 use Rattle.disk_face.specs.declared.Side.TheVariants.{Primary, Secondary}
 use Rattle.disk_face.specs.declared.DiskOp.{DiskOp}
-use Rattle.disk_face.specs.Calls.{flight_of, side_of, bytes_sent_by}
-use Rattle.disk_face.specs.View.{segment, Act, creating, writing, syncing, Flight, Call, DiskView, by_side}
+use Rattle.disk_face.specs.Calls.{flight_of, bytes_sent_by}
+use Rattle.disk_face.specs.View.{Act, creating, writing, syncing, Flight, Call, DiskView, by_side}
 use Rattle.file_disk.specs.declared.directory.Task.{Task}
 use Rattle.file_disk.specs.declared.directory.Task.TheVariants.{Create, Append, Sync}
 use Rattle.file_disk.specs.declared.directory.Started.{Started}
@@ -20,10 +20,10 @@ act_of_task (Create path) = creating
 act_of_task (Append target bytes) = writing
 act_of_task (Sync target) = syncing
 
--- an operation of that side in flight
-abbrev pub flight_at : {F : Type 0} → Side → Option (Started F) → Option Flight
-flight_at side None = None
-flight_at side (Some op) = Some (record { place = segment side op.name; act = act_of_task op.task })
+-- an operation in flight
+abbrev pub flight_as : {F : Type 0} → Option (Started F) → Option Flight
+flight_as None = None
+flight_as (Some op) = Some (record { place = op.place; act = act_of_task op.task })
 
 -- the one that stands in place, where it has that number, and else another
 abbrev pub first_or : {T : Type 0} → Option (Numbered T) → ℕ → Option T → Option T
@@ -35,12 +35,12 @@ abbrev pub in_flight : {T : Type 0} → Flights T → ℕ → Option T
 in_flight flights number = first_or flights.first number (get nat_cmp flights.others number)
 
 -- the operation of that number in flight in a directory
-abbrev pub flight_on_side : {F : Type 0} → Side → Directory F → ℕ → Option Flight
-flight_on_side side directory number = flight_at side (in_flight directory.flights number)
+abbrev pub flight_numbered : {F : Type 0} → Directory F → ℕ → Option Flight
+flight_numbered directory number = flight_as (in_flight directory.flights number)
 
 -- the task is that of the operation
 abbrev pub IsTaskOf : {F : Type 0} → DiskOp → Started F → Type 0
-IsTaskOf op started = flight_at (side_of op) (Some started) ≡ Some (flight_of op)
+IsTaskOf op started = flight_as (Some started) ≡ Some (flight_of op)
 
 -- the bytes that a task puts at the end of its file
 abbrev pub bytes_of_task : {F : Type 0} → Task F → List ℕ
@@ -54,19 +54,19 @@ HasBytesOf op started = bytes_of_task started.task ≡ bytes_sent_by op
 
 -- the operation is in flight in the directory, by that number
 abbrev pub HasInFlight : {F : Type 0} → DiskOp → Directory F → ℕ → Type 0
-HasInFlight op directory number = flight_on_side (side_of op) directory number ≡ Some (flight_of op)
+HasInFlight op directory number = flight_numbered directory number ≡ Some (flight_of op)
 
 -- nothing is in flight in the directory by that number
 abbrev pub HasNoFlight : {F : Type 0} → Directory F → ℕ → Type 0
-HasNoFlight directory number = (side : Side) → flight_on_side side directory number ≡ None
+HasNoFlight directory number = flight_numbered directory number ≡ None
 
 -- what is in flight in the directory stays
 abbrev pub SameFlights : {F : Type 0} → Directory F → Directory F → Type 0
-SameFlights old new = (side : Side) (q : ℕ) → flight_on_side side new q ≡ flight_on_side side old q
+SameFlights old new = (q : ℕ) → flight_numbered new q ≡ flight_numbered old q
 
 -- what is in flight in the directory by another number stays
 abbrev pub OtherFlightsStay : {F : Type 0} → ℕ → Directory F → Directory F → Type 0
-OtherFlightsStay number old new = (side : Side) (q : ℕ) → q ≢ number → flight_on_side side new q ≡ flight_on_side side old q
+OtherFlightsStay number old new = (q : ℕ) → q ≢ number → flight_numbered new q ≡ flight_numbered old q
 
 -- the directory of that side
 abbrev pub directory_of : {F : Type 0} → Directory F → Directory F → Side → Directory F
@@ -78,7 +78,7 @@ abbrev pub file_view : {F : Type 0} → Directory F → Directory F → List Cal
 file_view primary secondary calls = record {
   faults = by_side primary.faults secondary.faults;
   polls_left = λ side. 0;
-  in_flight = λ id. flight_on_side id.side (directory_of primary secondary id.side) id.number;
+  in_flight = λ id. flight_numbered (directory_of primary secondary id.side) id.number;
   clock = 0;
   history = λ k p. None;
   calls = calls;

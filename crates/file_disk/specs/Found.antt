@@ -1,8 +1,10 @@
--- How a listing comes from the segments that were found in a directory (docs/formats/disk.md, "The disk").
+-- How a listing comes from the files that were found in a directory (docs/formats/disk.md, "The disk").
 use Rattle.std.specs.Prelude.{◌≡◌, ◌⊎◌, ℕ, ◌+◌, ◌-◌, ◌<◌, List, [], ◌∷◌, ◌++◌, length, slice_index_or, All, Any, Contains}
 use Rattle.disk_face.specs.declared.SegName.{SegName}
 use Rattle.disk_face.specs.declared.Listed.{Listed}
-use Rattle.disk_face.specs.Listing.{IsBefore}
+use Rattle.disk_face.specs.declared.TableListed.{TableListed}
+use Rattle.disk_face.specs.Listing.{IsBefore, IsTableNumber}
+use Rattle.std.specs.BTreeMap.{BTreeMap, keys}
 
 -- no segment stands before the one in front of it
 abbrev pub NeverDescends : List Listed → Type 0
@@ -23,3 +25,11 @@ AreAmong found = All (λ item. Contains found item)
 -- each name that was found has a segment in the list
 abbrev pub HasEachName : List Listed → List Listed → Type 0
 HasEachName found list = All (λ item. Any (λ listed. listed.name ≡ item.name) list) found
+
+-- the lengths that were found, by the numbers of tables
+abbrev pub AreTablesFound : BTreeMap ℕ ℕ → Type 0
+AreTablesFound found = All IsTableNumber (keys found)
+
+-- the table that was found, by its number and its length
+abbrev pub found_as : ℕ × ℕ → TableListed
+found_as found = record { upto = found.0; len = found.1 }

@@ -1,8 +1,7 @@
 -- Which file a directory holds open, and how an operation comes to its file (docs/formats/log.md, "Segment names").
 use Rattle.std.specs.Prelude.{◌≡◌, ℕ, List, Option, Some}
 use Rattle.std.specs.Io.KnownBytes.{Appends}
-use Rattle.disk_face.specs.declared.Side.{Side}
-use Rattle.disk_face.specs.declared.SegName.{SegName}
+use Rattle.disk_face.specs.View.{Place}
 use Rattle.file_disk.specs.declared.directory.Target.{Target}
 use Rattle.file_disk.specs.declared.directory.Target.TheVariants.{Open, Path}
 use Rattle.file_disk.specs.declared.directory.Task.{Task}
@@ -11,44 +10,48 @@ use Rattle.file_disk.specs.declared.directory.Started.{Started}
 use Rattle.file_disk.specs.declared.directory.Directory.{Directory}
 use Rattle.file_disk.specs.Paths.{path_text}
 
--- this is the file of that segment, held open
-abbrev pub IsHeld : {F : Type 0} → Directory F → SegName → F → Type 0
-IsHeld directory name file = directory.held ≡ Some (record { name = name; file = file })
+-- this is the file of that place, held open
+abbrev pub IsHeld : {F : Type 0} → Directory F → Place → F → Type 0
+IsHeld directory place file = directory.held ≡ Some (record { place = place; file = file })
 
--- some file of that segment is held open
-abbrev pub HoldsOpen : {F : Type 0} → Directory F → SegName → Type 0
-HoldsOpen {F} directory name = (file : F) × IsHeld directory name file
+-- the file of that place is held open
+abbrev pub HoldsOpen : {F : Type 0} → Directory F → Place → Type 0
+HoldsOpen {F} directory place = (file : F) × IsHeld directory place file
+
+-- the file of that place is not held open
+abbrev pub LetsGo : {F : Type 0} → Directory F → Place → Type 0
+LetsGo directory place = HoldsOpen directory place → ⊥
 
 -- the same file is held open, or none as before
 abbrev pub HoldsTheSame : {F : Type 0} → Directory F → Directory F → Type 0
 HoldsTheSame old new = new.held ≡ old.held
 
--- the file of that segment is the one that was held open, or if that is another's, the one at the segment's path
-abbrev pub LeadsTo : {F : Type 0} → Directory F → Side → SegName → Target F → Type 0
-LeadsTo directory side name (Open file) = IsHeld directory name file
-LeadsTo directory side name (Path path) = (path ≡ path_text side name) × (HoldsOpen directory name → ⊥)
+-- the file of that place is the one that was held open, or if that is another's, the one at its path
+abbrev pub LeadsTo : {F : Type 0} → Directory F → Place → Target F → Type 0
+LeadsTo directory place (Open file) = IsHeld directory place file
+LeadsTo directory place (Path path) = (path ≡ path_text place) × LetsGo directory place
 
 -- an open file, and no path
 abbrev pub IsOpen : {F : Type 0} → Target F → Type 0
 IsOpen (Open file) = Unit {0}
 IsOpen (Path path) = ⊥
 
--- the task is done to the file of that segment
-abbrev pub WorksOn : {F : Type 0} → Directory F → Side → SegName → Task F → Type 0
-WorksOn directory side name (Create path) = path ≡ path_text side name
-WorksOn directory side name (Append target bytes) = LeadsTo directory side name target
-WorksOn directory side name (Sync target) = LeadsTo directory side name target
+-- the task is done to the file of that place
+abbrev pub WorksOn : {F : Type 0} → Directory F → Place → Task F → Type 0
+WorksOn directory place (Create path) = path ≡ path_text place
+WorksOn directory place (Append target bytes) = LeadsTo directory place target
+WorksOn directory place (Sync target) = LeadsTo directory place target
 
--- the operation comes to the file of its segment
-abbrev pub FindsItsFile : {F : Type 0} → Directory F → Side → Started F → Type 0
-FindsItsFile directory side started = WorksOn directory side started.name started.task
+-- the operation comes to the file of its place
+abbrev pub FindsItsFile : {F : Type 0} → Directory F → Started F → Type 0
+FindsItsFile directory started = WorksOn directory started.place started.task
 
--- a segment that was made, written, or synced while it was open is held open once that is done
-abbrev pub HoldsAfter : {F : Type 0} → Directory F → Directory F → SegName → Task F → Type 0
-HoldsAfter old new name (Create path) = HoldsOpen new name
-HoldsAfter old new name (Append target bytes) = HoldsOpen new name
-HoldsAfter old new name (Sync (Open file)) = HoldsOpen new name
-HoldsAfter old new name (Sync (Path path)) = HoldsTheSame old new
+-- a file that was made, written, or synced while it was open is held open once that is done
+abbrev pub HoldsAfter : {F : Type 0} → Directory F → Directory F → Place → Task F → Type 0
+HoldsAfter old new place (Create path) = HoldsOpen new place
+HoldsAfter old new place (Append target bytes) = HoldsOpen new place
+HoldsAfter old new place (Sync (Open file)) = HoldsOpen new place
+HoldsAfter old new place (Sync (Path path)) = HoldsTheSame old new
 
 -- where the file was held open, the bytes that it is known to have grew by these
 abbrev pub GrewOpen : {F : Type 0} → (F → Option (List ℕ)) → Target F → F → List ℕ → Type 0

@@ -2,16 +2,15 @@
 
 ghost use Rattle.std.specs.Prelude.{◌≡◌, ◌↔◌, ◌≤◌, ◌^◌, ℕ, None, Some, IfOk, IfSome, IfNone, IsSome, OnOk, OnErr};
 ghost use Rattle.wal_base.specs.Faults.{Rose, counted};
-ghost use Rattle.disk_face.specs.declared.Side.{Side};
-ghost use Rattle.disk_face.specs.Calls.{side_of};
-ghost use Rattle.file_disk.specs.Flights.{flight_on_side, flight_at, IsTaskOf, HasBytesOf, HasInFlight, HasNoFlight};
+ghost use Rattle.file_disk.specs.Flights.{flight_numbered, flight_as, IsTaskOf, HasBytesOf, HasInFlight, HasNoFlight};
 ghost use Rattle.file_disk.specs.Flights.{SameFlights, OtherFlightsStay};
-ghost use Rattle.file_disk.specs.Held.{IsHeld, HoldsOpen, HoldsTheSame, HoldsAfter, IsOpen, LeadsTo, FindsItsFile, GrewOpen};
+ghost use Rattle.file_disk.specs.Held.{IsHeld, HoldsOpen, LetsGo, HoldsTheSame, HoldsAfter};
+ghost use Rattle.file_disk.specs.Held.{IsOpen, LeadsTo, FindsItsFile, GrewOpen};
 
 use crate::flights::Flights;
-use crate::paths::{PARENT, directory_of, path_of};
+use crate::paths::{PARENT, UNNAMED_TABLE, directory_of, path_of, place_of, side_of};
 use crate::system;
-use disk_face::{DiskOp, SegName, Side};
+use disk_face::{DiskErr, DiskOp, FilePlace, Side};
 use std::alloc::Global;
 use std::fs::OpenFile;
 use std::io::Write;
@@ -75,8 +74,8 @@ pub enum Task<F> {
 /// An operation in flight.
 #[derive(Drop)]
 pub struct Started<F> {
-    /// The segment that it works on.
-    pub name: SegName,
+    /// Where its file stands.
+    pub place: FilePlace,
     /// What it does.
     pub task: Task<F>,
 }
@@ -84,13 +83,13 @@ pub struct Started<F> {
 /// A segment's file, open for appending.
 #[derive(Drop)]
 pub struct Handle<F> {
-    /// Which segment.
-    pub name: SegName,
-    /// Its file.
+    /// Where it stands.
+    pub place: FilePlace,
+    /// The file.
     pub file: F,
 }
 
-/// A directory of segments.
+/// A directory of files.
 ///
 /// It holds one file open: that of the segment that was created or written last. An operation on that segment takes
 /// the file along, and puts it back once it is done. An operation on an older segment, in flight meanwhile, puts back
@@ -112,7 +111,7 @@ impl<F: Write + OpenFile + Drop> Directory<F> {
     /// It has counted no fault, holds no file open, and nothing is in flight in it.
     pub fn new(alloc: Global) -> Directory<F>
         ensures faults { result.faults ≡ 0 }
-        ensures idle { (side : Side) (number : ℕ) → flight_on_side side result number ≡ None }
+        ensures idle { (number : ℕ) → flight_numbered result number ≡ None }
     {
         Directory {
             alloc,
@@ -135,15 +134,16 @@ impl<F: Write + OpenFile + Drop> Directory<F> {
         self.faults = self.faults.saturating_add(1);
     }
 
-    /// Takes the file of that segment, where it is the one held open.
-    fn take(&mut self, name: SegName) -> Option<F>
-        ensures its { IfSome result (λ file. IsHeld self.old name file) }
-        ensures none { IfNone result (HoldsOpen self.old name → ⊥) }
+    /// Takes the file of that place, where it is the one held open.
+    fn take(&mut self, place: FilePlace) -> Option<F>
+        ensures its { IfSome result (λ file. IsHeld self.old place file) }
+        ensures none { IfNone result (LetsGo self.old place) }
+        ensures let_go { LetsGo self.new place }
         ensures faults { self.new.faults ≡ self.old.faults }
         ensures flights { SameFlights self.old self.new }
     {
         match self.held.take() {
-            Some(held) if held.name == name => Some(held.file),
+            Some(held) if held.place == place => Some(held.file),
             other => {
                 self.held = other;
                 None
@@ -151,15 +151,15 @@ impl<F: Write + OpenFile + Drop> Directory<F> {
         }
     }
 
-    /// How an operation comes to the file of that segment. The path is built where the file is not held open.
-    fn target(&mut self, side: Side, name: SegName) -> Result<Target<F>, NoMemory>
-        ensures leads { IfOk result (λ target. LeadsTo self.old side name target) }
+    /// How an operation comes to the file of that place. The path is built where the file is not held open.
+    fn target(&mut self, place: FilePlace) -> Result<Target<F>, NoMemory>
+        ensures leads { IfOk result (LeadsTo self.old place) }
         ensures faults { self.new.faults ≡ self.old.faults }
         ensures flights { SameFlights self.old self.new }
     {
-        match self.take(name) {
+        match self.take(place) {
             Some(file) => Ok(Target::Open(file)),
-            None => Ok(Target::Path(path_of(self.alloc, side, name)?)),
+            None => Ok(Target::Path(path_of(self.alloc, place)?)),
         }
     }
 
@@ -191,19 +191,20 @@ impl<F: Write + OpenFile + Drop> Directory<F> {
     fn task(&mut self, op: DiskOp<'_>) -> Result<Started<F>, NoMemory>
         ensures flight { IfOk result (IsTaskOf op.entry) }
         ensures bytes { IfOk result (HasBytesOf op.entry) }
-        ensures leads { IfOk result (λ started. FindsItsFile self.old (side_of op.entry) started) }
+        ensures leads { IfOk result (FindsItsFile self.old) }
         ensures faults { self.new.faults ≡ self.old.faults }
         ensures flights { SameFlights self.old self.new }
     {
-        let (name, task) = match op {
-            DiskOp::Create { side, name } => (name, Task::Create(path_of(self.alloc, side, name)?)),
-            DiskOp::Write { side, name, bytes } => {
+        let place = place_of(op);
+        let task = match op {
+            DiskOp::Create { .. } => Task::Create(path_of(self.alloc, place)?),
+            DiskOp::Write { bytes, .. } => {
                 let bytes = self.copy_of(bytes)?;
-                (name, Task::Append(self.target(side, name)?, bytes))
+                Task::Append(self.target(place)?, bytes)
             }
-            DiskOp::Sync { side, name } => (name, Task::Sync(self.target(side, name)?)),
+            DiskOp::Sync { .. } => Task::Sync(self.target(place)?),
         };
-        Ok(Started { name, task })
+        Ok(Started { place, task })
     }
 
     /// Puts an operation in flight, and answers its number. After 2^64 operations numbers come again, and one
@@ -227,7 +228,7 @@ impl<F: Write + OpenFile + Drop> Directory<F> {
 
     /// Takes an operation out of flight. `None` exactly where none of that number was in flight.
     pub fn end(&mut self, number: u64) -> Option<Started<F>>
-        ensures was { (side : Side) → flight_at side result ≡ flight_on_side side self.old number }
+        ensures was { flight_as result ≡ flight_numbered self.old number }
         ensures gone { HasNoFlight self.new number }
         ensures others { OtherFlightsStay number self.old self.new }
         ensures faults { self.new.faults ≡ self.old.faults }
@@ -236,15 +237,15 @@ impl<F: Write + OpenFile + Drop> Directory<F> {
     }
 
     /// Runs an operation. Once it is done its file is held open; one that was refused has let go of its file.
-    pub fn run<R: Files<File = F>>(&mut self, rt: &R, side: Side, op: Started<F>) -> io::Result<()>
-        ensures holds { OnOk result (HoldsAfter self.old self.new op.name op.task) }
+    pub fn run<R: Files<File = F>>(&mut self, rt: &R, op: Started<F>) -> io::Result<()>
+        ensures holds { OnOk result (HoldsAfter self.old self.new op.place op.task) }
         ensures err { OnErr result (HoldsTheSame self.old self.new) }
         ensures faults { self.new.faults ≡ self.old.faults }
         ensures flights { SameFlights self.old self.new }
     {
-        let Started { name, task } = op;
+        let Started { place, task } = op;
         let file = match task {
-            Task::Create(path) => Some(self.create(rt, side, &path)?),
+            Task::Create(path) => Some(self.create(rt, side_of(place), &path)?),
             Task::Append(target, bytes) => {
                 let file = target.append(rt, bytes.as_slice())?;
                 self.keep_room(bytes);
@@ -253,7 +254,7 @@ impl<F: Write + OpenFile + Drop> Directory<F> {
             Task::Sync(target) => target.sync(rt)?,
         };
         if let Some(file) = file {
-            self.held = Some(Handle { name, file });
+            self.held = Some(Handle { place, file });
         }
         Ok(())
     }
@@ -286,5 +287,35 @@ impl<F: Write + OpenFile + Drop> Directory<F> {
             self.is_named = true;
         }
         Ok(())
+    }
+
+    /// Puts a table, in place of one of that number. Its directory is made where it is absent, and synced at last.
+    pub fn put_table<R: Files<File = F>>(
+        &mut self,
+        rt: &R,
+        upto: u64,
+        bytes: &[u8],
+    ) -> Result<(), DiskErr>
+        ensures held { HoldsTheSame self.old self.new }
+        ensures faults { self.new.faults ≡ self.old.faults }
+        ensures flights { SameFlights self.old self.new }
+    {
+        let path = path_of(self.alloc, FilePlace::Table { upto })?;
+        let directory = directory_of(Side::Primary);
+        self.make(rt, directory).map_err(system::refusal)?;
+        system::replace(rt, UNNAMED_TABLE, &path, bytes).map_err(system::refusal)?;
+        system::sync_directory(rt, directory).map_err(system::refusal)
+    }
+
+    /// Removes a file, which is let go of first, and syncs its directory.
+    pub fn remove<R: Files<File = F>>(&mut self, rt: &R, place: FilePlace) -> Result<(), DiskErr>
+        ensures let_go { LetsGo self.new place }
+        ensures faults { self.new.faults ≡ self.old.faults }
+        ensures flights { SameFlights self.old self.new }
+    {
+        drop(self.take(place));
+        let path = path_of(self.alloc, place)?;
+        system::remove(rt, &path).map_err(system::refusal)?;
+        system::sync_directory(rt, directory_of(side_of(place))).map_err(system::refusal)
     }
 }

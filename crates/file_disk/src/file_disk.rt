@@ -1,20 +1,26 @@
 //! The disk over files.
 
-ghost use Rattle.std.specs.Prelude.{◌≡◌, ◌∷◌, false, IfOk, IsOk};
+ghost use Rattle.std.specs.Prelude.{◌≡◌, ◌≤◌, ◌∷◌, false, length, drop, IfOk, IsOk};
 ghost use Rattle.disk_face.specs.declared.Side.{Side};
 ghost use Rattle.disk_face.specs.View.{NothingInFlight, was_polled};
-ghost use Rattle.disk_face.specs.Calls as spec;
 ghost use Rattle.disk_face.specs.Calls.{GoesOn, SameDisk, Ends};
+ghost use Rattle.disk_face.specs.Answers.{CountsFailure, CountsNoOther};
 ghost use Rattle.wal_base.specs.Faults.{Rose, counted};
-ghost use Rattle.disk_face.specs.Listing.{IsAscending, AreSegmentNames};
+ghost use Rattle.disk_face.specs.Listing.{IsAscending, AreSegmentNames, AreTablesAscending, AreTableNumbers};
 ghost use Rattle.file_disk.specs.Seen.{on_files};
+ghost use Rattle.disk_face.specs.Tables.{NotesRemoval};
 ghost use Rattle.file_disk.specs.Locked.{KeepsLocks};
 ghost use Rattle.file_disk.specs.Refusals.{OtherFaultsStay, CountsNoneButRefusal, CountsRefusal, FailsIfRefused};
+ghost use Rattle.file_disk.specs.Refusals.{CountsOnce, CountsOnceOf, CountsFailureOf, CountsNoOtherOf};
 
 use crate::directory::{Directory, Started};
 use crate::locks::{LockFiles, Locks};
+use crate::paths::{place_of, side_of};
 use crate::system;
-use disk_face::{CallLog, Disk, DiskErr, DiskOp, Names, OpId, Progress, SegName, Side};
+use disk_face::{
+    CallLog, Disk, DiskErr, DiskOp, FilePlace, Names, OpId, Progress, SegName, Side, TableDisk,
+    TableNames,
+};
 use std::io;
 use std::io::ErrorKind;
 use wal_base::NoMemory;
@@ -23,8 +29,11 @@ use wal_base::NoMemory;
 /// never stalls. An operation is run at its first poll, and a failure that is answered was counted once. Each side
 /// holds one file open, so that a write to the segment that was created or written last is one call of the system.
 ///
-/// What it has listed is its own while it lives: a listing locks the folder, and the directory of its side, and fails where
-/// another disk has one of them.
+/// A table is written and synced under another name before it takes its own. The directory is synced before a put or a
+/// removal is answered, where the file system knows such a sync.
+///
+/// What it has listed is its own while it lives: a listing locks the folder, and the directory of its side, and fails
+/// where another disk has one of them.
 #[derive(Drop)]
 pub struct FileDisk<R: LockFiles + AllocGlobal + Clone + Drop> {
     runtime: R,
@@ -66,6 +75,20 @@ impl<R: LockFiles + AllocGlobal + Clone + Drop> FileDisk<R> {
         }
     }
 
+    /// Counts a failure that a side answers.
+    fn count<T>(&mut self, side: Side, answer: &Result<T, DiskErr>)
+        ensures calls { self.new.log.calls ≡ self.old.log.calls }
+        ensures goes_on { GoesOn (on_files self.old) (on_files self.new) }
+        ensures same { SameDisk (on_files self.old) (on_files self.new) }
+        ensures once { CountsOnce side answer.now (on_files self.old) (on_files self.new) }
+        ensures failed { CountsFailure side answer.now (on_files self.old) (on_files self.new) }
+        ensures steady { CountsNoOther side answer.now (on_files self.old) (on_files self.new) }
+    {
+        if let Err(DiskErr::Failed) = answer {
+            self.raise(side);
+        }
+    }
+
     /// How an operation ended, by what the system answered. A refusal is counted.
     fn settle(&mut self, side: Side, answer: io::Result<()>) -> Progress
         ensures calls { self.new.log.calls ≡ self.old.log.calls }
@@ -103,8 +126,8 @@ impl<R: LockFiles + AllocGlobal + Clone + Drop> FileDisk<R> {
         ensures { on_files self.new ≡ on_files self.old }
     {
         match side {
-            Side::Primary => self.primary.run(&self.runtime, side, op),
-            Side::Secondary => self.secondary.run(&self.runtime, side, op),
+            Side::Primary => self.primary.run(&self.runtime, op),
+            Side::Secondary => self.secondary.run(&self.runtime, op),
         }
     }
 
@@ -119,6 +142,54 @@ impl<R: LockFiles + AllocGlobal + Clone + Drop> FileDisk<R> {
             Some(started) => self.run(id.side, started),
             None => Err(ErrorKind::NotFound.into()),
         }
+    }
+
+    /// Reads from a place of a file, counted from 0.
+    fn read_file(&mut self, place: FilePlace, at: u64, buf: &mut [u8]) -> Result<usize, DiskErr>
+        ensures unnoted { self.new.log.calls ≡ self.old.log.calls }
+        ensures goes_on { GoesOn (on_files self.old) (on_files self.new) }
+        ensures same { SameDisk (on_files self.old) (on_files self.new) }
+        ensures once { CountsOnceOf place result (on_files self.old) (on_files self.new) }
+        ensures failed { CountsFailureOf place result (on_files self.old) (on_files self.new) }
+        ensures steady { CountsNoOtherOf place result (on_files self.old) (on_files self.new) }
+        ensures within { IfOk result (λ n. n ≤ length buf.new) }
+        ensures beyond { IfOk result (λ n. drop n buf.new ≡ drop n buf.old) }
+    {
+        let read = system::read(&self.runtime, place, at, buf);
+        self.count(side_of(place), &read);
+        read
+    }
+
+    /// Puts a table, in place of one of that number.
+    fn replace(&mut self, upto: u64, bytes: &[u8]) -> Result<(), DiskErr>
+        ensures { on_files self.new ≡ on_files self.old }
+    {
+        self.primary.put_table(&self.runtime, upto, bytes)
+    }
+
+    /// Removes a file.
+    fn remove(&mut self, place: FilePlace) -> Result<(), DiskErr>
+        ensures { on_files self.new ≡ on_files self.old }
+    {
+        match side_of(place) {
+            Side::Primary => self.primary.remove(&self.runtime, place),
+            Side::Secondary => self.secondary.remove(&self.runtime, place),
+        }
+    }
+
+    /// Removes a file, counts a failure, and notes the call.
+    fn drop_file(&mut self, place: FilePlace) -> Result<(), DiskErr>
+        ensures noted { NotesRemoval place result (on_files self.old) (on_files self.new) }
+        ensures goes_on { GoesOn (on_files self.old) (on_files self.new) }
+        ensures same { SameDisk (on_files self.old) (on_files self.new) }
+        ensures once { CountsOnceOf place result (on_files self.old) (on_files self.new) }
+        ensures failed { CountsFailureOf place result (on_files self.old) (on_files self.new) }
+        ensures steady { CountsNoOtherOf place result (on_files self.old) (on_files self.new) }
+    {
+        let removed = self.remove(place);
+        self.count(side_of(place), &removed);
+        self.log.note_removal(place, &removed);
+        removed
     }
 }
 
@@ -136,14 +207,17 @@ fn list_alone<R: LockFiles + AllocGlobal + Clone + Drop>(
     system::list(rt, side)
 }
 
-fn side_of(op: DiskOp<'_>) -> Side
-    ensures { result ≡ spec.side_of op.entry }
+/// The tables, once no other disk can be at work there.
+fn tables_alone<R: LockFiles + AllocGlobal + Clone + Drop>(
+    rt: &R,
+    locks: &mut Locks<R::File>,
+) -> Result<TableNames, DiskErr>
+    ensures keeps { KeepsLocks locks.old locks.new }
+    ensures ascending { IfOk result AreTablesAscending }
+    ensures numbers { IfOk result AreTableNumbers }
 {
-    match op {
-        DiskOp::Create { side, .. } => side,
-        DiskOp::Write { side, .. } => side,
-        DiskOp::Sync { side, .. } => side,
-    }
+    locks.take(rt, Side::Primary).map_err(system::refusal)?;
+    system::tables(rt)
 }
 
 impl<R: LockFiles + AllocGlobal + Clone + Drop> Disk for FileDisk<R> {
@@ -155,9 +229,7 @@ impl<R: LockFiles + AllocGlobal + Clone + Drop> Disk for FileDisk<R> {
 
     fn list(&mut self, side: Side) -> Result<Names, DiskErr> {
         let listed = list_alone(&self.runtime, &mut self.locks, side);
-        if let Err(DiskErr::Failed) = listed {
-            self.raise(side);
-        }
+        self.count(side, &listed);
         self.log.note_listing(side, &listed);
         listed
     }
@@ -169,16 +241,12 @@ impl<R: LockFiles + AllocGlobal + Clone + Drop> Disk for FileDisk<R> {
         at: u64,
         buf: &mut [u8],
     ) -> Result<usize, DiskErr> {
-        let read = system::read(&self.runtime, side, name, at, buf);
-        if let Err(DiskErr::Failed) = read {
-            self.raise(side);
-        }
         self.log.note_read(side, name, buf.len());
-        read
+        self.read_file(FilePlace::Segment { side, name }, at, buf)
     }
 
     fn start(&mut self, op: DiskOp<'_>) -> Result<OpId, NoMemory> {
-        let side = side_of(op);
+        let side = side_of(place_of(op));
         let number = match side {
             Side::Primary => self.primary.begin(op)?,
             Side::Secondary => self.secondary.begin(op)?,
@@ -198,4 +266,33 @@ impl<R: LockFiles + AllocGlobal + Clone + Drop> Disk for FileDisk<R> {
     ghost finite = { λ d k told le. no_files };
 
     ghost sound = { λ d p f told is. no_sound p f is };
+}
+
+impl<R: LockFiles + AllocGlobal + Clone + Drop> TableDisk for FileDisk<R> {
+    fn tables(&mut self) -> Result<TableNames, DiskErr> {
+        let listed = tables_alone(&self.runtime, &mut self.locks);
+        self.count(Side::Primary, &listed);
+        self.log.note_tables(&listed);
+        listed
+    }
+
+    fn read_table(&mut self, upto: u64, at: u64, buf: &mut [u8]) -> Result<usize, DiskErr> {
+        self.log.note_table_read(upto, buf.len());
+        self.read_file(FilePlace::Table { upto }, at, buf)
+    }
+
+    fn put_table(&mut self, upto: u64, bytes: &[u8]) -> Result<(), DiskErr> {
+        let put = self.replace(upto, bytes);
+        self.count(Side::Primary, &put);
+        self.log.note_put(upto, bytes, &put);
+        put
+    }
+
+    fn drop_segment(&mut self, side: Side, name: SegName) -> Result<(), DiskErr> {
+        self.drop_file(FilePlace::Segment { side, name })
+    }
+
+    fn drop_table(&mut self, upto: u64) -> Result<(), DiskErr> {
+        self.drop_file(FilePlace::Table { upto })
+    }
 }

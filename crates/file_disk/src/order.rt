@@ -1,12 +1,16 @@
-//! Segments in ascending order.
+//! Segments and tables in ascending order.
 
-ghost use Rattle.std.specs.Prelude.{◌≡◌, ◌↔◌, IsTrue, IfOk, OnOk};
+ghost use Rattle.std.specs.Prelude.{◌≡◌, ◌↔◌, IsTrue, IfOk, OnOk, map};
 ghost use Rattle.std.specs.List.Sorted.{IsPermutation};
-ghost use Rattle.disk_face.specs.Listing.{IsBefore, IsAscending, AreSegmentNames};
+ghost use Rattle.std.specs.Ordering.{nat_cmp};
+ghost use Rattle.std.specs.BTreeMap.{IsOrdered};
+ghost use Rattle.disk_face.specs.Listing.{IsBefore, IsAscending, AreSegmentNames, AreTablesAscending, AreTableNumbers};
 ghost use Rattle.file_disk.specs.Found.{NeverDescends, IsAfterLast, AddsIfLater, AreAmong, HasEachName};
+ghost use Rattle.file_disk.specs.Found.{AreTablesFound, found_as};
 
-use disk_face::{Listed, Names, SegName};
+use disk_face::{Listed, Names, SegName, TableListed, TableNames};
 use std::alloc::Global;
+use std::collections::BTreeMap;
 use wal_base::NoMemory;
 
 fn is_before(a: SegName, b: SegName) -> bool
@@ -56,8 +60,8 @@ fn each_once(alloc: Global, sorted: &[Listed]) -> Result<Names, NoMemory>
     Ok(names)
 }
 
-/// The segments that were found, in ascending order. One of each name: a directory that changes while it is listed may
-/// tell a name twice.
+/// The segments that were found, in ascending order. One of each name: a directory that changes while it is listed
+/// may tell a name twice.
 pub fn names_of(alloc: Global, mut found: Vec<Listed>) -> Result<Names, NoMemory>
     requires { AreSegmentNames found.items }
     ensures ascending { IfOk result IsAscending }
@@ -67,4 +71,30 @@ pub fn names_of(alloc: Global, mut found: Vec<Listed>) -> Result<Names, NoMemory
 {
     sort(&mut found);
     each_once(alloc, found.as_slice())
+}
+
+/// The tables that were found, by number, in ascending order.
+pub fn tables_of(alloc: Global, found: &BTreeMap<u64, u64>) -> Result<TableNames, NoMemory>
+    requires { AreTablesFound found.now }
+    ensures ascending { IfOk result AreTablesAscending }
+    ensures numbers { IfOk result AreTableNumbers }
+    ensures found { IfOk result (λ tables. tables ≡ map found_as found.now.entries) }
+{
+    gather(alloc, found)
+}
+
+/// The entries of a map as tables, in its order.
+fn gather(alloc: Global, found: &BTreeMap<u64, u64>) -> Result<TableNames, NoMemory>
+    ensures found { IfOk result (λ tables. tables ≡ map found_as found.now.entries) }
+    ensures ordered { IsOrdered nat_cmp found.now }
+{
+    let mut tables = TableNames::with_capacity(alloc, found.len())?;
+    for (upto, len) in found {
+        let table = TableListed {
+            upto: *upto,
+            len: *len,
+        };
+        tables.push(table).map_err(|_| NoMemory)?;
+    }
+    Ok(tables)
 }

@@ -16,6 +16,7 @@ use watched::{Call, Watch, Watched, WatchedFile};
 mod listings;
 mod locks;
 mod long;
+mod tables;
 mod watched;
 
 /// Starts an operation on a disk of its own, and asks once how it stands.
@@ -172,7 +173,7 @@ fn operate<R: Files>(
 ) -> Result<bool, NoMemory> {
     let number = directory.begin(op)?;
     match directory.end(number) {
-        Some(started) => Ok(directory.run(rt, Side::Primary, started).is_ok()),
+        Some(started) => Ok(directory.run(rt, started).is_ok()),
         None => Ok(false),
     }
 }

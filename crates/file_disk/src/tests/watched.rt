@@ -1,7 +1,8 @@
-//! The files of the system, seen at work: how many are opened, and one call that is refused.
+//! The files of the system, seen at work: how many are opened, what is called in which order, and one call that is
+//! refused.
 
 use crate::LockFiles;
-use crate::paths::PARENT;
+use crate::paths::{PARENT, UNNAMED_TABLE};
 use std::alloc::{Allocator, Global};
 use std::cell::Cell;
 use std::fs::{Metadata, OpenFile, OpenOptions, TryLockError};
@@ -15,11 +16,17 @@ pub enum Call {
     SyncParent,
     SyncDirectory,
     SyncSegment,
+    SyncTable,
     Write,
+    Rename,
+    Remove,
     OpenFolder,
     Lock,
     Metadata,
 }
+
+/// How many calls are seen in their order.
+pub const CALLS_SEEN: usize = 8;
 
 /// What is seen, and which call is refused.
 #[derive(Drop)]
@@ -30,6 +37,8 @@ pub struct Watch {
     /// What stands in place of the folder of the program.
     pub folder: Cell<&'static str>,
     pub refused: Cell<Option<(Call, ErrorKind)>>,
+    /// The first calls, in their order, with those that are refused.
+    pub calls: Cell<[Option<Call>; CALLS_SEEN]>,
     /// Names that each directory tells first, each ended by a NUL.
     pub first_names: Cell<&'static [u8]>,
     /// The number of the error by which a directory fails after it told names.
@@ -44,16 +53,29 @@ impl Watch {
             locked: Cell::new(0),
             folder: Cell::new(PARENT),
             refused: Cell::new(None),
+            calls: Cell::new([None; CALLS_SEEN]),
             first_names: Cell::new(b""),
             names_end: Cell::new(None),
         }
     }
 
     fn ask(&self, call: Call) -> io::Result<()> {
+        self.see(call);
         match self.refused.get() {
             Some((refused, kind)) if refused == call => Err(kind.into()),
             _ => Ok(()),
         }
+    }
+
+    fn see(&self, call: Call) {
+        let mut calls = self.calls.get();
+        for seen in calls.iter_mut() {
+            if seen.is_none() {
+                *seen = Some(call);
+                break;
+            }
+        }
+        self.calls.set(calls);
     }
 }
 
@@ -163,6 +185,7 @@ impl<'a> Files for Watched<'a> {
         let sync = match path {
             PARENT => Call::SyncParent,
             _ if path.ends_with(".log") => Call::SyncSegment,
+            UNNAMED_TABLE => Call::SyncTable,
             _ => Call::SyncDirectory,
         };
         let path = if path == PARENT {
@@ -191,7 +214,7 @@ impl<'a> Files for Watched<'a> {
     }
 
     fn metadata(&self, path: &str) -> io::Result<Metadata> {
-        if path.ends_with(".log") {
+        if path.ends_with(".log") || path.ends_with(".tab") {
             self.watch.ask(Call::Metadata)?;
         }
         self.system.metadata(path)
@@ -206,10 +229,12 @@ impl<'a> Files for Watched<'a> {
     }
 
     fn rename(&self, from: &str, to: &str) -> io::Result<()> {
+        self.watch.ask(Call::Rename)?;
         self.system.rename(from, to)
     }
 
     fn remove_file(&self, path: &str) -> io::Result<()> {
+        self.watch.ask(Call::Remove)?;
         self.system.remove_file(path)
     }
 
