@@ -11,3 +11,4 @@ mod ReadsPrefix
 mod Joined
 mod Walked
 mod Limits
+mod OneReading

@@ -3,6 +3,7 @@
 //! Stands on `batch_repr` for batches and what a store answers after them, and on `disk_face` for the names of
 //! segments. The layer above uses one contract: each call adds to a text exactly the line that its definition says, and
 //! of a store one line for each key that has a value, in order of bytes; on out of memory it leaves the text as it was.
+//! `live_keys` gives these keys themselves, with their values.
 //!
 //! No value of this crate is kept: a text is the list of its bytes.
 #![tactic(auto)]
@@ -21,4 +22,4 @@ pub use pieces::{Piece, put_pieces};
 pub use printed::{put_number, put_printed};
 pub use refusals::{put_bad_batch, put_conflict, put_corrupt, put_duplicate, put_gap};
 pub use segments::{SegmentLine, put_recovered_end, put_segment, side_name};
-pub use store::put_store;
+pub use store::{LiveKeys, live_keys, put_store};
