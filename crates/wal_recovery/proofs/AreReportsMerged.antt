@@ -1,7 +1,7 @@
 -- WALs that are merged one after another as one row, with gaps: their reports hold the row, and what refuses a WAL after it refuses the directories.
-use Rattle.std.proofs.Common.{◌≡◌, ℕ, List, [], ◌∷◌, ◌++◌, All, IsTrue, Bool, length, map, take, subst, sym, ap, ◌∙◌, refl, arith}
+use Rattle.std.proofs.Common.{◌≡◌, ℕ, List, [], ◌∷◌, ◌++◌, All, IsTrue, Bool, length, map, take, subst, sym, ap, ◌∙◌, refl, arith, append_assoc}
 use Rattle.std.specs.List.{AllZip, AllByRecursion}
-use Rattle.std.proofs.lemmas.List.{map-append}
+use Rattle.std.proofs.lemmas.List.{map-append, append-nil}
 use Rattle.std.proofs.lemmas.List.Elements.{All-append, All-nil, recursion_from_All}
 use Rattle.batch_repr.specs.declared.batch.Batch.{Batch}
 use Rattle.segment_merge.specs.declared.segment.SegmentRead.{SegmentRead}
@@ -11,9 +11,8 @@ use Rattle.segment_merge.specs.Rows.{IsNumbered, IsNumberedSegment, batches_in}
 use Rattle.segment_merge.specs.Lenient.{MergedLenient, AreMergedOf, IsLenientConflict}
 use Rattle.segment_merge.specs.Lenient as lenient
 use Rattle.segment_merge.specs.Returned.{MemoryOrRefusal}
-use Rattle.segment_merge.proofs.Laws.{merged_none}
-use Rattle.disk_face.specs.View.{Files}
-use Rattle.disk_face.specs.Image.{dirs_as_read, log_number}
+use Rattle.disk_face.specs.View.{Files, Dirs}
+use Rattle.disk_face.specs.Image.{log_number}
 use Rattle.wal_recovery.specs.declared.fault.RecoverFault.{RecoverFault}
 use Rattle.wal_recovery.specs.declared.fault.RecoverFault.TheVariants as faults
 use Rattle.wal_recovery.specs.declared.reports.Mode.TheVariants.{Strict, Lenient}
@@ -21,7 +20,7 @@ use Rattle.wal_recovery.specs.declared.reports.SegReport.{SegReport}
 use Rattle.wal_recovery.specs.declared.wals.FoundWal.{FoundWal}
 use Rattle.wal_recovery.specs.Listing.{Stored, Wal, IsListingOf}
 use Rattle.wal_recovery.specs.Recovering.{taking_numbers, HoldRow, HoldAll}
-use Rattle.wal_recovery.specs.Refused.{by_index, segments_of, ReachesLenient, IsLenientlyRefused}
+use Rattle.wal_recovery.specs.Refused.{by_index, segments_of, ReachesLenient, IsLenientlyRefusedAfter}
 use Rattle.wal_recovery.specs.Reports.{IsReport, ReportOnAll}
 use Rattle.wal_recovery.specs.Answers.{DiskMemoryOr}
 use Rattle.wal_recovery.specs.Rows.{stored_in, wal_in, wals_in}
@@ -106,35 +105,54 @@ row_numbered : (reports : List SegReport) → AllByRecursion IsNumberedReport re
 row_numbered [] h = tt
 row_numbered (r ∷ reports) h = (h.0, row_numbered reports h.1)
 
-pub reports_none : (reports : List SegReport) (merged : List Batch) → reports ≡ [] → merged ≡ [] → AreReportsMerged reports merged
-reports_none reports merged none empty = subst (λ (l : List SegReport). AreReportsMerged l merged) (sym none)
-    (record { merges = merged_none merged empty; numbered = All-nil IsNumberedReport })
+-- the front and the reports as a row
+front_counted : (front : List SegmentRead) (reports : List SegReport) → batches_in (front ++ as_row reports) ≡ batches_in front ++ counted_in reports
+front_counted front reports = batches_append front (as_row reports) ∙ ap (λ (l : List (List Batch)). batches_in front ++ l) (row_counted reports)
 
-pub reports_merged_of : (reports : List SegReport) (merged : List Batch) → AreReportsMerged reports merged → AreMergedOf (as_row reports) merged
-reports_merged_of reports merged a = subst (λ (rows : List (List Batch)). MergedLenient rows merged) (sym (row_counted reports)) a.merges
+front_numbered : (front row : List SegmentRead) → AllByRecursion IsNumberedSegment front → AllByRecursion IsNumberedSegment row
+    → AllByRecursion IsNumberedSegment (front ++ row)
+front_numbered [] row h k = k
+front_numbered (s ∷ front) row h k = (h.0, front_numbered front row h.1 k)
 
-pub reports_numbered : (reports : List SegReport) (merged : List Batch) → AreReportsMerged reports merged → All IsNumbered merged
-reports_numbered reports merged a = lenient_numbered (as_row reports) merged
-    (row_numbered reports (recursion_from_All IsNumberedReport reports a.numbered)) (reports_merged_of reports merged a)
+pub reports_none : (front : List SegmentRead) (reports : List SegReport) (merged : List Batch) → reports ≡ [] → AreMergedOf front merged
+    → All IsNumberedSegment front → AreReportsMerged front reports merged
+reports_none front reports merged none m all = subst (λ (l : List SegReport). AreReportsMerged front l merged) (sym none) (record {
+  merges = subst (λ (rows : List (List Batch)). MergedLenient rows merged) (sym (append-nil (batches_in front))) m;
+  before = all;
+  numbered = All-nil IsNumberedReport;
+})
+
+pub reports_merged_of : (front : List SegmentRead) (reports : List SegReport) (merged : List Batch) → AreReportsMerged front reports merged
+    → AreMergedOf (front ++ as_row reports) merged
+reports_merged_of front reports merged a = subst (λ (rows : List (List Batch)). MergedLenient rows merged) (sym (front_counted front reports)) a.merges
+
+pub reports_numbered : (front : List SegmentRead) (reports : List SegReport) (merged : List Batch) → AreReportsMerged front reports merged
+    → All IsNumbered merged
+reports_numbered front reports merged a = lenient_numbered (front ++ as_row reports) merged
+    (front_numbered front (as_row reports) (recursion_from_All IsNumberedSegment front a.before)
+    (row_numbered reports (recursion_from_All IsNumberedReport reports a.numbered))) (reports_merged_of front reports merged a)
 
 module _ (tells : Bool) (files : Files) where
   -- with one WAL more
-  pub reports_more : (wal : FoundWal) (old new : List SegReport) (row : List SegmentRead) (merged longer : List Batch)
-      → GathersWal tells Lenient files wal.segments.items old new row → AreReportsMerged old merged
-      → AreMergedOf (as_row old ++ row) longer → AreReportsMerged new longer
-  reports_more wal old new row merged longer g a m = record {
+  pub reports_more : (front : List SegmentRead) (wal : FoundWal) (old new : List SegReport) (row : List SegmentRead) (merged longer : List Batch)
+      → GathersWal tells Lenient files wal.segments.items old new row → AreReportsMerged front old merged
+      → AreMergedOf ((front ++ as_row old) ++ row) longer → AreReportsMerged front new longer
+  reports_more front wal old new row merged longer g a m = record {
     merges =
         let own = g.added.own in
         let many : length (counted_in own) ≡ length (map (stored_in files) wal.segments.items) = counted_length tells Lenient files own
         ∙ g.added.as_many ∙ sym (stored_length tells Lenient files wal.segments.items) in
-        let is : batches_in (as_row old ++ row) ≡ counted_in new =
-        batches_append (as_row old) row
+        let is : batches_in ((front ++ as_row old) ++ row) ≡ batches_in front ++ counted_in new =
+        ap batches_in (append_assoc front (as_row old) row)
+        ∙ batches_append front (as_row old ++ row)
+        ∙ ap (λ (l : List (List Batch)). batches_in front ++ l) (batches_append (as_row old) row
         ∙ ap (λ (r : List (List Batch)). r ++ batches_in row) (row_counted old)
         ∙ ap (λ (r : List SegmentRead). counted_in old ++ batches_in r) g.rows
         ∙ ap (λ (r : List (List Batch)). counted_in old ++ r) (batches_by_length (map (stored_in files) wal.segments.items) (counted_in own) many)
         ∙ sym (counted_append old own)
-        ∙ ap counted_in (sym g.added.reports) in
+        ∙ ap counted_in (sym g.added.reports)) in
         subst (λ (rows : List (List Batch)). MergedLenient rows longer) is m;
+    before = a.before;
     numbered = subst (All IsNumberedReport) (sym g.added.reports) (All-append IsNumberedReport old g.added.own a.numbered g.added.numbered);
   }
 
@@ -172,23 +190,23 @@ module _ (tells : Bool) (files : Files) where
 -- ---- what refuses a WAL after those before it refuses the directories
 
 module _ (files : Files) (wals : List FoundWal) (i : ℕ) (wal : FoundWal) (at : StandsAt wals i wal) where
-  pub refused_behind : (reports : List SegReport) (base : List Batch) (fault : RecoverFault)
-      → ReportOnAll (wals_in files (take i wals)) reports → AreReportsMerged reports base
+  pub refused_behind : (front : List SegmentRead) (dirs : Dirs) (reports : List SegReport) (base : List Batch) (fault : RecoverFault)
+      → ReportOnAll (wals_in files (take i wals)) reports → AreReportsMerged front reports base
       → ((before : List SegmentRead) → AreMergedOf before base → AreAsListed files wal.segments.items
       → DiskMemoryOr (IsLenientlyRefusedWal before (wal_in files wal)) fault)
-      → AreListedWals files wals → DiskMemoryOr (IsLenientlyRefused (dirs_as_read files)) fault
-  refused_behind reports base fault on a wrong listed = go fault (wrong earlier merged (listed_at files wals i wal at listed))
+      → AreListedWals dirs files wals → DiskMemoryOr (IsLenientlyRefusedAfter front dirs) fault
+  refused_behind front dirs reports base fault on a wrong listed = go fault (wrong earlier merged (listed_at files wals i wal at dirs listed))
     where
       hold : HoldAll (wals_in files (take i wals)) (counted_in reports)
       hold = reports_hold (wals_in files (take i wals)) reports on
 
-      reached : ReachesLenient (dirs_as_read files) wal.number (map (stored_in files) wal.segments.items)
+      reached : ReachesLenient front dirs wal.number (map (stored_in files) wal.segments.items)
       reached =
           let cut = cut_at files wals i wal at.within at.is in
           record {
             before = wals_in files (take i wals);
             after = cut.0;
-            listed = subst (IsListingOf (dirs_as_read files)) cut.1 listed.listed;
+            listed = subst (IsListingOf dirs) cut.1 listed.listed;
             rows = counted_in reports;
             hold = hold;
             base = base;
@@ -196,22 +214,23 @@ module _ (files : Files) (wals : List FoundWal) (i : ℕ) (wal : FoundWal) (at :
           }
 
       earlier : List SegmentRead
-      earlier = by_index (segments_of (wals_in files (take i wals))) (counted_in reports)
+      earlier = front ++ by_index (segments_of (wals_in files (take i wals))) (counted_in reports)
 
       merged : AreMergedOf earlier base
       merged = subst (λ (rows : List (List Batch)). MergedLenient rows base)
-          (sym (all_batches (wals_in files (take i wals)) (counted_in reports) hold)) a.merges
+          (sym (batches_append front (by_index (segments_of (wals_in files (take i wals))) (counted_in reports))
+          ∙ ap (λ (l : List (List Batch)). batches_in front ++ l) (all_batches (wals_in files (take i wals)) (counted_in reports) hold))) a.merges
 
       go : (fault : RecoverFault) → DiskMemoryOr (IsLenientlyRefusedWal earlier (wal_in files wal)) fault
-          → DiskMemoryOr (IsLenientlyRefused (dirs_as_read files)) fault
+          → DiskMemoryOr (IsLenientlyRefusedAfter front dirs) fault
       go (faults.Disk side) h = tt
       go (faults.DuplicateSegment number index) h = absurd h
       go (faults.BadBatch number index place bad) h =
-          subst (λ (n : ℕ). IsLenientlyRefused (dirs_as_read files) (faults.BadBatch n index place bad)) (sym h.0)
+          subst (λ (n : ℕ). IsLenientlyRefusedAfter front dirs (faults.BadBatch n index place bad)) (sym h.0)
           (record { segments = map (stored_in files) wal.segments.items; reached = reached; bad = h.1 })
       go (faults.Gap number index expected found) h = absurd h
       go (faults.Corrupt number index at_place shown_at) h = absurd h
       go (faults.Conflict number index first) h =
-          subst (λ (n : ℕ). IsLenientlyRefused (dirs_as_read files) (faults.Conflict n index first)) (sym h.0)
+          subst (λ (n : ℕ). IsLenientlyRefusedAfter front dirs (faults.Conflict n index first)) (sym h.0)
           (record { segments = map (stored_in files) wal.segments.items; reached = reached; own = h.1.row; holds = h.1.holds; wrong = h.2 })
       go faults.NoMemory h = tt

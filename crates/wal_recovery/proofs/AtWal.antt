@@ -1,13 +1,11 @@
 -- The WAL at a place of the list: its segments are in order, those before it with it are one WAL more, and what refuses it refuses the directories.
-use Rattle.batch_repr.specs.declared.limits.TheConstants.{NUMBER_FIRST}
 use Rattle.std.proofs.Common.{◌≡◌, ℕ, zero, suc, ◌+◌, ◌<◌, List, [], ◌∷◌, ◌++◌, All, Contains, length, map, take, get_or, subst, sym, ap, ◌∙◌, refl, arith}
 use Rattle.std.proofs.lemmas.List.{map_more}
 use Rattle.std.proofs.lemmas.List.Elements.{Contains-append_right}
 use Rattle.batch_repr.specs.declared.batch.Batch.{Batch}
 use Rattle.batch_repr.specs.Batches.{end_after}
 use Rattle.segment_merge.proofs.Laws.{within_head}
-use Rattle.disk_face.specs.View.{Files}
-use Rattle.disk_face.specs.Image.{dirs_as_read}
+use Rattle.disk_face.specs.View.{Files, Dirs}
 use Rattle.wal_recovery.specs.declared.fault.RecoverFault.{RecoverFault}
 use Rattle.wal_recovery.specs.declared.fault.RecoverFault.TheVariants as faults
 use Rattle.wal_recovery.specs.declared.reports.Mode.TheVariants.{Strict}
@@ -15,7 +13,7 @@ use Rattle.wal_recovery.specs.declared.reports.SegReport.{SegReport}
 use Rattle.wal_recovery.specs.declared.wals.FoundWal.{FoundWal}
 use Rattle.wal_recovery.specs.Listing.{Wal, AreByIndex, AreByNumber, IsListingOf}
 use Rattle.wal_recovery.specs.Recovering.{WalMerges, WalsMerge}
-use Rattle.wal_recovery.specs.Refused.{Reaches, ReachesRow, IsRefused}
+use Rattle.wal_recovery.specs.Refused.{Reaches, ReachesRow, IsRefusedFrom}
 use Rattle.wal_recovery.specs.Reports.{ReportOnAll}
 use Rattle.wal_recovery.specs.Answers.{DiskMemoryOr}
 use Rattle.wal_recovery.specs.Rows.{stored_in, wal_in, wals_in}
@@ -68,63 +66,63 @@ module _ (files : Files) where
         (within_head (wal_in files wal) cut.0)))
 
     -- it is as it was listed
-    pub listed_at : AreListedWals files wals → AreAsListed files wal.segments.items
-    listed_at listed = at_place (λ (w : FoundWal). AreAsListed files w.segments.items) wals i wal at listed.as_listed
+    pub listed_at : (dirs : Dirs) → AreListedWals dirs files wals → AreAsListed files wal.segments.items
+    listed_at dirs listed = at_place (λ (w : FoundWal). AreAsListed files w.segments.items) wals i wal at listed.as_listed
 
     -- those up to it merge
-    pub merged_at : (first next : ℕ) (base own longer : List Batch) → next ≡ end_after first base → longer ≡ base ++ own
+    pub merged_at : (dirs : Dirs) (first next : ℕ) (base own longer : List Batch) → next ≡ end_after first base → longer ≡ base ++ own
         → WalsMerge first (wals_in files (take i wals)) base
-        → (AreAsListed files wal.segments.items → WalMerges next (wal_in files wal) own) → AreListedWals files wals
+        → (AreAsListed files wal.segments.items → WalMerges next (wal_in files wal) own) → AreListedWals dirs files wals
         → WalsMerge first (wals_in files (take (i + 1) wals)) longer
-    merged_at first next base own longer from is before here listed =
+    merged_at dirs first next base own longer from is before here listed =
         subst (WalsMerge first (wals_in files (take (i + 1) wals))) (sym is)
         (subst (λ (l : List Wal). WalsMerge first l (base ++ own)) (sym more)
         (wals_more first (wals_in files (take i wals)) (wal_in files wal) base own before
-        (subst (λ (n : ℕ). WalMerges n (wal_in files wal) own) from (here (listed_at listed)))))
+        (subst (λ (n : ℕ). WalMerges n (wal_in files wal) own) from (here (listed_at dirs listed)))))
 
     -- the reports up to it
-    pub reports_at : (old new : List SegReport) → ReportOnAll (wals_in files (take i wals)) old
+    pub reports_at : (dirs : Dirs) (old new : List SegReport) → ReportOnAll (wals_in files (take i wals)) old
         → (AreAsListed files wal.segments.items → AddsReports (wal_in files wal) old new)
-        → AreListedWals files wals → ReportOnAll (wals_in files (take (i + 1) wals)) new
-    reports_at old new before here listed =
-        let added = here (listed_at listed) in
+        → AreListedWals dirs files wals → ReportOnAll (wals_in files (take (i + 1) wals)) new
+    reports_at dirs old new before here listed =
+        let added = here (listed_at dirs listed) in
         subst (ReportOnAll (wals_in files (take (i + 1) wals))) (sym added.reports)
         (subst (λ (l : List Wal). ReportOnAll l (old ++ added.own)) (sym more)
         (reports_push (wals_in files (take i wals)) (wal_in files wal) old added.own before added.on))
 
     -- what refuses it refuses the directories
-    pub refused_at : (next : ℕ) (base : List Batch) (fault : RecoverFault) → next ≡ end_after NUMBER_FIRST base
-        → WalsMerge NUMBER_FIRST (wals_in files (take i wals)) base
-        → (AreAsListed files wal.segments.items → DiskMemoryOr (IsRefusedWal next (wal_in files wal)) fault) → AreListedWals files wals
-        → DiskMemoryOr (IsRefused (dirs_as_read files)) fault
-    refused_at next base fault from before here listed = go fault
-        (subst (λ (n : ℕ). DiskMemoryOr (IsRefusedWal n (wal_in files wal)) fault) from (here (listed_at listed)))
+    pub refused_at : (dirs : Dirs) (first next : ℕ) (base : List Batch) (fault : RecoverFault) → next ≡ end_after first base
+        → WalsMerge first (wals_in files (take i wals)) base
+        → (AreAsListed files wal.segments.items → DiskMemoryOr (IsRefusedWal next (wal_in files wal)) fault) → AreListedWals dirs files wals
+        → DiskMemoryOr (IsRefusedFrom first dirs) fault
+    refused_at dirs first next base fault from before here listed = go fault
+        (subst (λ (n : ℕ). DiskMemoryOr (IsRefusedWal n (wal_in files wal)) fault) from (here (listed_at dirs listed)))
       where
-        reached : Reaches (dirs_as_read files) wal.number (map (stored_in files) wal.segments.items) base
+        reached : Reaches first dirs wal.number (map (stored_in files) wal.segments.items) base
         reached =
             let cut = cut_at wals i wal at.within at.is in
             record {
               before = wals_in files (take i wals);
               after = cut.0;
-              listed = subst (IsListingOf (dirs_as_read files)) cut.1 listed.listed;
+              listed = subst (IsListingOf dirs) cut.1 listed.listed;
               merged = before;
             }
 
-        row_of : HoldsRow Strict (wal_in files wal) → ReachesRow (dirs_as_read files) wal.number
+        row_of : HoldsRow Strict (wal_in files wal) → ReachesRow first dirs wal.number
         row_of held = record { segments = map (stored_in files) wal.segments.items; base = base; reached = reached; row = held.row; holds = held.holds }
 
-        go : (fault : RecoverFault) → DiskMemoryOr (IsRefusedWal (end_after NUMBER_FIRST base) (wal_in files wal)) fault
-            → DiskMemoryOr (IsRefused (dirs_as_read files)) fault
+        go : (fault : RecoverFault) → DiskMemoryOr (IsRefusedWal (end_after first base) (wal_in files wal)) fault
+            → DiskMemoryOr (IsRefusedFrom first dirs) fault
         go (faults.Disk side) h = tt
         go (faults.DuplicateSegment number index) h = absurd h
         go (faults.BadBatch number index place bad) h =
-            subst (λ (n : ℕ). IsRefused (dirs_as_read files) (faults.BadBatch n index place bad)) (sym h.0)
+            subst (λ (n : ℕ). IsRefusedFrom first dirs (faults.BadBatch n index place bad)) (sym h.0)
             (map (stored_in files) wal.segments.items, base, reached, h.1)
-        go (faults.Gap number index expected found) h = subst (λ (n : ℕ). IsRefused (dirs_as_read files)
+        go (faults.Gap number index expected found) h = subst (λ (n : ℕ). IsRefusedFrom first dirs
             (faults.Gap n index expected found)) (sym h.0) (row_of h.1, h.2)
-        go (faults.Conflict number index first) h = subst (λ (n : ℕ). IsRefused (dirs_as_read files) (faults.Conflict n index first))
+        go (faults.Conflict number index begins) h = subst (λ (n : ℕ). IsRefusedFrom first dirs (faults.Conflict n index begins))
             (sym h.0) (row_of h.1, h.2)
         go (faults.Corrupt number index place shown_at) h =
-            subst (λ (n : ℕ). IsRefused (dirs_as_read files) (faults.Corrupt n index place shown_at)) (sym h.0)
+            subst (λ (n : ℕ). IsRefusedFrom first dirs (faults.Corrupt n index place shown_at)) (sym h.0)
             (map (stored_in files) wal.segments.items, base, reached, h.1)
         go faults.NoMemory h = tt

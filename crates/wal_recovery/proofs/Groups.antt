@@ -4,7 +4,7 @@ use Rattle.std.specs.Prelude.{slice_get}
 use Rattle.std.proofs.lemmas.List.{take-append-drop}
 use Rattle.disk_face.specs.declared.SegName.{SegName}
 use Rattle.disk_face.specs.View.{Files}
-use Rattle.disk_face.specs.Image.{as_read, dirs_as_read}
+use Rattle.disk_face.specs.Image.{dirs_as_read}
 use Rattle.disk_face.specs.Listing.{IsBefore}
 use Rattle.wal_recovery.specs.declared.listing.Found.{Found}
 use Rattle.wal_recovery.specs.declared.wals.FoundWal.{FoundWal}

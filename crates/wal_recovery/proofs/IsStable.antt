@@ -3,22 +3,23 @@ use Rattle.std.proofs.Common.{◌≡◌, inl, inr, ℕ, List, All, Contains, len
 use Rattle.std.proofs.lemmas.List.Elements.{Contains-get_or}
 use Rattle.disk_face.specs.View.{Place, segment, syncing, File, Files, DiskView, files, AtEachMoment}
 use Rattle.disk_face.specs.Image.{IsSound, IsRested, IsRestedFile}
+use Rattle.disk_face.specs.Listing.{HasLength}
 use Rattle.disk_face.specs.Calls.{SameDisk, MayStart}
 use Rattle.disk_face.proofs.Laws.{same_files}
 use Rattle.wal_recovery.specs.declared.listing.Found.{Found}
-use Rattle.wal_recovery.specs.Rows.{place_listed, IsRowOf}
+use Rattle.wal_recovery.specs.Rows.{files_from, place_listed, IsRowOf}
+use Rattle.wal_recovery.proofs.From.{some_left, left_has}
 use Rattle.wal_recovery.specs.Resting.{IsStable, AreSegmentsStable, AddsNoImage, IsSynced, IsAsOrSynced, OnlySynced}
 use Rattle.wal_recovery.proofs.Syncs.{adds_no_image}
 use Rattle.wal_recovery.proofs.Tools.{some_is}
 
 -- each segment of a row may be synced
-there_in : (fs : Files) (row : List Found) → IsRowOf fs row → (f : Found) → Contains row f → MayStart syncing (fs (place_listed f))
-there_in fs row is f at =
-    let has = ((is f).0 at).1 in
-    subst (λ (o : Option File). MayStart syncing o) (sym has.1) has.2
+there_in : (fs : Files) (f : Found) → HasLength fs (place_listed f) f.len → MayStart syncing (fs (place_listed f))
+there_in fs f has = subst (λ (o : Option File). MayStart syncing o) (sym has.1) has.2
 
-pub may_sync : (fs : Files) (row : List Found) → IsRowOf fs row → All (λ (f : Found). MayStart syncing (fs (place_listed f))) row
-may_sync fs row is k d lt = there_in fs row is (get_or row k d) (Contains-get_or row k d lt)
+pub may_sync : (fs : Files) (row : List Found) → ((f : Found) → Contains row f → HasLength fs (place_listed f) f.len)
+    → All (λ (f : Found). MayStart syncing (fs (place_listed f))) row
+may_sync fs row there k d lt = there_in fs (get_or row k d) (there (get_or row k d) (Contains-get_or row k d lt))
 
 -- what was whole and is synced is stable
 stable_here : (o n : Option File) (f : File) → n ≡ Some f → ((g : File) → o ≡ Some g → IsRestedFile g) → IsAsOrSynced o n → IsSynced n → IsStable f
@@ -34,15 +35,17 @@ was_there : (o n : Option File) (f : File) → n ≡ Some f → IsAsOrSynced o n
 was_there o n f is (inl e) = (f, sym e ∙ is)
 was_there o n f is (inr (g, was, now)) = (g, was)
 
-pub all_stable : (old new : Files) (row : List Found) → IsRowOf old row → IsRested old → OnlySynced old new
-    → All (λ (f : Found). IsSynced (new (place_listed f))) row → AreSegmentsStable new
-all_stable old new row is rested only synced side name f named there =
+pub all_stable : (least : ℕ) (old new : Files) (row : List Found) → IsRowOf (files_from least old) row → IsRested old → OnlySynced old new
+    → All (λ (f : Found). IsSynced (new (place_listed f))) row → AreSegmentsStable (files_from least new)
+all_stable least old new row is rested only synced side name f named left =
     let place = segment side name in
-    let was = was_there (old place) (new place) f there (only place) in
+    let there = some_left least new side name f left in
+    let was = was_there (old place) (new place) f there.1 (only place) in
     let found : Found = record { side = side; name = name; len = length was.0.reads } in
-    let at : Contains row found = (is found).1 (named, (was.0, was.1, (rested place was.0 was.1).created, refl)) in
+    let at : Contains row found = (is found).1
+    (named, left_has least old side name found.len there.0 (was.0, was.1, (rested place was.0 was.1).created, refl)) in
     let here : IsSynced (new place) = subst (λ (g : Found). IsSynced (new (place_listed g))) at.2 (synced at.0 found at.1) in
-    stable_here (old place) (new place) f there (rested place) (only place) here
+    stable_here (old place) (new place) f there.1 (rested place) (only place) here
 
 -- ---- moments
 

@@ -1,12 +1,10 @@
 -- The last item of a list: where it stands, and the numbers that come after it.
 use Rattle.batch_repr.proofs.Laws.{end_append}
-use Rattle.std.proofs.Common.{◌≡◌, ℕ, zero, suc, ◌+◌, ◌-◌, ◌<◌, List, [], ◌∷◌, ◌++◌, Some, None, length, take, get_or, subst, sym, ap, ◌∙◌, refl, arith, append_assoc}
+use Rattle.std.proofs.Common.{◌≡◌, ℕ, zero, suc, ◌-◌, ◌<◌, List, [], ◌∷◌, ◌++◌, Some, None, length, take, get_or, sym, ap, ◌∙◌, refl, arith, append_assoc}
 use Rattle.std.specs.Prelude.{slice_get}
 use Rattle.std.proofs.lemmas.List.{length_push, take_more}
 use Rattle.batch_repr.specs.declared.batch.Batch.{Batch}
 use Rattle.batch_repr.specs.Batches.{end_of, end_after}
-use Rattle.wal_recovery.specs.declared.listing.Found.{Found}
-use Rattle.wal_recovery.specs.Rows.{IsNextAfter}
 use Rattle.wal_recovery.proofs.Tools.{some_is}
 
 last_split : {X : Type 0} (xs : List X) (n : ℕ) (x : X) → suc n ≡ length xs → slice_get xs n ≡ Some x → (front : List X) × (xs ≡ front ++ x ∷ [])
@@ -22,24 +20,10 @@ last_cut [] x g = absurd (let no : None ≡ Some x = g in cc)
 last_cut (y ∷ xs) x g = last_split (y ∷ xs) (length (y ∷ xs) - 1) x (omega arith) g
 
 -- at each place of a list stands an item
-no_hole : {X : Type 0} (xs : List X) (n : ℕ) → n < length xs → slice_get xs n ≡ None → ⊥
+pub no_hole : {X : Type 0} (xs : List X) (n : ℕ) → n < length xs → slice_get xs n ≡ None → ⊥
 no_hole [] n lt e = omega (arith, lt)
 no_hole (x ∷ xs) zero lt e = let no : Some x ≡ None = e in cc
 no_hole (x ∷ xs) (suc n) lt e = no_hole xs n (omega (arith, lt)) e
-
-after_push : (front : List Found) (f : Found) → IsNextAfter (front ++ f ∷ []) (f.name.wal + 1)
-unfolding IsNextAfter
-after_push [] f = refl
-after_push (g ∷ []) f = refl
-after_push (g ∷ h ∷ front) f = after_push (h ∷ front) f
-
-pub after_last : (segments : List Found) (f : Found) → slice_get segments (length segments - 1) ≡ Some f → IsNextAfter segments (f.name.wal + 1)
-after_last segments f g = let cut = last_cut segments f g in subst (λ (r : List Found). IsNextAfter r (f.name.wal + 1)) (sym cut.1) (after_push cut.0 f)
-
-pub after_none : (segments : List Found) → slice_get segments (length segments - 1) ≡ None → IsNextAfter segments 1
-unfolding IsNextAfter
-after_none [] g = refl
-after_none (f ∷ segments) g = absurd (no_hole (f ∷ segments) (length (f ∷ segments) - 1) (omega arith) g)
 
 -- the number after the last batch
 pub end_last : (from : ℕ) (batches : List Batch) (b : Batch) → slice_get batches (length batches - 1) ≡ Some b → end_of b ≡ end_after from batches

@@ -3,6 +3,8 @@ mod Tools
 mod Weaves
 mod IsListing
 mod Groups
+mod From
+mod NamesFrom
 mod HasLength
 mod Syncs
 mod Spell
@@ -19,6 +21,8 @@ mod OneBad
 mod OneRefusal
 mod AreReportsMerged
 mod OneLenient
+mod Base
+mod BeginsWith
 mod RecoversBy
 mod NextWals
 mod IsStable

@@ -1,62 +1,119 @@
--- The number after the last listed segment is that of the next WAL: the row ascends, and has the segments of the directories.
-use Rattle.wal_base.proofs.Laws.{within_cases, within_head, within_tail}
-use Rattle.std.proofs.Common.{◌≡◌, inl, inr, ℕ, suc, ◌≤◌, Bool, List, [], ◌∷◌, Result, Ok, Err, IsTrue, Contains, ap, refl, arith}
-use Rattle.std.specs.Prelude.{IfOk}
-use Rattle.disk_face.specs.View.{Files}
+-- The number after the last names of both listings is that of the next WAL.
+use Rattle.wal_base.proofs.Laws.{within_cases, within_head}
+use Rattle.std.proofs.Common.{◌≡◌, ◌⊎◌, inl, inr, ℕ, suc, ◌≤◌, List, [], ◌∷◌, ◌++◌, Some, Contains, length, subst, ap, ◌∙◌, refl, arith}
+use Rattle.std.proofs.lemmas.List.Elements.{Contains-append_right}
+use Rattle.disk_face.specs.declared.Side.{Side}
+use Rattle.disk_face.specs.declared.Side.TheVariants.{Primary, Secondary}
+use Rattle.disk_face.specs.declared.Listed.{Listed}
+use Rattle.disk_face.specs.View.{segment, Files}
 use Rattle.disk_face.specs.Image.{dirs_as_read}
+use Rattle.disk_face.specs.Listing.{IsBefore, IsAscending, IsSegmentName, HasLength}
+use Rattle.disk_face.proofs.Laws.{AllPairs-head, AllPairs-tail, read_created}
 use Rattle.segment_merge.proofs.Laws.{none_within}
-use Rattle.wal_recovery.specs.declared.listing.Found.{Found}
-use Rattle.wal_recovery.specs.declared.fault.RecoverFault.{RecoverFault}
-use Rattle.wal_recovery.specs.declared.reports.Recovered.{Recovered}
-use Rattle.wal_recovery.specs.Listing.{IsNextWal}
-use Rattle.wal_recovery.specs.Rows.{Ascends, IsRowOf, IsNextAfter, stored_in}
-use Rattle.wal_recovery.proofs.Groups.{wal_up, found_stands, stands_found}
+use Rattle.wal_recovery.specs.declared.listing.Sides.{Sides}
+use Rattle.wal_recovery.specs.Listing.{Stored, StandsIn, IsNextWal}
+use Rattle.wal_recovery.specs.Sides.{AreListings, IsAfter}
+use Rattle.wal_recovery.proofs.Groups.{wal_up}
+use Rattle.wal_recovery.proofs.IsListing.{read_open}
 
--- the last of the row
-record IsLast (row : List Found) (f : Found) : Type 0 where
-  at : Contains row f
-  above : (g : Found) → Contains row g → g.name.wal ≤ f.name.wal
+abbrev IsBeforeItem : Listed → Listed → Type 0
+IsBeforeItem a b = IsBefore a.name b.name
 
-last_behind : (f : Found) (row : List Found) (next : ℕ) → Ascends (f ∷ row) → IsNextAfter (f ∷ row) next → (l : Found) × IsLast (f ∷ row) l
-    × (next ≡ suc l.name.wal)
-unfolding Ascends IsNextAfter
-last_behind f [] next up is = (
-  f,
-  record {
-    at = within_head f [];
-    above = λ g at. elim (within_cases f [] g at) [ inl e ↦ omega (arith, ap (λ (x : Found). x.name.wal) e) | inr none ↦ absurd (none_within g none) ];
-  },
-  omega (arith, is),
-)
-last_behind f (h ∷ row) next up is =
-    let l = last_behind h row next up.1 is in (
-      l.0,
-      record {
-        at = within_tail f (h ∷ row) l.0 l.1.at;
-        above = λ g at. elim (within_cases f (h ∷ row) g at) [
-          | inl e ↦ omega (arith, ap (λ (x : Found). x.name.wal) e, wal_up f.name l.0.name (up.0 l.0 l.1.at))
-          | inr behind ↦ l.1.above g behind
-        ];
-      },
-      l.2,
-    )
+-- no name of an ascending list has a greater WAL than the last one
+pub none_after_last : (front : List Listed) (last : Listed) → IsAscending (front ++ last ∷ []) → (item : Listed) → Contains (front ++ last ∷ []) item
+    → item.name.wal ≤ last.name.wal
+none_after_last [] last up item at = elim (within_cases last [] item at) [
+  | inl e ↦ omega (arith, ap (λ (x : Listed). x.name.wal) e)
+  | inr none ↦ absurd (none_within item none)
+]
+none_after_last (y ∷ front) last up item at = elim (within_cases y (front ++ last ∷ []) item at) [
+  | inl e ↦
+      let there = Contains-append_right front (last ∷ []) last (within_head last []) in
+      let before : IsBefore y.name last.name = subst (λ (x : Listed). IsBefore y.name x.name) there.2
+      (AllPairs-head IsBeforeItem y (front ++ last ∷ []) up there.0 last there.1) in
+      omega (arith, ap (λ (x : Listed). x.name.wal) e, wal_up y.name last.name before)
+  | inr later ↦ none_after_last front last (AllPairs-tail IsBeforeItem y (front ++ last ∷ []) up) item later
+]
 
-next_wal_is : (files : Files) (row : List Found) (next : ℕ) → Ascends row → IsRowOf files row → IsNextAfter row next → IsNextWal (dirs_as_read files) next
-unfolding IsNextAfter
-next_wal_is files [] next up is behind = record {
-  above = λ number stored there. let f = stands_found files [] number stored is there in absurd (none_within f.0 f.1);
-  least = inl (behind, λ number stored there. let f = stands_found files [] number stored is there in none_within f.0 f.1);
+-- so the number after it is the one after all
+pub after_last : (front : List Listed) (last : Listed) → IsAscending (front ++ last ∷ []) → IsAfter (front ++ last ∷ []) (suc last.name.wal)
+after_last front last up = record {
+  above = λ item at. omega (arith, none_after_last front last up item at);
+  least = inr (last, Contains-append_right front (last ∷ []) last (within_head last []), refl);
 }
-next_wal_is files (f ∷ row) next up is behind =
-    let l = last_behind f row next up behind in
-    record {
-      above = λ number stored there. let g = stands_found files (f ∷ row) number stored is there in omega (arith, l.2, g.2, l.1.above g.0 g.1);
-      least = inr (l.0.name.wal, stored_in files l.0, found_stands files (f ∷ row) l.0.name.wal (stored_in files l.0) is (l.0, l.1.at, refl, refl), l.2);
-    }
 
-pub next_wal_answered : (files : Files) (row : List Found) (tells : Bool) (result : Result Recovered RecoverFault) → Ascends row
-    → (IsTrue tells → IsRowOf files row)
-    → IfOk result (λ (found : Recovered). IsNextAfter row found.next_wal)
-    → IfOk result (λ (found : Recovered). IsTrue tells → IsNextWal (dirs_as_read files) found.next_wal)
-next_wal_answered files row tells (Ok found) up is behind = λ told. next_wal_is files row found.next_wal up (is told) behind
-next_wal_answered files row tells (Err fault) up is behind = tt
+pub after_none : IsAfter [] 1
+after_none = record { above = λ item at. absurd (none_within item at); least = inl (refl, refl) }
+
+module _ (files : Files) (sides : Sides) (listings : AreListings files sides) where
+  -- a segment of the directories is listed
+  listed : (number : ℕ) (stored : Stored) → StandsIn (dirs_as_read files) number stored
+      → (item : Listed) × (item.name.wal ≡ number) × (Contains sides.primary item ⊎ Contains sides.secondary item)
+  listed number stored (named, reads) = on stored.side reads
+    where
+      on : (side : Side) → dirs_as_read files (segment side (record { wal = number; index = stored.index })) ≡ Some stored.content
+          → (item : Listed) × (item.name.wal ≡ number) × (Contains sides.primary item ⊎ Contains sides.secondary item)
+      on Primary reads =
+          let f = read_open Primary (record { wal = number; index = stored.index }) (files (segment Primary (record { wal = number; index = stored.index }))) stored.content reads in
+          let item : Listed = record { name = record { wal = number; index = stored.index }; len = length f.0.reads } in
+          (item, refl, inl ((listings.primary item).1 (named, (f.0, f.1, f.2, refl))))
+      on Secondary reads =
+          let f = read_open Secondary (record { wal = number; index = stored.index }) (files (segment Secondary (record { wal = number; index = stored.index }))) stored.content reads in
+          let item : Listed = record { name = record { wal = number; index = stored.index }; len = length f.0.reads } in
+          (item, refl, inr ((listings.secondary item).1 (named, (f.0, f.1, f.2, refl))))
+
+  -- and a listed one stands in the directories
+  stands : (side : Side) (item : Listed) → IsSegmentName item.name × HasLength files (segment side item.name) item.len
+      → (stored : Stored) × StandsIn (dirs_as_read files) item.name.wal stored
+  stands side item (named, (f, is, created, long)) = (
+    record { side = side; index = item.name.index; content = f.reads },
+    (named, read_created (segment side item.name) (files (segment side item.name)) f is created),
+  )
+
+  ones_stand : (item : Listed) → Contains sides.primary item → (stored : Stored) × StandsIn (dirs_as_read files) item.name.wal stored
+  ones_stand item at = stands Primary item ((listings.primary item).0 at)
+
+  others_stand : (item : Listed) → Contains sides.secondary item → (stored : Stored) × StandsIn (dirs_as_read files) item.name.wal stored
+  others_stand item at = stands Secondary item ((listings.secondary item).0 at)
+
+  none_listed : sides.primary ≡ [] → sides.secondary ≡ [] → (number : ℕ) (stored : Stored) → StandsIn (dirs_as_read files) number stored → ⊥
+  none_listed a b number stored there =
+      let l = listed number stored there in
+      elim l.2 [
+        | inl one ↦ none_within l.0 (subst (λ (names : List Listed). Contains names l.0) a one)
+        | inr other ↦ none_within l.0 (subst (λ (names : List Listed). Contains names l.0) b other)
+      ]
+
+  abbrev Least : ℕ → Type 0
+  Least next = ((next ≡ 1) × ((number : ℕ) (stored : Stored) → StandsIn (dirs_as_read files) number stored → ⊥))
+      ⊎ ((number : ℕ) × (stored : Stored) × StandsIn (dirs_as_read files) number stored × (next ≡ suc number))
+
+  module _ (one other next : ℕ) (a : IsAfter sides.primary one) (b : IsAfter sides.secondary other) (low : one ≤ next) (below : other ≤ next) where
+    of_one : next ≡ one → Least next
+    of_one is = elim a.least [
+      | inr (item, at, e) ↦ let s = ones_stand item at in inr (item.name.wal, s.0, s.1, is ∙ e)
+      | inl (first, none) ↦ elim b.least [
+        | inl (also, empty) ↦ inl (is ∙ first, none_listed none empty)
+        | inr (item, at, e) ↦ let s = others_stand item at in inr (item.name.wal, s.0, s.1, omega (arith, is, first, e, below))
+      ]
+    ]
+
+    of_other : next ≡ other → Least next
+    of_other is = elim b.least [
+      | inr (item, at, e) ↦ let s = others_stand item at in inr (item.name.wal, s.0, s.1, is ∙ e)
+      | inl (first, none) ↦ elim a.least [
+        | inl (also, empty) ↦ inl (is ∙ first, none_listed empty none)
+        | inr (item, at, e) ↦ let s = ones_stand item at in inr (item.name.wal, s.0, s.1, omega (arith, is, first, e, low))
+      ]
+    ]
+
+    pub next_is : (next ≡ one) ⊎ (next ≡ other) → IsNextWal (dirs_as_read files) next
+    next_is is = record {
+      above = λ number stored there.
+          let l = listed number stored there in
+          elim l.2 [
+            | inl here ↦ omega (arith, a.above l.0 here, low, l.1)
+            | inr here ↦ omega (arith, b.above l.0 here, below, l.1)
+          ];
+      least = elim is [ inl e ↦ of_one e | inr e ↦ of_other e ];
+    }

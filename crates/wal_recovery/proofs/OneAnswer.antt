@@ -16,7 +16,7 @@ use Rattle.segment_merge.specs.Merging.{Merged}
 use Rattle.wal_recovery.specs.declared.reports.Mode.{Mode}
 use Rattle.wal_recovery.specs.declared.reports.Mode.TheVariants.{Strict}
 use Rattle.wal_recovery.specs.Listing.{Stored, Wal, AreByIndex, AreByNumber, IsOf, IsListingOf}
-use Rattle.wal_recovery.specs.Recovering.{takes_number, Spell, HoldsBatches, HoldRow, WalsMerge, Recovers}
+use Rattle.wal_recovery.specs.Recovering.{takes_number, Spell, HoldsBatches, HoldRow, WalsMerge, RecoversFrom, Recovers}
 use Rattle.wal_recovery.proofs.WalsMerge.{listed_some}
 use Rattle.wal_recovery.proofs.OneReading as reading
 
@@ -146,10 +146,13 @@ module _ (one_read : (bytes : List ℕ) (log : ℕ) (r s : ReadOut) → ReadsOut
       is ∙ ap (λ o. o ++ later) owns ∙ ap (λ l. own2 ++ l) laters ∙ sym is2
 
   -- The same, of any such laws.
-  pub one_recovered : (dirs : Dirs) (a b : List Batch) → Recovers dirs a → Recovers dirs b → a ≡ b
-  one_recovered dirs a b h k =
-      one_wals NUMBER_FIRST k.wals a b (subst (λ w. WalsMerge NUMBER_FIRST w a) (one_listing dirs h.wals k.wals h.listed k.listed) h.merges) k.merges
+  pub one_recovered : (first : ℕ) (dirs : Dirs) (a b : List Batch) → RecoversFrom first dirs a → RecoversFrom first dirs b → a ≡ b
+  one_recovered first dirs a b h k =
+      one_wals first k.wals a b (subst (λ w. WalsMerge first w a) (one_listing dirs h.wals k.wals h.listed k.listed) h.merges) k.merges
 
 -- Directories recover to at most one list of batches.
+pub recovers_once_from : (first : ℕ) (dirs : Dirs) (a b : List Batch) → RecoversFrom first dirs a → RecoversFrom first dirs b → a ≡ b
+recovers_once_from first dirs a b h k = one_recovered reading.one_read reading.one_spelled first dirs a b h k
+
 pub recovers_once : (dirs : Dirs) (a b : List Batch) → Recovers dirs a → Recovers dirs b → a ≡ b
-recovers_once dirs a b h k = one_recovered reading.one_read reading.one_spelled dirs a b h k
+recovers_once = recovers_once_from NUMBER_FIRST

@@ -13,8 +13,8 @@ use Rattle.wal_recovery.specs.declared.fault.RecoverFault.{RecoverFault}
 use Rattle.wal_recovery.specs.declared.fault.RecoverFault.TheVariants as faults
 use Rattle.wal_recovery.specs.declared.reports.Mode.TheVariants.{Lenient}
 use Rattle.wal_recovery.specs.Listing.{Wal}
-use Rattle.wal_recovery.specs.Recovering.{HoldAll, RecoversLenient}
-use Rattle.wal_recovery.specs.Refused.{by_index, segments_of, ReachesLenient, IsLenientlyRefused}
+use Rattle.wal_recovery.specs.Recovering.{HoldAll, RecoversLenient, RecoversLenientAfter}
+use Rattle.wal_recovery.specs.Refused.{by_index, segments_of, ReachesLenient, IsLenientlyRefused, IsLenientlyRefusedAfter}
 use Rattle.wal_recovery.specs.OneWal.{HoldsRow, IsLenientlyRefusedWal}
 use Rattle.wal_recovery.proofs.IsReportOf.{batches_by_index}
 use Rattle.wal_recovery.proofs.AreReportsMerged.{all_batches}
@@ -58,10 +58,15 @@ holds_up_to (w ∷ before) wal after rows (own, more, here, rest, is) =
 
 -- ---- what recovers
 
-pub lenient_once : (dirs : Dirs) (a b : List Batch) → RecoversLenient dirs a → RecoversLenient dirs b → a ≡ b
-lenient_once dirs a b h k =
+pub lenient_once_after : (front : List SegmentRead) (dirs : Dirs) (a b : List Batch) → RecoversLenientAfter front dirs a
+    → RecoversLenientAfter front dirs b → a ≡ b
+lenient_once_after front dirs a b h k =
     let held : HoldAll k.wals h.rows = subst (λ (w : List Wal). HoldAll w h.rows) (one_listing dirs h.wals k.wals h.listed k.listed) h.hold in
-    one_lenient k.rows a b (subst (λ (r : List (List Batch)). MergedLenient r a) (one_all k.wals h.rows k.rows held k.hold) h.merges) k.merges
+    one_lenient (batches_in front ++ k.rows) a b (subst (λ (r : List (List Batch)). MergedLenient (batches_in front ++ r) a)
+    (one_all k.wals h.rows k.rows held k.hold) h.merges) k.merges
+
+pub lenient_once : (dirs : Dirs) (a b : List Batch) → RecoversLenient dirs a → RecoversLenient dirs b → a ≡ b
+lenient_once = lenient_once_after []
 
 -- ---- one WAL after those before it
 
@@ -90,36 +95,46 @@ batches_plain : (rows : List (List Batch)) → batches_in (plain rows) ≡ rows
 batches_plain [] = refl
 batches_plain (b ∷ rows) = ap (λ (l : List (List Batch)). b ∷ l) (batches_plain rows)
 
-merged_or_conflict_behind : (before : List Wal) (wal : Wal) (rows more : List (List Batch)) (held : HoldsRow Lenient wal) (merged : List Batch)
-    (index first : ℕ) → HoldAll before rows → MergedLenient (rows ++ (held.row ++ more)) merged
-    → IsLenientConflict (by_index (segments_of before) rows ++ by_index wal.segments held.row) index first → ⊥
-merged_or_conflict_behind before wal rows more held merged index first hold m wrong =
-    let front = by_index (segments_of before) rows in
+row_batches : (front : List SegmentRead) (before : List Wal) (wal : Wal) (rows more : List (List Batch)) (held : HoldsRow Lenient wal)
+    → HoldAll before rows
+    → batches_in (((front ++ by_index (segments_of before) rows) ++ by_index wal.segments held.row) ++ plain more)
+    ≡ batches_in front ++ (rows ++ (held.row ++ more))
+row_batches front before wal rows more held hold =
+    let earlier = by_index (segments_of before) rows in
     let here = by_index wal.segments held.row in
-    let is : batches_in ((front ++ here) ++ plain more) ≡ rows ++ (held.row ++ more) =
-    map-append (λ (s : SegmentRead). s.batches) (front ++ here) (plain more)
-    ∙ ap (λ (l : List (List Batch)). l ++ batches_in (plain more)) (map-append (λ (s : SegmentRead). s.batches) front here)
-    ∙ append_assoc (batches_in front) (batches_in here) (batches_in (plain more))
+    ap (λ (l : List SegmentRead). batches_in (l ++ plain more)) (append_assoc front earlier here)
+    ∙ ap batches_in (append_assoc front (earlier ++ here) (plain more))
+    ∙ map-append (λ (s : SegmentRead). s.batches) front ((earlier ++ here) ++ plain more)
+    ∙ ap (λ (l : List (List Batch)). batches_in front ++ l) (map-append (λ (s : SegmentRead). s.batches) (earlier ++ here) (plain more)
+    ∙ ap (λ (l : List (List Batch)). l ++ batches_in (plain more)) (map-append (λ (s : SegmentRead). s.batches) earlier here)
+    ∙ append_assoc (batches_in earlier) (batches_in here) (batches_in (plain more))
     ∙ ap (λ (l : List (List Batch)). l ++ (batches_in here ++ batches_in (plain more))) (all_batches before rows hold)
     ∙ ap (λ (l : List (List Batch)). rows ++ (l ++ batches_in (plain more))) (batches_by_index Lenient (log_number wal.number) wal.segments held.row held.holds)
-    ∙ ap (λ (l : List (List Batch)). rows ++ (held.row ++ l)) (batches_plain more) in
-    merged_or_conflict ((front ++ here) ++ plain more) merged index first
-    (subst (λ (r : List (List Batch)). MergedLenient r merged) (sym is) m) (conflict_on (front ++ here) (plain more) index first wrong)
+    ∙ ap (λ (l : List (List Batch)). rows ++ (held.row ++ l)) (batches_plain more))
 
-merged_or_wrong : (before : List Wal) (wal : Wal) (rows more : List (List Batch)) (held : HoldsRow Lenient wal) (merged : List Batch)
-    (fault : RecoverFault) → HoldAll before rows → MergedLenient (rows ++ (held.row ++ more)) merged
-    → IsLenientlyRefusedWal (by_index (segments_of before) rows) wal fault → ⊥
-merged_or_wrong before wal rows more held merged (faults.Disk side) hold m w = w
-merged_or_wrong before wal rows more held merged (faults.DuplicateSegment number index) hold m w = w
-merged_or_wrong before wal rows more held merged (faults.BadBatch number index place fault) hold m w = held_or_bad Lenient
+merged_or_conflict_behind : (front : List SegmentRead) (before : List Wal) (wal : Wal) (rows more : List (List Batch)) (held : HoldsRow Lenient wal)
+    (merged : List Batch) (index first : ℕ) → HoldAll before rows → MergedLenient (batches_in front ++ (rows ++ (held.row ++ more))) merged
+    → IsLenientConflict ((front ++ by_index (segments_of before) rows) ++ by_index wal.segments held.row) index first → ⊥
+merged_or_conflict_behind front before wal rows more held merged index first hold m wrong =
+    let row = (front ++ by_index (segments_of before) rows) ++ by_index wal.segments held.row in
+    merged_or_conflict (row ++ plain more) merged index first
+    (subst (λ (r : List (List Batch)). MergedLenient r merged) (sym (row_batches front before wal rows more held hold)) m)
+    (conflict_on row (plain more) index first wrong)
+
+merged_or_wrong : (front : List SegmentRead) (before : List Wal) (wal : Wal) (rows more : List (List Batch)) (held : HoldsRow Lenient wal)
+    (merged : List Batch) (fault : RecoverFault) → HoldAll before rows → MergedLenient (batches_in front ++ (rows ++ (held.row ++ more))) merged
+    → IsLenientlyRefusedWal (front ++ by_index (segments_of before) rows) wal fault → ⊥
+merged_or_wrong front before wal rows more held merged (faults.Disk side) hold m w = w
+merged_or_wrong front before wal rows more held merged (faults.DuplicateSegment number index) hold m w = w
+merged_or_wrong front before wal rows more held merged (faults.BadBatch number index place fault) hold m w = held_or_bad Lenient
     (log_number wal.number) wal.segments held.row index place fault held.holds w.1
-merged_or_wrong before wal rows more held merged (faults.Gap number index expected found) hold m w = w
-merged_or_wrong before wal rows more held merged (faults.Conflict number index first) hold m w =
-    merged_or_conflict_behind before wal rows more held merged index first hold m
-    (subst (λ (row : List (List Batch)). IsLenientConflict (by_index (segments_of before) rows ++ by_index wal.segments row) index first)
+merged_or_wrong front before wal rows more held merged (faults.Gap number index expected found) hold m w = w
+merged_or_wrong front before wal rows more held merged (faults.Conflict number index first) hold m w =
+    merged_or_conflict_behind front before wal rows more held merged index first hold m
+    (subst (λ (row : List (List Batch)). IsLenientConflict ((front ++ by_index (segments_of before) rows) ++ by_index wal.segments row) index first)
     (same_row Lenient wal w.1 held) w.2)
-merged_or_wrong before wal rows more held merged (faults.Corrupt number index at shown_at) hold m w = w
-merged_or_wrong before wal rows more held merged faults.NoMemory hold m w = w
+merged_or_wrong front before wal rows more held merged (faults.Corrupt number index at shown_at) hold m w = w
+merged_or_wrong front before wal rows more held merged faults.NoMemory hold m w = w
 
 one_wrong : (before : List SegmentRead) (wal : Wal) (f g : RecoverFault) → IsLenientlyRefusedWal before wal f → IsLenientlyRefusedWal before wal g → f ≡ g
 one_wrong before wal (faults.Disk side) g a b = absurd a
@@ -151,74 +166,84 @@ one_wrong before wal (faults.Conflict w i x) (faults.Conflict v j y) a b =
 -- ---- all WALs
 
 -- a WAL of the directories is refused
-record IsWrongAt (dirs : Dirs) (fault : RecoverFault) : Type 0 where
+record IsWrongAt (front : List SegmentRead) (dirs : Dirs) (fault : RecoverFault) : Type 0 where
   wal : Wal
-  reached : ReachesLenient dirs wal.number wal.segments
-  wrong : IsLenientlyRefusedWal (by_index (segments_of reached.before) reached.rows) wal fault
+  reached : ReachesLenient front dirs wal.number wal.segments
+  wrong : IsLenientlyRefusedWal (front ++ by_index (segments_of reached.before) reached.rows) wal fault
 
 -- so no WALs are merged that go on after it
-wrong_behind : (dirs : Dirs) (fault : RecoverFault) (w : IsWrongAt dirs fault) (wals mid : List Wal) (rows : List (List Batch))
-    (merged : List Batch) → wals ≡ w.reached.before ++ w.wal ∷ mid → HoldAll wals rows
-    → MergedLenient rows merged → ⊥
-wrong_behind dirs fault w wals mid rows merged is h m =
+wrong_behind : (front : List SegmentRead) (dirs : Dirs) (fault : RecoverFault) (w : IsWrongAt front dirs fault) (wals mid : List Wal)
+    (rows : List (List Batch)) (merged : List Batch) → wals ≡ w.reached.before ++ w.wal ∷ mid → HoldAll wals rows
+    → MergedLenient (batches_in front ++ rows) merged → ⊥
+wrong_behind front dirs fault w wals mid rows merged is h m =
     let cut = holds_up_to w.reached.before w.wal mid rows (subst (λ (l : List Wal). HoldAll l rows) is h) in
     let earlier : cut.earlier ≡ w.reached.rows = one_all w.reached.before cut.earlier w.reached.rows cut.hold w.reached.hold in
-    merged_or_wrong w.reached.before w.wal w.reached.rows cut.more cut.held merged fault w.reached.hold
-    (subst (λ (r : List (List Batch)). MergedLenient (r ++ (cut.held.row ++ cut.more)) merged) earlier
-    (subst (λ (r : List (List Batch)). MergedLenient r merged) cut.is m)) w.wrong
+    merged_or_wrong front w.reached.before w.wal w.reached.rows cut.more cut.held merged fault w.reached.hold
+    (subst (λ (r : List (List Batch)). MergedLenient (batches_in front ++ (r ++ (cut.held.row ++ cut.more))) merged) earlier
+    (subst (λ (r : List (List Batch)). MergedLenient (batches_in front ++ r) merged) cut.is m)) w.wrong
 
-recovered_or_wrong : (dirs : Dirs) (merged : List Batch) (fault : RecoverFault) → RecoversLenient dirs merged → IsWrongAt dirs fault → ⊥
-recovered_or_wrong dirs merged fault r w =
-    wrong_behind dirs fault w r.wals w.reached.after r.rows merged
+recovered_or_wrong : (front : List SegmentRead) (dirs : Dirs) (merged : List Batch) (fault : RecoverFault) → RecoversLenientAfter front dirs merged
+    → IsWrongAt front dirs fault → ⊥
+recovered_or_wrong front dirs merged fault r w =
+    wrong_behind front dirs fault w r.wals w.reached.after r.rows merged
     (one_listing dirs r.wals (w.reached.before ++ w.wal ∷ w.reached.after) r.listed w.reached.listed) r.hold r.merges
 
-one_wrong_at : (dirs : Dirs) (f g : RecoverFault) → IsWrongAt dirs f → IsWrongAt dirs g → f ≡ g
-one_wrong_at dirs f g a b =
+one_wrong_at : (front : List SegmentRead) (dirs : Dirs) (f g : RecoverFault) → IsWrongAt front dirs f → IsWrongAt front dirs g → f ≡ g
+one_wrong_at front dirs f g a b =
     of_places (places a.reached.before a.wal a.reached.after b.reached.before b.wal b.reached.after
     (one_listing dirs (a.reached.before ++ a.wal ∷ a.reached.after) (b.reached.before ++ b.wal ∷ b.reached.after) a.reached.listed b.reached.listed))
   where
     of_places : Places a.reached.before a.wal a.reached.after b.reached.before b.wal b.reached.after → f ≡ g
-    of_places (sooner mid is) = absurd (wrong_behind dirs f a b.reached.before mid b.reached.rows b.reached.base is b.reached.hold b.reached.merges)
+    of_places (sooner mid is) = absurd (wrong_behind front dirs f a b.reached.before mid b.reached.rows b.reached.base is b.reached.hold b.reached.merges)
     of_places (one befores wals afters) =
         let hold : HoldAll b.reached.before a.reached.rows = subst (λ (l : List Wal). HoldAll l a.reached.rows) befores a.reached.hold in
         let rows : a.reached.rows ≡ b.reached.rows = one_all b.reached.before a.reached.rows b.reached.rows hold b.reached.hold in
-        one_wrong (by_index (segments_of b.reached.before) b.reached.rows) b.wal f g
-        (subst (λ (x : Wal). IsLenientlyRefusedWal (by_index (segments_of b.reached.before) b.reached.rows) x f) wals
-        (subst (λ (r : List (List Batch)). IsLenientlyRefusedWal (by_index (segments_of b.reached.before) r) a.wal f) rows
-        (subst (λ (l : List Wal). IsLenientlyRefusedWal (by_index (segments_of l) a.reached.rows) a.wal f) befores a.wrong))) b.wrong
-    of_places (later mid is) = absurd (wrong_behind dirs g b a.reached.before mid a.reached.rows a.reached.base is a.reached.hold a.reached.merges)
+        one_wrong (front ++ by_index (segments_of b.reached.before) b.reached.rows) b.wal f g
+        (subst (λ (x : Wal). IsLenientlyRefusedWal (front ++ by_index (segments_of b.reached.before) b.reached.rows) x f) wals
+        (subst (λ (r : List (List Batch)). IsLenientlyRefusedWal (front ++ by_index (segments_of b.reached.before) r) a.wal f) rows
+        (subst (λ (l : List Wal). IsLenientlyRefusedWal (front ++ by_index (segments_of l) a.reached.rows) a.wal f) befores a.wrong))) b.wrong
+    of_places (later mid is) = absurd (wrong_behind front dirs g b a.reached.before mid a.reached.rows a.reached.base is a.reached.hold a.reached.merges)
 
 -- ---- the directories
 
-why : (dirs : Dirs) (fault : RecoverFault) → IsLenientlyRefused dirs fault → IsTwiceNamed dirs fault ⊎ IsWrongAt dirs fault
-why dirs (faults.Disk side) r = absurd r
-why dirs (faults.DuplicateSegment w i) r = inl (w, i, refl, r)
-why dirs (faults.BadBatch w i p f) r = inr (record { wal = wal_of w r.segments; reached = r.reached; wrong = (refl, r.bad) })
-why dirs (faults.Corrupt w i p x) r = absurd r
-why dirs (faults.Gap w i e x) r = absurd r
-why dirs (faults.Conflict w i x) r = inr (record {
+why : (front : List SegmentRead) (dirs : Dirs) (fault : RecoverFault) → IsLenientlyRefusedAfter front dirs fault
+    → IsTwiceNamed dirs fault ⊎ IsWrongAt front dirs fault
+why front dirs (faults.Disk side) r = absurd r
+why front dirs (faults.DuplicateSegment w i) r = inl (w, i, refl, r)
+why front dirs (faults.BadBatch w i p f) r = inr (record { wal = wal_of w r.segments; reached = r.reached; wrong = (refl, r.bad) })
+why front dirs (faults.Corrupt w i p x) r = absurd r
+why front dirs (faults.Gap w i e x) r = absurd r
+why front dirs (faults.Conflict w i x) r = inr (record {
   wal = wal_of w r.segments;
   reached = r.reached;
   wrong = (refl, record { row = r.own; holds = r.holds }, r.wrong);
 })
-why dirs faults.NoMemory r = absurd r
+why front dirs faults.NoMemory r = absurd r
 
 -- directories that recover are refused by nothing
-pub lenient_or_refused : (dirs : Dirs) (merged : List Batch) (fault : RecoverFault) → RecoversLenient dirs merged → IsLenientlyRefused dirs fault → ⊥
-lenient_or_refused dirs merged fault r refused = elim (why dirs fault refused) [
+pub lenient_or_refused_after : (front : List SegmentRead) (dirs : Dirs) (merged : List Batch) (fault : RecoverFault)
+    → RecoversLenientAfter front dirs merged → IsLenientlyRefusedAfter front dirs fault → ⊥
+lenient_or_refused_after front dirs merged fault r refused = elim (why front dirs fault refused) [
   | inl twice ↦ listed_or_twice dirs r.wals twice.0 twice.1 r.listed twice.3.twice
-  | inr wrong ↦ recovered_or_wrong dirs merged fault r wrong
+  | inr wrong ↦ recovered_or_wrong front dirs merged fault r wrong
 ]
 
+pub lenient_or_refused : (dirs : Dirs) (merged : List Batch) (fault : RecoverFault) → RecoversLenient dirs merged → IsLenientlyRefused dirs fault → ⊥
+lenient_or_refused = lenient_or_refused_after []
+
 -- and directories that are refused are refused for one reason
-pub lenient_refused_once : (dirs : Dirs) (f g : RecoverFault) → IsLenientlyRefused dirs f → IsLenientlyRefused dirs g → f ≡ g
-lenient_refused_once dirs f g a b = elim (why dirs f a) [
-  | inl twice ↦ elim (why dirs g b) [
+pub lenient_refused_once_after : (front : List SegmentRead) (dirs : Dirs) (f g : RecoverFault) → IsLenientlyRefusedAfter front dirs f
+    → IsLenientlyRefusedAfter front dirs g → f ≡ g
+lenient_refused_once_after front dirs f g a b = elim (why front dirs f a) [
+  | inl twice ↦ elim (why front dirs g b) [
     | inl again ↦ twice.2 ∙ one_duplicate dirs twice.0 twice.1 again.0 again.1 twice.3 again.3 ∙ sym again.2
     | inr wrong ↦ absurd (listed_or_twice dirs (wrong.reached.before ++ wrong.wal ∷ wrong.reached.after) twice.0 twice.1 wrong.reached.listed twice.3.twice)
   ]
-  | inr wrong ↦ elim (why dirs g b) [
+  | inr wrong ↦ elim (why front dirs g b) [
     | inl again ↦ absurd (listed_or_twice dirs (wrong.reached.before ++ wrong.wal ∷ wrong.reached.after) again.0 again.1 wrong.reached.listed again.3.twice)
-    | inr also ↦ one_wrong_at dirs f g wrong also
+    | inr also ↦ one_wrong_at front dirs f g wrong also
   ]
 ]
+
+pub lenient_refused_once : (dirs : Dirs) (f g : RecoverFault) → IsLenientlyRefused dirs f → IsLenientlyRefused dirs g → f ≡ g
+lenient_refused_once = lenient_refused_once_after []

@@ -17,8 +17,8 @@ use Rattle.wal_recovery.specs.declared.fault.RecoverFault.TheVariants as faults
 use Rattle.wal_recovery.specs.declared.reports.Mode.{Mode}
 use Rattle.wal_recovery.specs.declared.reports.Mode.TheVariants.{Strict}
 use Rattle.wal_recovery.specs.Listing.{Stored, Wal, IsDuplicate}
-use Rattle.wal_recovery.specs.Recovering.{WalMerges, WalsMerge, Recovers}
-use Rattle.wal_recovery.specs.Refused.{IsBadBatch, IsCorrupt, Reaches, by_index, IsRefused}
+use Rattle.wal_recovery.specs.Recovering.{WalMerges, WalsMerge, RecoversFrom, Recovers}
+use Rattle.wal_recovery.specs.Refused.{IsBadBatch, IsCorrupt, Reaches, by_index, IsRefusedFrom, IsRefused}
 use Rattle.wal_recovery.specs.Gathered.{named_in_wal}
 use Rattle.wal_recovery.specs.OneWal.{HoldsRow, IsRefusedWal}
 use Rattle.wal_recovery.proofs.IsReportOf.{batches_by_index}
@@ -135,40 +135,40 @@ merges_up_to first (w ∷ before) wal after merged (own, more, here, rest, is) =
     }
 
 -- a WAL of the directories is refused
-record IsWrongAt (dirs : Dirs) (fault : RecoverFault) : Type 0 where
+record IsWrongAt (first : ℕ) (dirs : Dirs) (fault : RecoverFault) : Type 0 where
   wal : Wal
   base : List Batch
-  reached : Reaches dirs wal.number wal.segments base
-  wrong : IsRefusedWal (end_after NUMBER_FIRST base) wal fault
+  reached : Reaches first dirs wal.number wal.segments base
+  wrong : IsRefusedWal (end_after first base) wal fault
 
 -- so no WALs merge that go on after it
-wrong_behind : (dirs : Dirs) (fault : RecoverFault) (w : IsWrongAt dirs fault) (wals mid : List Wal) (merged : List Batch)
-    → wals ≡ w.reached.before ++ w.wal ∷ mid → WalsMerge NUMBER_FIRST wals merged → ⊥
-wrong_behind dirs fault w wals mid merged is m =
-    let cut = merges_up_to NUMBER_FIRST w.reached.before w.wal mid merged (subst (λ (l : List Wal). WalsMerge NUMBER_FIRST l merged) is m) in
-    let bases : cut.base ≡ w.base = one_wals reading.one_read reading.one_spelled NUMBER_FIRST w.reached.before cut.base w.base cut.merged w.reached.merged in
-    merged_or_wrong (end_after NUMBER_FIRST w.base) w.wal cut.own fault
-    (subst (λ (b : List Batch). WalMerges (end_after NUMBER_FIRST b) w.wal cut.own) bases cut.here) w.wrong
+wrong_behind : (first : ℕ) (dirs : Dirs) (fault : RecoverFault) (w : IsWrongAt first dirs fault) (wals mid : List Wal) (merged : List Batch)
+    → wals ≡ w.reached.before ++ w.wal ∷ mid → WalsMerge first wals merged → ⊥
+wrong_behind first dirs fault w wals mid merged is m =
+    let cut = merges_up_to first w.reached.before w.wal mid merged (subst (λ (l : List Wal). WalsMerge first l merged) is m) in
+    let bases : cut.base ≡ w.base = one_wals reading.one_read reading.one_spelled first w.reached.before cut.base w.base cut.merged w.reached.merged in
+    merged_or_wrong (end_after first w.base) w.wal cut.own fault
+    (subst (λ (b : List Batch). WalMerges (end_after first b) w.wal cut.own) bases cut.here) w.wrong
 
-recovered_or_wrong : (dirs : Dirs) (merged : List Batch) (fault : RecoverFault) → Recovers dirs merged → IsWrongAt dirs fault → ⊥
-recovered_or_wrong dirs merged fault r w =
-    wrong_behind dirs fault w r.wals w.reached.after merged (one_listing dirs r.wals (w.reached.before ++ w.wal ∷ w.reached.after) r.listed
+recovered_or_wrong : (first : ℕ) (dirs : Dirs) (merged : List Batch) (fault : RecoverFault) → RecoversFrom first dirs merged → IsWrongAt first dirs fault → ⊥
+recovered_or_wrong first dirs merged fault r w =
+    wrong_behind first dirs fault w r.wals w.reached.after merged (one_listing dirs r.wals (w.reached.before ++ w.wal ∷ w.reached.after) r.listed
     w.reached.listed) r.merges
 
-one_wrong_at : (dirs : Dirs) (f g : RecoverFault) → IsWrongAt dirs f → IsWrongAt dirs g → f ≡ g
-one_wrong_at dirs f g a b =
+one_wrong_at : (first : ℕ) (dirs : Dirs) (f g : RecoverFault) → IsWrongAt first dirs f → IsWrongAt first dirs g → f ≡ g
+one_wrong_at first dirs f g a b =
     of_places (places a.reached.before a.wal a.reached.after b.reached.before b.wal b.reached.after
     (one_listing dirs (a.reached.before ++ a.wal ∷ a.reached.after) (b.reached.before ++ b.wal ∷ b.reached.after) a.reached.listed b.reached.listed))
   where
     of_places : Places a.reached.before a.wal a.reached.after b.reached.before b.wal b.reached.after → f ≡ g
-    of_places (sooner mid is) = absurd (wrong_behind dirs f a b.reached.before mid b.base is b.reached.merged)
+    of_places (sooner mid is) = absurd (wrong_behind first dirs f a b.reached.before mid b.base is b.reached.merged)
     of_places (one befores wals afters) =
-        let merged : WalsMerge NUMBER_FIRST b.reached.before a.base = subst (λ (l : List Wal). WalsMerge NUMBER_FIRST l a.base) befores a.reached.merged in
-        let bases : a.base ≡ b.base = one_wals reading.one_read reading.one_spelled NUMBER_FIRST b.reached.before a.base b.base merged b.reached.merged in
-        one_wrong (end_after NUMBER_FIRST b.base) b.wal f g
-        (subst (λ (x : Wal). IsRefusedWal (end_after NUMBER_FIRST b.base) x f) wals
-        (subst (λ (l : List Batch). IsRefusedWal (end_after NUMBER_FIRST l) a.wal f) bases a.wrong)) b.wrong
-    of_places (later mid is) = absurd (wrong_behind dirs g b a.reached.before mid a.base is a.reached.merged)
+        let merged : WalsMerge first b.reached.before a.base = subst (λ (l : List Wal). WalsMerge first l a.base) befores a.reached.merged in
+        let bases : a.base ≡ b.base = one_wals reading.one_read reading.one_spelled first b.reached.before a.base b.base merged b.reached.merged in
+        one_wrong (end_after first b.base) b.wal f g
+        (subst (λ (x : Wal). IsRefusedWal (end_after first b.base) x f) wals
+        (subst (λ (l : List Batch). IsRefusedWal (end_after first l) a.wal f) bases a.wrong)) b.wrong
+    of_places (later mid is) = absurd (wrong_behind first dirs g b a.reached.before mid a.base is a.reached.merged)
 
 -- ---- the directories
 
@@ -178,43 +178,48 @@ IsTwiceNamed dirs fault = (w : ℕ) × (i : ℕ) × (fault ≡ faults.DuplicateS
 abbrev pub wal_of : ℕ → List Stored → Wal
 wal_of number segments = record { number = number; segments = segments }
 
-why : (dirs : Dirs) (fault : RecoverFault) → IsRefused dirs fault → IsTwiceNamed dirs fault ⊎ IsWrongAt dirs fault
-why dirs (faults.Disk side) r = absurd r
-why dirs (faults.DuplicateSegment w i) r = inl (w, i, refl, r)
-why dirs (faults.BadBatch w i p f) (segments, base, reached, bad) = inr
+why : (first : ℕ) (dirs : Dirs) (fault : RecoverFault) → IsRefusedFrom first dirs fault → IsTwiceNamed dirs fault ⊎ IsWrongAt first dirs fault
+why first dirs (faults.Disk side) r = absurd r
+why first dirs (faults.DuplicateSegment w i) r = inl (w, i, refl, r)
+why first dirs (faults.BadBatch w i p f) (segments, base, reached, bad) = inr
     (record { wal = wal_of w segments; base = base; reached = reached; wrong = (refl, bad) })
-why dirs (faults.Corrupt w i p x) (segments, base, reached, bad) = inr
+why first dirs (faults.Corrupt w i p x) (segments, base, reached, bad) = inr
     (record { wal = wal_of w segments; base = base; reached = reached; wrong = (refl, bad) })
-why dirs (faults.Gap w i e x) (r, gap) = inr (record {
+why first dirs (faults.Gap w i e x) (r, gap) = inr (record {
   wal = wal_of w r.segments;
   base = r.base;
   reached = r.reached;
   wrong = (refl, record { row = r.row; holds = r.holds }, gap);
 })
-why dirs (faults.Conflict w i x) (r, conflict) = inr (record {
+why first dirs (faults.Conflict w i x) (r, conflict) = inr (record {
   wal = wal_of w r.segments;
   base = r.base;
   reached = r.reached;
   wrong = (refl, record { row = r.row; holds = r.holds }, conflict);
 })
-why dirs faults.NoMemory r = absurd r
+why first dirs faults.NoMemory r = absurd r
 
 -- directories that recover are refused by nothing
-pub recovered_or_refused : (dirs : Dirs) (merged : List Batch) (fault : RecoverFault) → Recovers dirs merged → IsRefused dirs fault → ⊥
-recovered_or_refused dirs merged fault r refused = elim (why dirs fault refused) [
+pub recovered_or_refused_from : (first : ℕ) (dirs : Dirs) (merged : List Batch) (fault : RecoverFault) → RecoversFrom first dirs merged → IsRefusedFrom first dirs fault → ⊥
+recovered_or_refused_from first dirs merged fault r refused = elim (why first dirs fault refused) [
   | inl twice ↦ listed_or_twice dirs r.wals twice.0 twice.1 r.listed twice.3.twice
-  | inr wrong ↦ recovered_or_wrong dirs merged fault r wrong
+  | inr wrong ↦ recovered_or_wrong first dirs merged fault r wrong
 ]
 
 -- and directories that are refused are refused for one reason
-pub refused_once : (dirs : Dirs) (f g : RecoverFault) → IsRefused dirs f → IsRefused dirs g → f ≡ g
-refused_once dirs f g a b = elim (why dirs f a) [
-  | inl twice ↦ elim (why dirs g b) [
+pub refused_once_from : (first : ℕ) (dirs : Dirs) (f g : RecoverFault) → IsRefusedFrom first dirs f → IsRefusedFrom first dirs g → f ≡ g
+refused_once_from first dirs f g a b = elim (why first dirs f a) [
+  | inl twice ↦ elim (why first dirs g b) [
     | inl again ↦ twice.2 ∙ one_duplicate dirs twice.0 twice.1 again.0 again.1 twice.3 again.3 ∙ sym again.2
     | inr wrong ↦ absurd (listed_or_twice dirs (wrong.reached.before ++ wrong.wal ∷ wrong.reached.after) twice.0 twice.1 wrong.reached.listed twice.3.twice)
   ]
-  | inr wrong ↦ elim (why dirs g b) [
+  | inr wrong ↦ elim (why first dirs g b) [
     | inl again ↦ absurd (listed_or_twice dirs (wrong.reached.before ++ wrong.wal ∷ wrong.reached.after) again.0 again.1 wrong.reached.listed again.3.twice)
-    | inr also ↦ one_wrong_at dirs f g wrong also
+    | inr also ↦ one_wrong_at first dirs f g wrong also
   ]
 ]
+
+-- ---- from the first number of all
+
+pub recovered_or_refused : (dirs : Dirs) (merged : List Batch) (fault : RecoverFault) → Recovers dirs merged → IsRefused dirs fault → ⊥
+recovered_or_refused = recovered_or_refused_from NUMBER_FIRST

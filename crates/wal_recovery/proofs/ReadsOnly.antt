@@ -17,7 +17,9 @@ use Rattle.wal_recovery.specs.declared.listing.Found.{Found}
 use Rattle.wal_recovery.specs.declared.wals.FoundWal.{FoundWal}
 use Rattle.wal_recovery.specs.Rows.{item_of, Takes, Weaves, Groups}
 use Rattle.wal_recovery.proofs.AtWal.{StandsAt}
-use Rattle.wal_recovery.specs.Asking.{AsksOnce, both_listed, ListsInTurn, length_in_row, ReadsOnly, ListsRow, found_in}
+use Rattle.wal_recovery.specs.Asking.{AsksOnce, both_listed, ListsInTurn, length_in_row, ReadsOnly, found_in}
+use Rattle.wal_recovery.specs.declared.listing.Sides.{Sides}
+use Rattle.wal_recovery.specs.Sides.{ListsBoth, IsAsLongAsListed, ReadsListed}
 
 -- how many bytes of this segment a segment of a row has
 abbrev bytes_here : Side → SegName → Found → ℕ
@@ -143,19 +145,21 @@ each_once ones others Secondary = refl
 none_asked : (ones others : List Listed) (side : Side) (name : SegName) → bytes_asked side name (both_listed ones others) ≡ 0
 none_asked ones others side name = refl
 
--- both sides are listed, and the row is woven of what they gave
-pub lists_row : (row : List Found) (ones others : List Listed) (old mid new : DiskView) → Makes (was_listed Primary ones ∷ []) old mid
-    → Makes (was_listed Secondary others ∷ []) mid new → Weaves row ones others [] [] → ListsRow row old new
-lists_row row ones others old mid new a b w = record {
-  ones = ones;
-  others = others;
-  makes = makes_further (was_listed Primary ones ∷ []) (was_listed Secondary others ∷ []) old mid new a b;
-  listed = given;
-}
+-- what both listings give a segment
+listed_both : (side : Side) (name : SegName) (ones others : List Listed) → length_listed side name (both_listed ones others) ≡ lengths side name ones others
+listed_both Primary name ones others = let e : 0 + 0 + length_among name ones ≡ length_among name ones = omega arith in e
+listed_both Secondary name ones others = between_none (length_among name others)
+
+-- a row that is woven of parts of both listings has no more bytes
+pub as_long_as_listed : (row : List Found) (sides : Sides) (ones others : List Listed) → Weaves row ones others [] []
+    → ((name : SegName) → length_among name ones ≤ length_among name sides.primary)
+    → ((name : SegName) → length_among name others ≤ length_among name sides.secondary) → IsAsLongAsListed row sides
+as_long_as_listed row sides ones others w less fewer side name =
+    omega (arith, woven side name row ones others w, shorter side, listed_both side name sides.primary sides.secondary)
   where
-    given : (side : Side) (name : SegName) → length_listed side name (both_listed ones others) ≡ length_in_row side name row
-    given Primary name = (let e : 0 + 0 + length_among name ones ≡ length_among name ones = omega arith in e) ∙ woven Primary name row ones others w
-    given Secondary name = between_none (length_among name others) ∙ woven Secondary name row ones others w
+    shorter : (s : Side) → lengths s name ones others ≤ lengths s name sides.primary sides.secondary
+    shorter Primary = less name
+    shorter Secondary = fewer name
 
 -- at most one listing of each side, and no read
 pub lists_two : (ones others : List Listed) (old mid new : DiskView) → Makes (was_listed Primary ones ∷ []) old mid
@@ -177,29 +181,46 @@ lists_one ones old new a = record { made = was_listed Primary ones ∷ []; makes
 
 -- ---- the whole recovery
 
-pub asks_once : (row : List Found) (old mid new : DiskView) → ListsRow row old mid → ReadsOnly row mid new → AsksOnce old new
-asks_once row old mid new a b = record {
-  made = b.made ++ both_listed a.ones a.others;
-  makes = makes_further (both_listed a.ones a.others) b.made old mid new a.makes b.makes;
-  lists = λ side. omega (arith, listings-append side b.made (both_listed a.ones a.others), each_once a.ones a.others side, b.lists side);
+pub reads_listed : (row : List Found) (sides : Sides) (old new : DiskView) → IsAsLongAsListed row sides → ReadsOnly row old new → ReadsListed sides old new
+reads_listed row sides old new long a = record {
+  made = a.made;
+  makes = a.makes;
+  lists = a.lists;
+  listed = a.listed;
+  asked = λ side name. omega (arith, a.asked side name, long side name);
+  creates = a.creates;
+}
+
+pub reads_no_listed : (sides : Sides) (v : DiskView) → ReadsListed sides v v
+reads_no_listed sides v = record { made = []; makes = makes_none v; lists = λ side. refl; listed = λ side name. refl; asked = λ side name. omega arith; creates = refl }
+
+pub asks_once : (sides : Sides) (old mid new : DiskView) → ListsBoth sides old mid → ReadsListed sides mid new → AsksOnce old new
+asks_once sides old mid new a b = record {
+  made = b.made ++ both_listed sides.primary sides.secondary;
+  makes = makes_further (both_listed sides.primary sides.secondary) b.made old mid new a b.makes;
+  lists = λ side. omega (
+    arith,
+    listings-append side b.made (both_listed sides.primary sides.secondary),
+    each_once sides.primary sides.secondary side,
+    b.lists side,
+  );
   reads = λ side name. omega (
     arith,
-    bytes_asked-append side name b.made (both_listed a.ones a.others),
-    length_listed-append side name b.made (both_listed a.ones a.others),
-    none_asked a.ones a.others side name,
-    a.listed side name,
+    bytes_asked-append side name b.made (both_listed sides.primary sides.secondary),
+    length_listed-append side name b.made (both_listed sides.primary sides.secondary),
+    none_asked sides.primary sides.secondary side name,
     b.asked side name,
     b.listed side name,
   );
-  creates = creations_further b.made (both_listed a.ones a.others) ∙ omega (arith, b.creates);
+  creates = creations_further b.made (both_listed sides.primary sides.secondary) ∙ omega (arith, b.creates);
 }
 
-pub lists_in_turn : (row : List Found) (old mid new : DiskView) → ListsRow row old mid → ReadsOnly row mid new → ListsInTurn old new
-lists_in_turn row old mid new a b = record {
-  ones = a.ones;
-  others = a.others;
+pub lists_in_turn : (sides : Sides) (old mid new : DiskView) → ListsBoth sides old mid → ReadsListed sides mid new → ListsInTurn old new
+lists_in_turn sides old mid new a b = record {
+  ones = sides.primary;
+  others = sides.secondary;
   later = b.made;
-  makes = makes_further (both_listed a.ones a.others) b.made old mid new a.makes b.makes;
+  makes = makes_further (both_listed sides.primary sides.secondary) b.made old mid new a b.makes;
   no_more = b.lists;
 }
 

@@ -5,7 +5,8 @@ use Rattle.std.proofs.lemmas.List.Elements.{All-push}
 use Rattle.wal_base.specs.Faults.{Rose}
 use Rattle.disk_face.specs.declared.OpId.{OpId}
 use Rattle.disk_face.specs.declared.Side.{Side}
-use Rattle.disk_face.specs.View.{Place, segment, table, syncing, Flight, File, Files, DiskView, files, NothingInFlight, AtEachMoment}
+use Rattle.disk_face.specs.declared.FilePlace.TheVariants.{Segment, Table}
+use Rattle.disk_face.specs.View.{Place, syncing, Flight, File, Files, DiskView, files, NothingInFlight, AtEachMoment}
 use Rattle.disk_face.specs.Image.{IsSound, IsSoundFile, IsImageOf}
 use Rattle.disk_face.specs.Calls.{GoesOn, MayStart, Starts, ChangesFile, AfterDone, AfterFailed}
 use Rattle.disk_face.proofs.Laws.{same_place, same_id, sync_image, same_files, moments_from, moments_more, moments_stay, moments_joined}
@@ -34,8 +35,8 @@ synced_stays o n (f, is, stable) (inl e) = (f, e ∙ is, stable)
 synced_stays o n (f, is, stable) (inr (h, also, now)) = (record h { stable = h.done }, now, refl)
 
 sound_file : (p : Place) (f : File) → IsSound p f → IsSoundFile f
-sound_file (segment side name) f sound = sound.0
-sound_file (table upto) f sound = sound.0
+sound_file (Segment side name) f sound = sound.0
+sound_file (Table upto) f sound = sound.0
 
 pub adds_no_image : (old now : Files) → ((p : Place) (f : File) → old p ≡ Some f → IsSound p f) → OnlySynced old now → AddsNoImage old now
 adds_no_image old now sound only dirs image p = go (now p) (only p) (image p)

@@ -1,5 +1,5 @@
 -- What recovery answers, by its mode. A fault of the disk or out of memory may take the place of any answer (docs/formats/journal.md, "Recovery").
-use Rattle.std.specs.Prelude.{◌≡◌, List, Result, Ok, Err}
+use Rattle.std.specs.Prelude.{◌≡◌, ℕ, List, Result, Ok, Err}
 use Rattle.batch_repr.specs.declared.batch.Batch.{Batch}
 use Rattle.wal_base.specs.Faults.{Rose}
 use Rattle.disk_face.specs.View.{Dirs, DiskView}
@@ -8,15 +8,26 @@ use Rattle.wal_recovery.specs.declared.reports.Mode.TheVariants.{Strict, Lenient
 use Rattle.wal_recovery.specs.declared.reports.Recovered.{Recovered}
 use Rattle.wal_recovery.specs.declared.fault.RecoverFault.{RecoverFault}
 use Rattle.wal_recovery.specs.declared.fault.RecoverFault.TheVariants as faults
-use Rattle.wal_recovery.specs.Recovering.{Recovers, RecoversLenient}
-use Rattle.wal_recovery.specs.Refused.{IsRefused, IsLenientlyRefused}
+use Rattle.wal_recovery.specs.Recovering.{Recovers, RecoversLenient, RecoversLenientAfter}
+use Rattle.wal_recovery.specs.Base.{front_of, RecoversOnto}
+use Rattle.wal_recovery.specs.Refused.{IsRefused, IsRefusedFrom, IsLenientlyRefused, IsLenientlyRefusedAfter}
 
--- the directories recover to these batches
+-- The directories recover to these batches where those of a base stand before. Where no gap is accepted their segments are merged
+-- from this number on and stand behind the base; where gaps are accepted they are merged with it.
+abbrev pub RecoversByFrom : Mode → ℕ → List Batch → Dirs → List Batch → Type 0
+RecoversByFrom Strict first base dirs batches = RecoversOnto first base dirs batches
+RecoversByFrom Lenient first base dirs batches = RecoversLenientAfter (front_of base) dirs batches
+
+-- the directories are refused there
+abbrev pub IsRefusedByFrom : Mode → ℕ → List Batch → Dirs → RecoverFault → Type 0
+IsRefusedByFrom Strict first base dirs fault = IsRefusedFrom first dirs fault
+IsRefusedByFrom Lenient first base dirs fault = IsLenientlyRefusedAfter (front_of base) dirs fault
+
+-- the same, from the first number of all, with no batch before it
 abbrev pub RecoversBy : Mode → Dirs → List Batch → Type 0
 RecoversBy Strict dirs merged = Recovers dirs merged
 RecoversBy Lenient dirs merged = RecoversLenient dirs merged
 
--- the directories are refused
 abbrev pub IsRefusedBy : Mode → Dirs → RecoverFault → Type 0
 IsRefusedBy Strict dirs fault = IsRefused dirs fault
 IsRefusedBy Lenient dirs fault = IsLenientlyRefused dirs fault

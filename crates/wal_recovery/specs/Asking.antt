@@ -47,13 +47,6 @@ pub record ReadsOnly (row : List Found) (old new : DiskView) : Type 0 where
   pub asked : (side : Side) (name : SegName) → bytes_asked side name made ≤ length_in_row side name row
   pub creates : creations made ≡ 0
 
--- The calls made since are the listings of both sides, and the row has of each segment as many bytes as it was listed with.
-pub record ListsRow (row : List Found) (old new : DiskView) : Type 0 where
-  pub ones : List Listed
-  pub others : List Listed
-  pub makes : Makes (both_listed ones others) old new
-  pub listed : (side : Side) (name : SegName) → length_listed side name (both_listed ones others) ≡ length_in_row side name row
-
 -- what a listing gave: nothing where it failed
 abbrev pub names_given : Result (List Listed) RecoverFault → List Listed
 names_given (Ok names) = names

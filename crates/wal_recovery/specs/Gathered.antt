@@ -7,10 +7,10 @@ use Rattle.block_record.specs.ReadOut.{ReadsOut}
 use Rattle.segment_merge.specs.declared.segment.SegmentRead.{SegmentRead}
 use Rattle.segment_merge.specs.declared.fault.MergeFault.{MergeFault}
 use Rattle.segment_merge.specs.declared.fault.MergeFault.TheVariants as merges
-use Rattle.segment_merge.specs.Rows.{IsNumbered}
+use Rattle.segment_merge.specs.Rows.{IsNumbered, IsNumberedSegment, batches_in}
 use Rattle.segment_merge.specs.Lenient.{MergedLenient}
-use Rattle.disk_face.specs.View.{Files}
-use Rattle.disk_face.specs.Image.{dirs_as_read, log_number}
+use Rattle.disk_face.specs.View.{Files, Dirs}
+use Rattle.disk_face.specs.Image.{log_number}
 use Rattle.disk_face.specs.Listing.{HasLength}
 use Rattle.wal_recovery.specs.declared.fault.RecoverFault.{RecoverFault}
 use Rattle.wal_recovery.specs.declared.fault.RecoverFault.TheVariants as faults
@@ -73,9 +73,10 @@ pub record AddsSegment (tells : Bool) (mode : Mode) (files : Files) (segment : F
 abbrev pub counted_in : List SegReport → List (List Batch)
 counted_in reports = map (λ (r : SegReport). taking_numbers r.batches) reports
 
--- The batches of the reports that take a number, where gaps are accepted, are merged to these.
-pub record AreReportsMerged (reports : List SegReport) (merged : List Batch) : Type 0 where
-  pub merges : MergedLenient (counted_in reports) merged
+-- The batches of the front and of the reports that take a number, where gaps are accepted, are merged to these.
+pub record AreReportsMerged (front : List SegmentRead) (reports : List SegReport) (merged : List Batch) : Type 0 where
+  pub merges : MergedLenient (batches_in front ++ counted_in reports) merged
+  pub before : All IsNumberedSegment front
   pub numbered : All IsNumberedReport reports
 
 -- Segments more, in their order.
@@ -107,10 +108,10 @@ pub record IsFirstBadOf (mode : Mode) (files : Files) (segments : List Found) (f
 abbrev pub IsOwnWal : FoundWal → Type 0
 IsOwnWal wal = All (λ (f : Found). f.name.wal ≡ wal.number) wal.segments.items
 
--- The WALs are those of the directories as they read, each segment with as many bytes as it was listed with.
-pub record AreListedWals (files : Files) (wals : List FoundWal) : Type 0 where
+-- The WALs are those of the directories, each segment with as many bytes as it was listed with, and with those that its file reads as.
+pub record AreListedWals (dirs : Dirs) (files : Files) (wals : List FoundWal) : Type 0 where
   pub as_listed : All (λ (w : FoundWal). AreAsListed files w.segments.items) wals
-  pub listed : IsListingOf (dirs_as_read files) (wals_in files wals)
+  pub listed : IsListingOf dirs (wals_in files wals)
 
 -- ---- refusals of a merge, by the names of segments
 

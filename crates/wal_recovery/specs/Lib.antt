@@ -1,10 +1,12 @@
 pub mod Listing
 pub mod Recovering
+pub mod Base
 pub mod Refused
 pub mod Reports
 pub mod Resting
 pub mod Answers
 pub mod Rows
+pub mod Sides
 pub mod Decoded
 pub mod Gathered
 pub mod OneWal

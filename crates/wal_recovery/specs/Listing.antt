@@ -1,10 +1,16 @@
 -- The two directories as rows of segments: the WALs in ascending order, each with its segments by index (docs/formats/journal.md, "Recovery").
-use Rattle.std.specs.Prelude.{◌≡◌, ◌≢◌, ◌↔◌, ◌⊎◌, ℕ, suc, ◌≤◌, ◌<◌, List, [], ◌∷◌, Some, Contains}
+use Rattle.std.specs.Prelude.{◌≡◌, ◌≢◌, ◌↔◌, ◌⊎◌, ℕ, suc, ◌≤◌, ◌<◌, nat_lt, if◌then◌else◌, List, [], ◌∷◌, Some, None, Contains}
 use Rattle.disk_face.specs.declared.Side.{Side}
 use Rattle.disk_face.specs.declared.Side.TheVariants.{Primary, Secondary}
 use Rattle.disk_face.specs.declared.SegName.{SegName}
-use Rattle.disk_face.specs.View.{Place, segment, Dirs}
+use Rattle.disk_face.specs.declared.FilePlace.TheVariants.{Segment, Table}
+use Rattle.disk_face.specs.View.{Place, segment, table, Dirs}
 use Rattle.disk_face.specs.Listing.{IsSegmentName}
+
+-- the directories without the segments of WALs below this one
+abbrev pub from_wal : ℕ → Dirs → Dirs
+from_wal least dirs (Segment side name) = if nat_lt name.wal least then None else dirs (segment side name)
+from_wal least dirs (Table upto) = dirs (table upto)
 
 -- a segment of a WAL: the directory in which it stands, its index, and its bytes
 pub record Stored : Type 0 where

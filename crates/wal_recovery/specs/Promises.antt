@@ -1,6 +1,6 @@
 -- What recovery promises of the files of a disk, where it tells them, and of the disk (docs/formats/journal.md, "Recovery").
 use Rattle.batch_repr.specs.declared.limits.TheConstants.{NUMBER_FIRST}
-use Rattle.std.specs.Prelude.{◌≡◌, ℕ, ◌≤◌, Bool, List, [], ◌∷◌, length, take, map, All, Result, IfErr, IsTrue}
+use Rattle.std.specs.Prelude.{◌≡◌, ℕ, ◌≤◌, Bool, List, [], ◌∷◌, length, take, map, All, Result, IfOk, IfErr, IsTrue}
 use Rattle.batch_repr.specs.declared.batch.Batch.{Batch}
 use Rattle.batch_repr.specs.Batches.{IsContiguous}
 use Rattle.segment_merge.specs.declared.segment.SegmentRead.{SegmentRead}
@@ -8,7 +8,7 @@ use Rattle.segment_merge.specs.Lenient.{AreMergedOf}
 use Rattle.wal_base.specs.Faults.{Rose}
 use Rattle.disk_face.specs.declared.Side.{Side}
 use Rattle.disk_face.specs.declared.Listed.{Listed}
-use Rattle.disk_face.specs.View.{DiskView, files, syncing, was_listed, Makes, AtEachMoment}
+use Rattle.disk_face.specs.View.{Dirs, DiskView, files, syncing, was_listed, Makes, AtEachMoment}
 use Rattle.disk_face.specs.Image.{IsRested, directories}
 use Rattle.disk_face.specs.Listing.{IsListing, HasLength}
 use Rattle.disk_face.specs.Calls.{SameDisk, MayStart}
@@ -19,46 +19,79 @@ use Rattle.wal_recovery.specs.declared.reports.Mode.{Mode}
 use Rattle.wal_recovery.specs.declared.reports.Mode.TheVariants.{Strict}
 use Rattle.wal_recovery.specs.declared.reports.Recovered.{Recovered}
 use Rattle.wal_recovery.specs.declared.reports.SegReport.{SegReport}
+use Rattle.wal_recovery.specs.declared.reports.Start.{Start}
 use Rattle.wal_recovery.specs.declared.wals.FoundWal.{FoundWal}
-use Rattle.wal_recovery.specs.Listing.{AreByIndex, IsNextWal}
-use Rattle.wal_recovery.specs.Recovering.{WalMerges, WalsMerge, RecoversLenient}
+use Rattle.wal_recovery.specs.Listing.{AreByIndex, IsNextWal, from_wal}
+use Rattle.wal_recovery.specs.Recovering.{WalMerges, WalsMerge, RecoversLenientAfter}
+use Rattle.wal_recovery.specs.Base.{front_of, GoesOnFrom}
 use Rattle.wal_recovery.specs.Reports.{ReportOnAll, AreReports}
 use Rattle.wal_recovery.specs.Resting.{AreSegmentsStable, IsSynced, OnlySynced, AddsNoImage}
-use Rattle.wal_recovery.specs.Answers.{RecoversBy, IsRefusedBy, IsRefusal, DiskMemoryOr, OkOrFailed, ErrOrFailed}
-use Rattle.wal_recovery.specs.Rows.{place_listed, bytes_at, stored_in, wal_in, wals_in, RefusesTwice}
-use Rattle.wal_recovery.specs.Gathered.{IsAsListed, AreAsListed, IsBadIn, GathersWal, IsFirstBadOf, AreListedWals}
+use Rattle.wal_recovery.specs.Answers.{RecoversBy, RecoversByFrom, IsRefusedBy, IsRefusedByFrom, IsRefusal, DiskMemoryOr, OkOrFailed, ErrOrFailed}
+use Rattle.wal_recovery.specs.Rows.{files_from, IsRowOf, place_listed, bytes_at, stored_in, wal_in, wals_in}
+use Rattle.wal_recovery.specs.Gathered.{IsAsListed, AreAsListed, IsBadIn, GathersWal, AreReportsMerged, IsFirstBadOf, AreListedWals}
 use Rattle.wal_recovery.specs.OneWal.{AddsReports, IsRefusedWal, IsLenientlyRefusedWal}
 use Rattle.wal_recovery.specs.Asking.{ReadsOnly, names_given}
 
 -- ---- what recovery answers
 
+-- the directories, as they read, from the WAL on with which recovery begins
+abbrev pub directories_from : Start → DiskView → Dirs
+directories_from start v = from_wal start.wal (directories v)
+
+-- The row has the segments of the disk's files from that WAL on, and nothing else.
+abbrev pub IsRowFrom : Start → Bool → DiskView → List Found → Type 0
+IsRowFrom start tells v row = IsTrue tells → IsRowOf (files_from start.wal (files v)) row
+
 -- What was found is what the directories recover to.
+abbrev pub IsWhatRecoversFrom : Start → Bool → Mode → DiskView → Recovered → Type 0
+IsWhatRecoversFrom start tells mode v found = IsTrue tells → RecoversByFrom mode start.number start.base (directories_from start v) found.batches
+
+-- Whatever the directories recover to is found, unless the disk failed or memory ran out.
+abbrev pub FindsWhatRecoversFrom : Start → Bool → Mode → DiskView → Result Recovered RecoverFault → Type 0
+FindsWhatRecoversFrom start tells mode v result =
+    IsTrue tells → (batches : List Batch) → RecoversByFrom mode start.number start.base (directories_from start v) batches → OkOrFailed result batches
+
+-- The directories are refused for this fault, or it is the disk's or out of memory.
+abbrev pub IsReasonToRefuseFrom : Start → Bool → Mode → DiskView → RecoverFault → Type 0
+IsReasonToRefuseFrom start tells mode v fault =
+    IsTrue tells → DiskMemoryOr (IsRefusedByFrom mode start.number start.base (directories_from start v)) fault
+
+-- Whatever the directories are refused for is answered, unless the disk failed or memory ran out.
+abbrev pub AnswersRefusalFrom : Start → Bool → Mode → DiskView → Result Recovered RecoverFault → Type 0
+AnswersRefusalFrom start tells mode v result =
+    IsTrue tells → (fault : RecoverFault) → IsRefusedByFrom mode start.number start.base (directories_from start v) fault → ErrOrFailed result fault
+
+-- Each segment of the directories is reported on.
+abbrev pub ReportsOnSegmentsFrom : Start → Bool → DiskView → Recovered → Type 0
+ReportsOnSegmentsFrom start tells v found = IsTrue tells → AreReports (directories_from start v) found.segments
+
+-- Those behind the base begin with the first number, and no number is left out between them.
+abbrev pub HasNoGapFrom : Start → Recovered → Type 0
+HasNoGapFrom start found = GoesOnFrom start.number start.base found.batches
+
+-- ---- the same of all segments, from the first number of all
+
 abbrev pub IsWhatRecovers : Bool → Mode → DiskView → Recovered → Type 0
 IsWhatRecovers tells mode v found = IsTrue tells → RecoversBy mode (directories v) found.batches
 
--- Whatever the directories recover to is found, unless the disk failed or memory ran out.
 abbrev pub FindsWhatRecovers : Bool → Mode → DiskView → Result Recovered RecoverFault → Type 0
 FindsWhatRecovers tells mode v result = IsTrue tells → (merged : List Batch) → RecoversBy mode (directories v) merged → OkOrFailed result merged
 
--- The directories are refused for this fault, or it is the disk's or out of memory.
 abbrev pub IsReasonToRefuse : Bool → Mode → DiskView → RecoverFault → Type 0
 IsReasonToRefuse tells mode v fault = IsTrue tells → DiskMemoryOr (IsRefusedBy mode (directories v)) fault
 
--- Whatever the directories are refused for is answered, unless the disk failed or memory ran out.
 abbrev pub AnswersRefusal : Bool → Mode → DiskView → Result Recovered RecoverFault → Type 0
 AnswersRefusal tells mode v result = IsTrue tells → (fault : RecoverFault) → IsRefusedBy mode (directories v) fault → ErrOrFailed result fault
 
--- Each segment of the directories is reported on.
 abbrev pub ReportsOnSegments : Bool → DiskView → Recovered → Type 0
 ReportsOnSegments tells v found = IsTrue tells → AreReports (directories v) found.segments
+
+abbrev pub HasNoGap : Recovered → Type 0
+HasNoGap found = IsContiguous NUMBER_FIRST found.batches
 
 -- The number of the next WAL is that of the directories.
 abbrev pub HasNextWal : Bool → DiskView → Recovered → Type 0
 HasNextWal tells v found = IsTrue tells → IsNextWal (directories v) found.next_wal
-
--- The batches begin with the first number, and no number is left out between them.
-abbrev pub HasNoGap : Recovered → Type 0
-HasNoGap found = IsContiguous NUMBER_FIRST found.batches
 
 -- ---- what happens to the files
 
@@ -74,9 +107,14 @@ OnlySyncsThroughout tells old new = IsTrue tells → AtEachMoment old.clock new 
 abbrev pub AddsNoImageThroughout : Bool → DiskView → DiskView → Type 0
 AddsNoImageThroughout tells old new = IsTrue tells → AtEachMoment old.clock new (AddsNoImage (files old))
 
--- Where the files were at rest every segment is stable now.
-abbrev pub StabilizesRested : Bool → DiskView → DiskView → Type 0
-StabilizesRested tells old new = IsTrue tells → IsRested (files old) → AreSegmentsStable (files new)
+-- Where the files were at rest every segment from a WAL on is stable now.
+abbrev pub StabilizesRestedFrom : Start → Bool → DiskView → DiskView → Type 0
+StabilizesRestedFrom start tells old new = IsTrue tells → IsRested (files old) → AreSegmentsStable (files_from start.wal (files new))
+
+-- Where no gap is accepted, and the files were at rest, every segment from a WAL on is stable now.
+abbrev pub StabilizesIfStrictFrom : Start → Bool → Mode → DiskView → DiskView → Type 0
+StabilizesIfStrictFrom start tells mode old new =
+    IsTrue tells → mode ≡ Strict → IsRested (files old) → AreSegmentsStable (files_from start.wal (files new))
 
 -- Where no gap is accepted, and the files were at rest, every segment is stable now.
 abbrev pub StabilizesIfStrict : Bool → Mode → DiskView → DiskView → Type 0
@@ -95,10 +133,6 @@ ListsSideOnce side given old new = Makes (was_listed side (names_given given) �
 -- The names are the listing of the side.
 abbrev pub IsSideListing : Bool → DiskView → Side → List Listed → Type 0
 IsSideListing tells v side names = IsTrue tells → IsListing (files v) side names
-
--- A segment stands on both sides, or the fault is the disk's or out of memory.
-abbrev pub IsTwinRefusal : Bool → DiskView → RecoverFault → Type 0
-IsTwinRefusal tells v fault = IsTrue tells → DiskMemoryOr (RefusesTwice (directories v)) fault
 
 -- ---- one segment
 
@@ -156,23 +190,31 @@ RefusesWalLeniently tells v wal so_far result =
     (before : List SegmentRead) → AreMergedOf before so_far
     → IfErr result (λ fault. IsTrue tells → AreAsListed (files v) wal.segments.items → DiskMemoryOr (IsLenientlyRefusedWal before (wal_in (files v) wal)) fault)
 
+-- Whatever front and reports were merged so far, what is answered is merged of them and of the reports added.
+abbrev pub MergesReports : List SegReport → List SegReport → List Batch → Result (List Batch) RecoverFault → Type 0
+MergesReports old new so_far result = (front : List SegmentRead) → AreReportsMerged front old so_far → IfOk result (AreReportsMerged front new)
+
 -- ---- all WALs
 
--- The WALs merge to these batches, where they are those of the directories.
-abbrev pub MergesWals : Bool → DiskView → List FoundWal → Merged → Type 0
-MergesWals tells v wals merged = IsTrue tells → AreListedWals (files v) wals → WalsMerge NUMBER_FIRST (wals_in (files v) wals) merged.batches
+-- The WALs merge, from this number on, to these batches, where they are those of directories.
+abbrev pub MergesWals : Bool → DiskView → List FoundWal → ℕ → Merged → Type 0
+MergesWals tells v wals first merged =
+    IsTrue tells → (dirs : Dirs) → AreListedWals dirs (files v) wals → WalsMerge first (wals_in (files v) wals) merged.batches
 
--- The directories recover with gaps to these batches, where the WALs are theirs.
-abbrev pub MergesWalsLeniently : Bool → DiskView → List FoundWal → Merged → Type 0
-MergesWalsLeniently tells v wals merged = IsTrue tells → AreListedWals (files v) wals → RecoversLenient (directories v) merged.batches
+-- The directories whose WALs they are recover with gaps, behind this base, to these batches.
+abbrev pub MergesWalsLeniently : Bool → List Batch → DiskView → List FoundWal → Merged → Type 0
+MergesWalsLeniently tells base v wals merged =
+    IsTrue tells → (dirs : Dirs) → AreListedWals dirs (files v) wals → RecoversLenientAfter (front_of base) dirs merged.batches
 
--- Each segment of the WALs is reported on, where they are those of the directories.
+-- Each segment of the WALs is reported on, where they are those of directories.
 abbrev pub ReportsOnWals : Bool → DiskView → List FoundWal → List SegReport → Type 0
-ReportsOnWals tells v wals reports = IsTrue tells → AreListedWals (files v) wals → ReportOnAll (wals_in (files v) wals) reports
+ReportsOnWals tells v wals reports =
+    IsTrue tells → (dirs : Dirs) → AreListedWals dirs (files v) wals → ReportOnAll (wals_in (files v) wals) reports
 
--- The directories are refused, where the WALs are theirs, or the fault is the disk's or out of memory.
-abbrev pub AreWalsRefused : Bool → Mode → DiskView → List FoundWal → RecoverFault → Type 0
-AreWalsRefused tells mode v wals fault = IsTrue tells → AreListedWals (files v) wals → DiskMemoryOr (IsRefusedBy mode (directories v)) fault
+-- The directories whose WALs they are are refused, or the fault is the disk's or out of memory.
+abbrev pub AreWalsRefused : Bool → Mode → ℕ → List Batch → DiskView → List FoundWal → RecoverFault → Type 0
+AreWalsRefused tells mode first base v wals fault =
+    IsTrue tells → (dirs : Dirs) → AreListedWals dirs (files v) wals → DiskMemoryOr (IsRefusedByFrom mode first base dirs) fault
 
 -- ---- syncs
 

@@ -10,6 +10,8 @@ use Rattle.block_record.specs.declared.records.ReadOut.{ReadOut}
 use Rattle.block_record.specs.declared.records.Rec.{Rec}
 use Rattle.block_record.specs.declared.records.Shown.{Shown}
 use Rattle.block_record.specs.ReadOut.{ReadsOut}
+use Rattle.segment_merge.specs.declared.segment.SegmentRead.{SegmentRead}
+use Rattle.segment_merge.specs.Rows.{batches_in}
 use Rattle.segment_merge.specs.Merging.{Merged}
 use Rattle.segment_merge.specs.Lenient.{MergedLenient}
 use Rattle.disk_face.specs.View.{Dirs}
@@ -59,11 +61,15 @@ WalsMerge first [] merged = merged ≡ []
 WalsMerge first (wal ∷ wals) merged =
     (own : List Batch) × (later : List Batch) × WalMerges first wal own × WalsMerge (end_after first own) wals later × (merged ≡ own ++ later)
 
--- The directories recover, with no gap, to these batches.
-pub record Recovers (dirs : Dirs) (merged : List Batch) : Type 0 where
+-- The directories recover, from this number on and with no gap, to these batches.
+pub record RecoversFrom (first : ℕ) (dirs : Dirs) (merged : List Batch) : Type 0 where
   pub wals : List Wal
   pub listed : IsListingOf dirs wals
-  pub merges : WalsMerge NUMBER_FIRST wals merged
+  pub merges : WalsMerge first wals merged
+
+-- The directories recover, with no gap, to these batches.
+abbrev pub Recovers : Dirs → List Batch → Type 0
+Recovers = RecoversFrom NUMBER_FIRST
 
 -- ---- where gaps are accepted
 
@@ -74,10 +80,14 @@ HoldAll (wal ∷ wals) rows =
     (own : List (List Batch)) × (later : List (List Batch)) × HoldRow Lenient (log_number wal.number) wal.segments own
     × HoldAll wals later × (rows ≡ own ++ later)
 
--- The directories recover, with gaps, to these batches: the segments of all WALs are merged as one row.
-pub record RecoversLenient (dirs : Dirs) (merged : List Batch) : Type 0 where
+-- The directories recover, with gaps, to these batches: the segments of all WALs are merged as one row, behind those of the front.
+pub record RecoversLenientAfter (front : List SegmentRead) (dirs : Dirs) (merged : List Batch) : Type 0 where
   pub wals : List Wal
   pub listed : IsListingOf dirs wals
   pub rows : List (List Batch)
   pub hold : HoldAll wals rows
-  pub merges : MergedLenient rows merged
+  pub merges : MergedLenient (batches_in front ++ rows) merged
+
+-- The directories recover, with gaps, to these batches.
+abbrev pub RecoversLenient : Dirs → List Batch → Type 0
+RecoversLenient = RecoversLenientAfter []

@@ -11,6 +11,7 @@ use Rattle.block_record.specs.declared.records.ReadOut.{ReadOut}
 use Rattle.block_record.specs.declared.records.Rec.{Rec}
 use Rattle.block_record.specs.ReadOut.{ReadsOut}
 use Rattle.segment_merge.specs.declared.segment.SegmentRead.{SegmentRead}
+use Rattle.segment_merge.specs.Rows.{batches_in}
 use Rattle.segment_merge.specs.Refusals.{IsGap, IsConflict}
 use Rattle.segment_merge.specs.Lenient.{MergedLenient, IsLenientConflict}
 use Rattle.disk_face.specs.View.{Dirs}
@@ -65,12 +66,12 @@ IsBadBatch mode log segments index place fault = IsFirstWrongSegment mode log se
 abbrev pub IsCorrupt : ℕ → List Stored → ℕ → ℕ → ℕ → Type 0
 IsCorrupt log segments index at shown_at = IsFirstWrongSegment Strict log segments index (IsShownCorrupt log at shown_at)
 
--- The WALs before this one recover to these batches.
-pub record Reaches (dirs : Dirs) (number : ℕ) (segments : List Stored) (base : List Batch) : Type 0 where
+-- The WALs before this one recover, from this number on, to these batches.
+pub record Reaches (first : ℕ) (dirs : Dirs) (number : ℕ) (segments : List Stored) (base : List Batch) : Type 0 where
   pub before : List Wal
   pub after : List Wal
   pub listed : IsListingOf dirs (before ++ record { number = number; segments = segments } ∷ after)
-  pub merged : WalsMerge NUMBER_FIRST before base
+  pub merged : WalsMerge first before base
 
 -- the batches of segments, each list under its segment's index
 abbrev pub by_index : List Stored → List (List Batch) → List SegmentRead
@@ -78,64 +79,73 @@ by_index (stored ∷ segments) (batches ∷ row) = record { index = stored.index
 by_index segments row = []
 
 -- Each segment of the WAL holds batches, and those of the earlier WALs recover to a base from whose end on the row is merged.
-pub record ReachesRow (dirs : Dirs) (number : ℕ) : Type 0 where
+pub record ReachesRow (first : ℕ) (dirs : Dirs) (number : ℕ) : Type 0 where
   pub segments : List Stored
   pub base : List Batch
-  pub reached : Reaches dirs number segments base
+  pub reached : Reaches first dirs number segments base
   pub row : List (List Batch)
   pub holds : HoldRow Strict (log_number number) segments row
 
+-- Why strict recovery from a number on refuses.
+abbrev pub IsRefusedFrom : ℕ → Dirs → RecoverFault → Type 0
+IsRefusedFrom first dirs (faults.Disk side) = ⊥
+IsRefusedFrom first dirs (faults.DuplicateSegment wal index) = IsDuplicate dirs wal index
+IsRefusedFrom first dirs (faults.BadBatch wal index place fault) =
+    (segments : List Stored) × (base : List Batch) × Reaches first dirs wal segments base × IsBadBatch Strict (log_number wal) segments index place fault
+IsRefusedFrom first dirs (faults.Corrupt wal index at shown_at) =
+    (segments : List Stored) × (base : List Batch) × Reaches first dirs wal segments base × IsCorrupt (log_number wal) segments index at shown_at
+IsRefusedFrom first dirs (faults.Gap wal index expected found) = (r : ReachesRow first dirs wal)
+    × IsGap (end_after first r.base) (by_index r.segments r.row) index expected found
+IsRefusedFrom first dirs (faults.Conflict wal index number) = (r : ReachesRow first dirs wal)
+    × IsConflict (end_after first r.base) (by_index r.segments r.row) index number
+IsRefusedFrom first dirs faults.NoMemory = ⊥
+
 -- Why strict recovery refuses.
 abbrev pub IsRefused : Dirs → RecoverFault → Type 0
-IsRefused dirs (faults.Disk side) = ⊥
-IsRefused dirs (faults.DuplicateSegment wal index) = IsDuplicate dirs wal index
-IsRefused dirs (faults.BadBatch wal index place fault) =
-    (segments : List Stored) × (base : List Batch) × Reaches dirs wal segments base × IsBadBatch Strict (log_number wal) segments index place fault
-IsRefused dirs (faults.Corrupt wal index at shown_at) =
-    (segments : List Stored) × (base : List Batch) × Reaches dirs wal segments base × IsCorrupt (log_number wal) segments index at shown_at
-IsRefused dirs (faults.Gap wal index expected found) = (r : ReachesRow dirs wal)
-    × IsGap (end_after NUMBER_FIRST r.base) (by_index r.segments r.row) index expected found
-IsRefused dirs (faults.Conflict wal index first) = (r : ReachesRow dirs wal)
-    × IsConflict (end_after NUMBER_FIRST r.base) (by_index r.segments r.row) index first
-IsRefused dirs faults.NoMemory = ⊥
+IsRefused = IsRefusedFrom NUMBER_FIRST
 
 -- ---- where gaps are accepted
 
--- The segments of the WALs before this one are merged, with gaps, to these batches: they hold these rows.
-pub record ReachesLenient (dirs : Dirs) (number : ℕ) (segments : List Stored) : Type 0 where
+-- The segments of the front and of the WALs before this one are merged, with gaps, to these batches: the WALs hold these rows.
+pub record ReachesLenient (front : List SegmentRead) (dirs : Dirs) (number : ℕ) (segments : List Stored) : Type 0 where
   pub before : List Wal
   pub after : List Wal
   pub listed : IsListingOf dirs (before ++ record { number = number; segments = segments } ∷ after)
   pub rows : List (List Batch)
   pub hold : HoldAll before rows
   pub base : List Batch
-  pub merges : MergedLenient rows base
+  pub merges : MergedLenient (batches_in front ++ rows) base
 
 -- the segments of WALs, one WAL after another
 abbrev pub segments_of : List Wal → List Stored
 segments_of wals = flat_map (λ (wal : Wal). wal.segments) wals
 
--- the segments of the earlier WALs and of this one as one row, each with its batches and under its own index
-abbrev pub row_up_to : {dirs : Dirs} → {number : ℕ} → {segments : List Stored} → ReachesLenient dirs number segments → List (List Batch) → List SegmentRead
-row_up_to {segments = segments} reached own = by_index (segments_of reached.before) reached.rows ++ by_index segments own
+-- the segments of the front, of the earlier WALs and of this one as one row, each with its batches and under its own index
+abbrev pub row_up_to : {front : List SegmentRead} → {dirs : Dirs} → {number : ℕ} → {segments : List Stored} → ReachesLenient front dirs number segments
+    → List (List Batch) → List SegmentRead
+row_up_to {front = front} {segments = segments} reached own = (front ++ by_index (segments_of reached.before) reached.rows) ++ by_index segments own
 
 -- The record of a WAL that spells no batch, the first of them: the WALs before this one are merged.
-pub record IsFirstBadBatch (dirs : Dirs) (number index place : ℕ) (fault : BatchFault) : Type 0 where
+pub record IsFirstBadBatch (front : List SegmentRead) (dirs : Dirs) (number index place : ℕ) (fault : BatchFault) : Type 0 where
   pub segments : List Stored
-  pub reached : ReachesLenient dirs number segments
+  pub reached : ReachesLenient front dirs number segments
   pub bad : IsBadBatch Lenient (log_number number) segments index place fault
 
 -- The first batch in the row up to this WAL that begins below the end of one before it and is none of those: the segments of this WAL hold batches, and the WALs before it are merged.
-pub record IsConflictOfAll (dirs : Dirs) (number index first : ℕ) : Type 0 where
+pub record IsConflictOfAll (front : List SegmentRead) (dirs : Dirs) (number index first : ℕ) : Type 0 where
   pub segments : List Stored
-  pub reached : ReachesLenient dirs number segments
+  pub reached : ReachesLenient front dirs number segments
   pub own : List (List Batch)
   pub holds : HoldRow Lenient (log_number number) segments own
   pub wrong : IsLenientConflict (row_up_to reached own) index first
 
+-- Why recovery with gaps refuses, where the row begins with a front.
+abbrev pub IsLenientlyRefusedAfter : List SegmentRead → Dirs → RecoverFault → Type 0
+IsLenientlyRefusedAfter front dirs (faults.DuplicateSegment wal index) = IsDuplicate dirs wal index
+IsLenientlyRefusedAfter front dirs (faults.BadBatch wal index place fault) = IsFirstBadBatch front dirs wal index place fault
+IsLenientlyRefusedAfter front dirs (faults.Conflict wal index first) = IsConflictOfAll front dirs wal index first
+IsLenientlyRefusedAfter front dirs fault = ⊥
+
 -- Why recovery with gaps refuses.
 abbrev pub IsLenientlyRefused : Dirs → RecoverFault → Type 0
-IsLenientlyRefused dirs (faults.DuplicateSegment wal index) = IsDuplicate dirs wal index
-IsLenientlyRefused dirs (faults.BadBatch wal index place fault) = IsFirstBadBatch dirs wal index place fault
-IsLenientlyRefused dirs (faults.Conflict wal index first) = IsConflictOfAll dirs wal index first
-IsLenientlyRefused dirs fault = ⊥
+IsLenientlyRefused = IsLenientlyRefusedAfter []

@@ -1,9 +1,10 @@
 -- Rows of listed segments, as recovery goes over them (docs/formats/journal.md, "Recovery").
-use Rattle.std.specs.Prelude.{◌≡◌, ◌≢◌, ◌↔◌, ◌⊎◌, ℕ, ◌+◌, List, [], ◌∷◌, ◌++◌, map, All, Contains, Option, Some, None}
+use Rattle.std.specs.Prelude.{◌≡◌, ◌≢◌, ◌↔◌, ◌⊎◌, ℕ, nat_lt, if◌then◌else◌, List, [], ◌∷◌, ◌++◌, map, All, Contains, Option, Some, None}
 use Rattle.disk_face.specs.declared.Side.TheVariants.{Primary, Secondary}
 use Rattle.disk_face.specs.declared.SegName.{SegName}
 use Rattle.disk_face.specs.declared.Listed.{Listed}
-use Rattle.disk_face.specs.View.{Place, segment, Files, Dirs}
+use Rattle.disk_face.specs.declared.FilePlace.TheVariants.{Segment, Table}
+use Rattle.disk_face.specs.View.{Place, segment, table, Files, Dirs}
 use Rattle.disk_face.specs.Image.{as_read}
 use Rattle.disk_face.specs.Listing.{IsBefore, IsSegmentName, HasLength}
 use Rattle.wal_recovery.specs.declared.fault.RecoverFault.{RecoverFault}
@@ -13,6 +14,11 @@ use Rattle.wal_recovery.specs.declared.listing.Next.{Next}
 use Rattle.wal_recovery.specs.declared.listing.Next.TheVariants as nexts
 use Rattle.wal_recovery.specs.declared.wals.FoundWal.{FoundWal}
 use Rattle.wal_recovery.specs.Listing.{Stored, Wal, IsDuplicate}
+
+-- the files without the segments of WALs below this one
+abbrev pub files_from : ℕ → Files → Files
+files_from least files (Segment side name) = if nat_lt name.wal least then None else files (segment side name)
+files_from least files (Table upto) = files (table upto)
 
 -- where a listed segment stands
 abbrev pub place_listed : Found → Place
@@ -117,9 +123,3 @@ abbrev pub IsDiskOrMemory : RecoverFault → Type 0
 IsDiskOrMemory (faults.Disk side) = Unit {0}
 IsDiskOrMemory faults.NoMemory = Unit {0}
 IsDiskOrMemory fault = ⊥
-
--- The number is 1 more than that of the last segment's WAL, and 1 where there is none.
-unfoldable pub IsNextAfter : List Found → ℕ → Type 0
-IsNextAfter [] next = next ≡ 1
-IsNextAfter (f ∷ []) next = next ≡ f.name.wal + 1
-IsNextAfter (f ∷ g ∷ row) next = IsNextAfter (g ∷ row) next

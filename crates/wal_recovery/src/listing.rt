@@ -1,19 +1,36 @@
 //! The segments of both sides in one row, by their names.
 
-ghost use Rattle.std.specs.Prelude.{◌≡◌, [], ◌∷◌, All, MatchBool, IfOk, IfErr, OnOk, IsTrue};
-ghost use Rattle.disk_face.specs.View.{files};
+ghost use Rattle.std.specs.Prelude.{◌≡◌, ◌≤◌, ltb, [], ◌∷◌, All, Contains, MatchBool, IfOk, IfErr, OnOk};
+ghost use Rattle.disk_face.specs.declared.Listed.{Listed as Item};
+ghost use Rattle.disk_face.specs.declared.SegName.{SegName};
+ghost use Rattle.disk_face.specs.View.{Files};
+ghost use Rattle.disk_face.specs.Image.{dirs_as_read};
+ghost use Rattle.disk_face.specs.Asked.{length_among};
 ghost use Rattle.disk_face.specs.Listing.{IsBefore, IsAscending, AreSegmentNames, IsSegmentName};
 ghost use Rattle.disk_face.specs.Calls.{GoesOn, SameDisk};
 ghost use Rattle.wal_recovery.specs.declared.listing.Found.{Found};
-ghost use Rattle.wal_recovery.specs.Answers.{FaultRose, NoFaultRose};
+ghost use Rattle.wal_recovery.specs.Listing.{IsNextWal, from_wal};
+ghost use Rattle.wal_recovery.specs.Answers.{FaultRose, NoFaultRose, DiskMemoryOr};
 ghost use Rattle.wal_recovery.specs.Rows.{Ascends, IsRowOf, IsNext, Weaves, MeetsOrMemory, IsDiskOrMemory};
-ghost use Rattle.wal_recovery.specs.Asking.{AsksOnce, ListsRow};
-ghost use Rattle.wal_recovery.specs.Promises.{ListsSideOnce, IsSideListing, IsTwinRefusal};
+ghost use Rattle.wal_recovery.specs.Rows.{files_from, RefusesTwice};
+ghost use Rattle.wal_recovery.specs.Gathered.{IsNoDisk};
+ghost use Rattle.wal_recovery.specs.Asking.{AsksOnce};
+ghost use Rattle.wal_recovery.specs.Sides.{AreSideNames, AreListings, AreSidesOf, ListsBoth, IsAsLongAsListed, IsAfter};
+ghost use Rattle.wal_recovery.specs.Promises.{ListsSideOnce, IsSideListing};
 
 use crate::fault::RecoverFault;
 use disk_face::{Disk, DiskErr, Listed, Names, SegName, Side};
 use std::alloc::Global;
 use wal_base::ListOf;
+
+/// The segments of both sides, as the disk lists them.
+#[derive(Debug, Drop)]
+pub struct Sides {
+    /// Those of the primary side.
+    pub primary: Names,
+    /// Those of the secondary one.
+    pub secondary: Names,
+}
 
 /// A segment that is listed on a side.
 #[derive(Clone, Copy)]
@@ -123,20 +140,84 @@ fn names_on<D: Disk>(disk: &mut D, side: Side) -> Result<Names, RecoverFault>
     }
 }
 
-/// All segments by their names. Each side is listed once, the primary one first.
-pub(crate) fn list_all<D: Disk>(alloc: Global, disk: &mut D) -> Result<Row, RecoverFault>
+/// Lists each side once, the primary one first.
+///
+/// `Disk` comes where the disk failed, and `NoMemory` may come at any time.
+pub fn list_sides<D: Disk>(disk: &mut D) -> Result<Sides, RecoverFault>
     ensures goes_on { GoesOn (D.view disk.old) (D.view disk.new) }
     ensures same { SameDisk (D.view disk.old) (D.view disk.new) }
     ensures asks { AsksOnce (D.view disk.old) (D.view disk.new) }
-    ensures lists { IfOk result (λ row. ListsRow row (D.view disk.old) (D.view disk.new)) }
+    ensures lists { IfOk result (λ sides. ListsBoth sides (D.view disk.old) (D.view disk.new)) }
+    ensures fault { IfErr result IsDiskOrMemory }
     ensures rose { IfErr result (FaultRose (D.view disk.old) (D.view disk.new)) }
     ensures calm { OnOk result (NoFaultRose (D.view disk.old) (D.view disk.new)) }
-    ensures ascends { IfOk result Ascends }
-    ensures numbers { IfOk result (All (λ (f : Found). IsSegmentName f.name)) }
-    ensures listed { IfOk result (λ row. IsTrue D.tells → IsRowOf (files (D.view disk.old)) row) }
-    ensures refused { IfErr result (IsTwinRefusal D.tells (D.view disk.old)) }
+    ensures names { IfOk result AreSideNames }
+    ensures sides { IfOk result (AreSidesOf D.tells (D.view disk.new)) }
 {
     let primary = names_on(disk, Side::Primary)?;
     let secondary = names_on(disk, Side::Secondary)?;
-    in_order(alloc, primary.as_slice(), secondary.as_slice())
+    Ok(Sides { primary, secondary })
+}
+
+/// The segments of a listing whose WAL is not below a number.
+fn names_from(names: &[Listed], least: u64) -> &[Listed]
+    requires { IsAscending names.now }
+    ensures ascending { IsAscending result.now }
+    ensures within { (item : Item) → Contains result.now item → Contains names.now item }
+    ensures from { (item : Item) → Contains result.now item → least ≤ item.name.wal }
+    ensures all { (item : Item) → Contains names.now item → least ≤ item.name.wal
+        → Contains result.now item }
+    ensures shorter { (name : SegName)
+        → length_among name result.now ≤ length_among name names.now }
+{
+    let place = names.partition_point(
+        |item: &Listed| -> bool
+            ensures { result ≡ ltb item.now.name.wal least }
+        { item.name.wal < least },
+    );
+    &names[place..]
+}
+
+/// The segments of both sides whose WAL is not below a number, by their names.
+pub(crate) fn row_from(alloc: Global, sides: &Sides, least: u64) -> Result<Row, RecoverFault>
+    requires { AreSideNames sides.now }
+    ensures ascends { IfOk result Ascends }
+    ensures numbers { IfOk result (All (λ (f : Found). IsSegmentName f.name)) }
+    ensures lengths { IfOk result (λ row. IsAsLongAsListed row sides.now) }
+    ensures no_disk { IfErr result IsNoDisk }
+    ensures listed { (files : Files) → AreListings files sides.now
+        → IfOk result (λ row. IsRowOf (files_from least files) row) }
+    ensures refused { (files : Files) → AreListings files sides.now
+        → IfErr result (DiskMemoryOr (RefusesTwice (from_wal least (dirs_as_read files)))) }
+{
+    let primary = names_from(sides.primary.as_slice(), least);
+    let secondary = names_from(sides.secondary.as_slice(), least);
+    in_order(alloc, primary, secondary)
+}
+
+/// The number of the WAL that may be begun after the segments of a listing.
+fn next_wal_after(names: &[Listed]) -> u64
+    requires ascending { IsAscending names.now }
+    requires numbers { AreSegmentNames names.now }
+    ensures { IsAfter names.now result }
+{
+    match names.last() {
+        Some(last) => last.name.wal + 1,
+        None => 1,
+    }
+}
+
+/// The number of the WAL that may be begun after the segments of both sides.
+pub(crate) fn next_wal(sides: &Sides) -> u64
+    requires { AreSideNames sides.now }
+    ensures { (files : Files) → AreListings files sides.now
+        → IsNextWal (dirs_as_read files) result }
+{
+    let primary = next_wal_after(sides.primary.as_slice());
+    let secondary = next_wal_after(sides.secondary.as_slice());
+    if primary < secondary {
+        secondary
+    } else {
+        primary
+    }
 }

@@ -1,7 +1,8 @@
 //! The segments of WALs as rows of batches, and the rows as one list.
 
 ghost use Rattle.std.specs.Prelude.{◌≡◌, ◌≤◌, ◌∷◌, ◌++◌, [], All, Some, IfSome, IfNone, IfOk, IfErr, OnOk};
-ghost use Rattle.batch_repr.specs.declared.limits.TheConstants.{NUMBER_FIRST, NUMBER_MAX};
+ghost use Rattle.wal_recovery.specs.Base.{IsBaseOf, BeginsWith};
+ghost use Rattle.batch_repr.specs.declared.limits.TheConstants.{NUMBER_MAX};
 ghost use Rattle.batch_repr.specs.Batches.{end_after, IsContiguous};
 ghost use Rattle.segment_merge.specs.Rows.{IsNumbered, IsRow};
 ghost use Rattle.disk_face.specs.View.{files};
@@ -12,11 +13,11 @@ ghost use Rattle.wal_recovery.specs.Recovering.{PassesOver};
 ghost use Rattle.wal_recovery.specs.Answers.{FaultRose, NoFaultRose, DiskMemoryOr};
 ghost use Rattle.wal_recovery.specs.Rows.{wals_in};
 ghost use Rattle.wal_recovery.specs.Gathered.{IsReportOf, IsBadIn, AddsSegment};
-ghost use Rattle.wal_recovery.specs.Gathered.{AreReportsMerged, IsOwnWal, named_in_wal, IsNoDisk};
+ghost use Rattle.wal_recovery.specs.Gathered.{IsOwnWal, named_in_wal, IsNoDisk};
 ghost use Rattle.wal_recovery.specs.Asking.{ReadsOnly, found_in};
 ghost use Rattle.wal_recovery.specs.Promises.{IsBadSegment, IsWalByIndex, IsRowOfWal, IsBadWal};
 ghost use Rattle.wal_recovery.specs.Promises.{MergesWal, ReportsOnWal, IsWalRefused, RefusesWalLeniently};
-ghost use Rattle.wal_recovery.specs.Promises.{MergesWals, MergesWalsLeniently};
+ghost use Rattle.wal_recovery.specs.Promises.{MergesReports, MergesWals, MergesWalsLeniently};
 ghost use Rattle.wal_recovery.specs.Promises.{ReportsOnWals, AreWalsRefused};
 
 use crate::decoding::{DecodeFault, batches_of, counted_of};
@@ -25,7 +26,7 @@ use crate::listing::Found;
 use crate::reading::read_bytes;
 use crate::reports::{Mode, SegReport, SegReports};
 use crate::wals::{FoundWal, FoundWals};
-use batch_repr::{Batch, Batches, NUMBER_FIRST};
+use batch_repr::{Batch, Batches};
 use block_record::{Shown, read_out_shared};
 use disk_face::Disk;
 use segment_merge::{LenientMerge, MergeFault, SegmentRead, Segments, merge};
@@ -200,7 +201,7 @@ fn merge_wal<D: Disk>(
 }
 
 /// Adds batches after others, and moves them there: all at once where there are no others.
-fn append(batches: &mut Batches, more: Batches) -> Result<(), RecoverFault>
+pub(crate) fn append(batches: &mut Batches, more: Batches) -> Result<(), RecoverFault>
     ensures added { OnOk result (batches.new ≡ batches.old ++ more) }
     ensures memory { IfErr result (λ fault. fault ≡ RecoverFault.NoMemory) }
 {
@@ -234,13 +235,15 @@ pub(crate) struct Merged {
     pub(crate) next: u64,
 }
 
-/// Merges WAL by WAL, each from the end of those before it.
+/// Merges WAL by WAL, the first from this number on and each other from the end of those before it.
 pub(crate) fn merge_strict<D: Disk>(
     alloc: Global,
     disk: &mut D,
     wals: &FoundWals,
+    first: u64,
     reports: &mut SegReports,
 ) -> Result<Merged, RecoverFault>
+    requires number { first ≤ NUMBER_MAX }
     requires order { AreByNumber 0 (wals_in (files (D.view disk.old)) wals.now) }
     requires own { All IsOwnWal wals.now }
     requires none { reports.old ≡ [] }
@@ -249,15 +252,16 @@ pub(crate) fn merge_strict<D: Disk>(
     ensures same { SameDisk (D.view disk.old) (D.view disk.new) }
     ensures rose { IfErr result (FaultRose (D.view disk.old) (D.view disk.new)) }
     ensures calm { OnOk result (NoFaultRose (D.view disk.old) (D.view disk.new)) }
-    ensures contiguous { IfOk result (λ merged. IsContiguous NUMBER_FIRST merged.batches) }
-    ensures next { IfOk result (λ merged. merged.next ≡ end_after NUMBER_FIRST merged.batches) }
+    ensures contiguous { IfOk result (λ merged. IsContiguous first merged.batches) }
+    ensures next { IfOk result (λ merged. merged.next ≡ end_after first merged.batches) }
     ensures within { IfOk result (λ merged. merged.next ≤ NUMBER_MAX) }
-    ensures merged { IfOk result (MergesWals D.tells (D.view disk.old) wals.now) }
+    ensures merged { IfOk result (MergesWals D.tells (D.view disk.old) wals.now first) }
     ensures reports { OnOk result (ReportsOnWals D.tells (D.view disk.old) wals.now reports.new) }
-    ensures refused { IfErr result (AreWalsRefused D.tells Strict (D.view disk.old) wals.now) }
+    ensures refused { IfErr result
+        (AreWalsRefused D.tells Strict first [] (D.view disk.old) wals.now) }
 {
     let mut batches = Batches::new(alloc);
-    let mut next = NUMBER_FIRST;
+    let mut next = first;
     for wal in wals.as_slice() {
         let own = merge_wal(alloc, disk, next, wal, reports)?;
         next = next_after(next, own.as_slice());
@@ -276,13 +280,12 @@ fn add_wal<D: Disk>(
 ) -> Result<LenientMerge, RecoverFault>
     requires order { IsWalByIndex (D.view disk.old) wal.now }
     requires own { IsOwnWal wal.now }
-    requires so_far { AreReportsMerged reports.old so_far }
     ensures goes_on { GoesOn (D.view disk.old) (D.view disk.new) }
     ensures asks { ReadsOnly wal.now.segments.items (D.view disk.old) (D.view disk.new) }
     ensures same { SameDisk (D.view disk.old) (D.view disk.new) }
     ensures rose { IfErr result (FaultRose (D.view disk.old) (D.view disk.new)) }
     ensures calm { OnOk result (NoFaultRose (D.view disk.old) (D.view disk.new)) }
-    ensures merged { IfOk result (AreReportsMerged reports.new) }
+    ensures merged { MergesReports reports.old reports.new so_far result }
     ensures reports { OnOk result (ReportsOnWal D.tells (D.view disk.old) wal.now reports.old reports.new) }
     ensures refused { RefusesWalLeniently D.tells (D.view disk.old) wal.now so_far result }
 {
@@ -293,13 +296,44 @@ fn add_wal<D: Disk>(
     }
 }
 
-/// Merges all WALs as one row, with gaps. Each is read only once those before it are merged.
+/// A merge with gaps that has merged these batches.
+fn merge_onto(alloc: Global, base: Batches, number: u64) -> Result<LenientMerge, RecoverFault>
+    requires number { number ≤ NUMBER_MAX }
+    requires base { IsBaseOf number base }
+    ensures merged { IfOk result (λ merge. merge ≡ base) }
+    ensures memory { IfErr result (λ fault. fault ≡ RecoverFault.NoMemory) }
+{
+    let mut row = Segments::new(alloc);
+    if row
+        .push(SegmentRead {
+            index: 0,
+            batches: base,
+        })
+        .is_err()
+    {
+        return Err(RecoverFault::NoMemory);
+    }
+    match LenientMerge::new(alloc).add(row) {
+        Ok(merge) => Ok(merge),
+        Err(MergeFault::NoMemory) => Err(RecoverFault::NoMemory),
+        // Batches that are numbered one after another are accepted.
+        Err(MergeFault::Gap { .. }) => unreachable!(),
+        Err(MergeFault::Conflict { .. }) => unreachable!(),
+    }
+}
+
+/// Merges all WALs with gaps, as one row that begins with a base, which ends before this number. Each is read only
+/// once those before it are merged. Where there is no batch at all this number comes next.
 pub(crate) fn merge_all<D: Disk>(
     alloc: Global,
     disk: &mut D,
     wals: &FoundWals,
+    first: u64,
+    base: Batches,
     reports: &mut SegReports,
 ) -> Result<Merged, RecoverFault>
+    requires number { first ≤ NUMBER_MAX }
+    requires base { IsBaseOf first base }
     requires order { AreByNumber 0 (wals_in (files (D.view disk.old)) wals.now) }
     requires own { All IsOwnWal wals.now }
     requires none { reports.old ≡ [] }
@@ -308,17 +342,20 @@ pub(crate) fn merge_all<D: Disk>(
     ensures same { SameDisk (D.view disk.old) (D.view disk.new) }
     ensures rose { IfErr result (FaultRose (D.view disk.old) (D.view disk.new)) }
     ensures calm { OnOk result (NoFaultRose (D.view disk.old) (D.view disk.new)) }
-    ensures next { IfOk result (λ merged. merged.next ≡ end_after NUMBER_FIRST merged.batches) }
+    ensures next { IfOk result (λ merged. merged.next ≡ end_after first merged.batches) }
     ensures within { IfOk result (λ merged. merged.next ≤ NUMBER_MAX) }
-    ensures merged { IfOk result (MergesWalsLeniently D.tells (D.view disk.old) wals.now) }
+    ensures begins { IfOk result (λ merged. BeginsWith base merged.batches) }
+    ensures merged { IfOk result (MergesWalsLeniently D.tells base (D.view disk.old) wals.now) }
     ensures reports { OnOk result (ReportsOnWals D.tells (D.view disk.old) wals.now reports.new) }
-    ensures refused { IfErr result (AreWalsRefused D.tells Lenient (D.view disk.old) wals.now) }
+    ensures refused { IfErr result
+        (AreWalsRefused D.tells Lenient first base (D.view disk.old) wals.now) }
 {
-    let mut so_far = LenientMerge::new(alloc);
+    let begun = merge_onto(alloc, base, first)?;
+    let mut so_far = begun;
     for wal in wals.as_slice() {
         so_far = add_wal(alloc, disk, so_far, wal, reports)?;
     }
     let batches = so_far.into_batches();
-    let next = next_after(NUMBER_FIRST, batches.as_slice());
+    let next = next_after(first, batches.as_slice());
     Ok(Merged { batches, next })
 }

@@ -11,6 +11,17 @@ pub enum Mode {
     Lenient,
 }
 
+/// Where recovery begins.
+#[derive(Debug, Drop)]
+pub struct Start {
+    /// The least number of a WAL that is read: segments of lesser ones are passed over.
+    pub wal: u64,
+    /// The number that the segments go on from, at most `NUMBER_MAX`.
+    pub number: u64,
+    /// The batches that are there already: numbered one after another, the last of them up to `number`.
+    pub base: Batches,
+}
+
 /// What one segment holds.
 #[derive(Debug, Drop)]
 pub struct SegReport {
@@ -34,9 +45,9 @@ pub type SegReports = ListOf<SegReport>;
 /// What the directories recover to.
 #[derive(Debug, Drop)]
 pub struct Recovered {
-    /// The batches, merged.
+    /// The batches, merged, behind those that were there already.
     pub batches: Batches,
-    /// The number after the last batch; 10 where there is none.
+    /// The number after the last batch; the one that recovery begins with where there is none.
     pub next: u64,
     /// 1 more than the greatest number of a WAL that is listed; 1 where none is.
     pub next_wal: u64,

@@ -1,5 +1,10 @@
-use crate::{Mode, RecoverFault, Recovered, recover};
-use batch_repr::{BatchFault, Batches};
+ghost use Rattle.std.specs.Prelude.{◌≤◌};
+ghost use Rattle.batch_repr.specs.declared.limits.TheConstants.{NUMBER_MAX};
+ghost use Rattle.disk_face.specs.View.{NothingInFlight};
+ghost use Rattle.wal_recovery.specs.Base.{IsBaseOf};
+
+use crate::{Mode, RecoverFault, Recovered, Start, list_sides, recover, recover_listed};
+use batch_repr::{BatchFault, Batches, NUMBER_MAX};
 use crc_chunk::{BLOCK, ChunkKind, put_chunk, put_sync_chunk};
 use disk_face::{Disk, SegName, Side};
 use mem_disk::MemDisk;
@@ -144,6 +149,57 @@ impl Rig {
     pub(crate) fn recover(&mut self, alloc: Global, mode: Mode) -> Result<Recovered, RecoverFault> {
         recover(alloc, &mut self.disk, mode)
     }
+
+    /// Recovers without gaps from a WAL and a number on, with no batch before it.
+    fn recover_from(
+        &mut self,
+        alloc: Global,
+        wal: u64,
+        number: u64,
+    ) -> Result<Recovered, RecoverFault>
+        requires { number ≤ NUMBER_MAX }
+    {
+        let base = Batches::new(alloc);
+        recover_start(
+            alloc,
+            &mut self.disk,
+            Mode::Strict,
+            Start { wal, number, base },
+        )
+    }
+
+    /// Recovers the segments from a WAL on, where the batches of another disk stand before.
+    pub(crate) fn recover_onto(
+        &mut self,
+        alloc: Global,
+        mode: Mode,
+        before: &mut Rig,
+        wal: u64,
+    ) -> Result<Recovered, RecoverFault> {
+        let found = recover(alloc, &mut before.disk, Mode::Strict)?;
+        let start = Start {
+            wal,
+            number: found.next,
+            base: found.batches,
+        };
+        recover_start(alloc, &mut self.disk, mode, start)
+    }
+}
+
+/// Lists the sides, and recovers from there on.
+fn recover_start<D: Disk>(
+    alloc: Global,
+    disk: &mut D,
+    mode: Mode,
+    start: Start,
+) -> Result<Recovered, RecoverFault>
+    requires idle { NothingInFlight (D.view disk.old) }
+    requires number { start.number ≤ NUMBER_MAX }
+    requires base { IsBaseOf start.number start.base }
+    ensures { NothingInFlight (D.view disk.new) }
+{
+    let sides = list_sides(disk)?;
+    recover_listed(alloc, disk, mode, &sides, start)
 }
 
 /// The digit of the batch at a place.
@@ -479,4 +535,32 @@ fn check_sync(rt: &impl Abort, alloc: Global, number: u64, side: Side) {
 fn a_failing_sync_names_its_side(rt: HostRuntime) {
     check_sync(&rt, rt.alloc(), 0, Side::Primary);
     check_sync(&rt, rt.alloc(), 1, Side::Secondary);
+}
+
+#[test]
+fn recovery_begins_at_a_wal_and_a_number(rt: HostRuntime) {
+    let alloc = rt.alloc();
+    // WAL 1 stands on both sides and is cut short, and WAL 2 begins at 12.
+    let segments = [
+        primary(1, 0, &[(10, CUT)]),
+        secondary(1, 0, &[(10, CUT)]),
+        primary(2, 0, &[(12, 2)]),
+        secondary(2, 1, &[(13, 3)]),
+    ];
+    let mut rig = Rig::of(&rt, alloc, &segments);
+    let found = summary(rig.recover_from(alloc, 2, 12));
+    assert!(rt; found == Ok((2, Some(b'3'), 14, 3)));
+    let gap = summary(rig.recover_from(alloc, 2, 11));
+    assert!(rt;
+        gap == Err(RecoverFault::Gap {
+            wal: 2,
+            index: 0,
+            expected: 11,
+            found: 12
+        })
+    );
+    let none = summary(rig.recover_from(alloc, 3, 14));
+    assert!(rt; none == Ok((0, None, 14, 3)));
+    let all = summary(rig.recover(alloc, Mode::Strict));
+    assert!(rt; all == Err(RecoverFault::DuplicateSegment { wal: 1, index: 0 }));
 }

@@ -1,4 +1,4 @@
-use Rattle.std.proofs.Common.{◌≡◌, ◌+◌, [], ◌∷◌, ◌++◌, List, Err, take, sym, subst, rules}
+use Rattle.std.proofs.Common.{◌≡◌, ◌+◌, List, Err, take, sym, subst, rules}
 use Rattle.std.specs.Prelude.{IfErr, Result}
 use Rattle.batch_repr.specs.declared.batch.Batch.{Batch}
 use Rattle.wal_recovery.specs.declared.decoding.DecodeFault.{DecodeFault}

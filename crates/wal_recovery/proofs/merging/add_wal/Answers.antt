@@ -1,5 +1,5 @@
 -- A WAL whose row goes on with the merge is merged after those before it, and a bad record of it or a refusal of its row is its refusal there.
-use Rattle.std.proofs.Common.{◌≡◌, Err, IsTrue, sym, subst, rules}
+use Rattle.std.proofs.Common.{◌≡◌, ◌++◌, Err, IsTrue, sym, subst, rules}
 use Rattle.std.specs.Prelude.{IfErr, Result, List}
 use Rattle.batch_repr.specs.declared.batch.Batch.{Batch}
 use Rattle.disk_face.specs.View.{files}
@@ -23,11 +23,11 @@ returns-in_err-row-clause-refused g c = λ before m.
     (λ told listed. read_refused_behind g.D.Disk.tells at c.args.wal.now c.requires.own before fault (c.in_err-row.ensures.bad told listed))
 
 pub returns-in-Ok-clause-merged : goal.returns-in-Ok-clause-merged
-returns-in-Ok-clause-merged g c =
+returns-in-Ok-clause-merged g c = λ front m.
     let old = c.args.reports.now in
-    reports_more g.D.Disk.tells (files (g.D.Disk.view c.args.disk.now)) c.args.wal.now old c.read_wal.new.reports c.in_ok-row.row
-    c.args.so_far c.in-Ok.more c.in_ok-row.ensures.gathered c.requires.so_far
-    (c.in-Ok.ensures.found (as_row old) (reports_merged_of old c.args.so_far c.requires.so_far))
+    reports_more g.D.Disk.tells (files (g.D.Disk.view c.args.disk.now)) front c.args.wal.now old c.read_wal.new.reports c.in_ok-row.row
+    c.args.so_far c.in-Ok.more c.in_ok-row.ensures.gathered m
+    (c.in-Ok.ensures.found (front ++ as_row old) (reports_merged_of front old c.args.so_far m))
 
 pub returns-in-Ok-clause-reports : goal.returns-in-Ok-clause-reports
 returns-in-Ok-clause-reports g c =

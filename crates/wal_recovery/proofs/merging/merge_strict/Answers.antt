@@ -1,22 +1,20 @@
 -- Each WAL is merged from the end of those before it, so those up to it merge, and what refuses it refuses the directories.
 use Rattle.batch_repr.proofs.Laws.{contiguous_append, end_append}
-use Rattle.batch_repr.specs.declared.limits.TheConstants.{NUMBER_FIRST}
 use Rattle.std.proofs.Common.{◌≡◌, ℕ, map, List, length, take_all, ◌++◌, [], Err, IsTrue, All, sym, subst, ap, ◌∙◌, rules, arith}
 use Rattle.std.specs.Prelude.{IfErr, Result}
 use Rattle.batch_repr.specs.Batches.{end_after, IsContiguous}
 use Rattle.segment_merge.specs.Rows.{IsNumbered}
-use Rattle.disk_face.specs.View.{Files, files}
-use Rattle.disk_face.specs.Image.{dirs_as_read}
+use Rattle.disk_face.specs.View.{Dirs, Files, files}
 use Rattle.disk_face.proofs.Laws.{goes_on_from, goes_on_further, same_from, same_further, same_files}
 use Rattle.wal_recovery.specs.declared.fault.RecoverFault.{RecoverFault}
 use Rattle.wal_recovery.specs.declared.merging.Merged.{Merged}
 use Rattle.wal_recovery.specs.declared.wals.FoundWal.{FoundWal}
 use Rattle.wal_recovery.specs.Listing.{AreByIndex}
 use Rattle.wal_recovery.specs.Recovering.{WalMerges, WalsMerge}
-use Rattle.wal_recovery.specs.Refused.{IsRefused}
+use Rattle.wal_recovery.specs.Refused.{IsRefusedFrom}
 use Rattle.wal_recovery.specs.Reports.{ReportOnAll}
 use Rattle.wal_recovery.specs.Answers.{DiskMemoryOr}
-use Rattle.wal_recovery.specs.Rows.{stored_in, wal_in}
+use Rattle.wal_recovery.specs.Rows.{stored_in, wal_in, wals_in}
 use Rattle.wal_recovery.specs.Gathered.{AreAsListed, AreListedWals, IsOwnWal}
 use Rattle.wal_recovery.specs.OneWal.{AddsReports, IsRefusedWal}
 use Rattle.wal_recovery.proofs.ReportOnAll.{end_within}
@@ -35,11 +33,11 @@ loop-wal-init g c =
       same = same_from v;
       calm = calm_from v;
       asks = reads_none [] v;
-      next = sym (ap (end_after NUMBER_FIRST) c.new-batches.ensures);
-      contiguous = subst (IsContiguous NUMBER_FIRST) (sym c.new-batches.ensures) tt;
-      within = omega arith;
-      merged = λ told listed. subst (WalsMerge NUMBER_FIRST []) (sym c.new-batches.ensures) (merged_none (files v) c.args.wals.now NUMBER_FIRST);
-      reports = λ told listed. subst (ReportOnAll []) (sym c.requires.none) (reports_none (files v) c.args.wals.now);
+      next = sym (ap (end_after c.args.first) c.new-batches.ensures);
+      contiguous = subst (IsContiguous c.args.first) (sym c.new-batches.ensures) tt;
+      within = c.requires.number;
+      merged = λ told dirs listed. subst (WalsMerge c.args.first []) (sym c.new-batches.ensures) (merged_none (files v) c.args.wals.now c.args.first);
+      reports = λ told dirs listed. subst (ReportOnAll []) (sym c.requires.none) (reports_none (files v) c.args.wals.now);
     }
 
 pub merge_wal-requires : goal.merge_wal-requires
@@ -72,19 +70,19 @@ loop-wal-preserved g c =
       same = same_further first mid new c.loop-wal.invariant.same c.in_ok-own.ensures.same;
       calm = calm_further first mid new c.loop-wal.invariant.calm c.in_ok-own.ensures.calm;
       asks = reads_wal c.args.wals.now c.loop-wal.wal-index c.wal-item.result first mid new at c.loop-wal.invariant.asks c.in_ok-own.ensures.asks;
-      next = ends ∙ ap (λ (n : ℕ). end_after n own) c.loop-wal.invariant.next ∙ sym (end_append NUMBER_FIRST c.loop-wal.batches own)
-          ∙ ap (end_after NUMBER_FIRST) (sym longer);
-      contiguous = subst (IsContiguous NUMBER_FIRST) (sym longer)
-          (contiguous_append NUMBER_FIRST c.loop-wal.batches own c.loop-wal.invariant.contiguous
+      next = ends ∙ ap (λ (n : ℕ). end_after n own) c.loop-wal.invariant.next ∙ sym (end_append c.args.first c.loop-wal.batches own)
+          ∙ ap (end_after c.args.first) (sym longer);
+      contiguous = subst (IsContiguous c.args.first) (sym longer)
+          (contiguous_append c.args.first c.loop-wal.batches own c.loop-wal.invariant.contiguous
           (subst (λ (n : ℕ). IsContiguous n own) c.loop-wal.invariant.next c.in_ok-own.ensures.contiguous));
       within = let low = end_within c.loop-wal.next own c.loop-wal.invariant.within c.in_ok-own.ensures.numbered in omega (arith, low, ends);
-      merged = λ told listed. merged_at (files first) c.args.wals.now c.loop-wal.wal-index c.wal-item.result at NUMBER_FIRST c.loop-wal.next
+      merged = λ told dirs listed. merged_at (files first) c.args.wals.now c.loop-wal.wal-index c.wal-item.result at dirs c.args.first c.loop-wal.next
           c.loop-wal.batches own c.append.new.batches c.loop-wal.invariant.next longer
-          (c.loop-wal.invariant.merged told listed)
+          (c.loop-wal.invariant.merged told dirs listed)
           (subst (λ (fs : Files). AreAsListed fs c.wal-item.result.segments.items
           → WalMerges c.loop-wal.next (wal_in fs c.wal-item.result) own) now (c.in_ok-own.ensures.merged told)) listed;
-      reports = λ told listed. reports_at (files first) c.args.wals.now c.loop-wal.wal-index c.wal-item.result at c.loop-wal.reports c.merge_wal.new.reports
-          (c.loop-wal.invariant.reports told listed)
+      reports = λ told dirs listed. reports_at (files first) c.args.wals.now c.loop-wal.wal-index c.wal-item.result at dirs c.loop-wal.reports c.merge_wal.new.reports
+          (c.loop-wal.invariant.reports told dirs listed)
           (subst (λ (fs : Files). AreAsListed fs c.wal-item.result.segments.items
           → AddsReports (wal_in fs c.wal-item.result) c.loop-wal.reports c.merge_wal.new.reports) now
           (c.in_ok-own.ensures.reports told)) listed;
@@ -98,10 +96,10 @@ returns-in_err-own-clause-refused g c =
     let at : StandsAt c.args.wals.now c.loop-wal.wal-index c.wal-item.result = stands_at c.as_slice-wal-items.ensures c.loop-wal-test.true c.wal-item.is in
     let fault = c.in_err-own.field-0.0 in
     let is : c.from_residual.result ≡ Err fault = search rules in
-    subst (λ (r : Result Merged RecoverFault). IfErr r (λ fault. IsTrue g.D.Disk.tells → AreListedWals (files first) c.args.wals.now
-    → DiskMemoryOr (IsRefused (dirs_as_read (files first))) fault)) (sym is)
-    (λ told listed. refused_at (files first) c.args.wals.now c.loop-wal.wal-index c.wal-item.result at c.loop-wal.next c.loop-wal.batches
-    fault c.loop-wal.invariant.next (c.loop-wal.invariant.merged told listed)
+    subst (λ (r : Result Merged RecoverFault). IfErr r (λ fault. IsTrue g.D.Disk.tells → (dirs : Dirs) → AreListedWals dirs (files first) c.args.wals.now
+    → DiskMemoryOr (IsRefusedFrom c.args.first dirs) fault)) (sym is)
+    (λ told dirs listed. refused_at (files first) c.args.wals.now c.loop-wal.wal-index c.wal-item.result at dirs c.args.first c.loop-wal.next c.loop-wal.batches
+    fault c.loop-wal.invariant.next (c.loop-wal.invariant.merged told dirs listed)
     (subst (λ (fs : Files). AreAsListed fs c.wal-item.result.segments.items
     → DiskMemoryOr (IsRefusedWal c.loop-wal.next (wal_in fs c.wal-item.result)) fault) now (c.in_err-own.ensures.refused told)) listed)
 
@@ -129,3 +127,19 @@ returns-clause-asks g c =
       c.loop-wal-test.false,
       ap (λ (l : List FoundWal). length l) c.as_slice-wal-items.ensures,
     ))) c.loop-wal.invariant.asks
+
+pub returns-clause-merged : goal.returns-clause-merged
+returns-clause-merged g c =
+    let at = files (g.D.Disk.view c.args.disk.now) in
+    λ told dirs listed.
+    subst (λ (l : List FoundWal). WalsMerge c.args.first (wals_in at l) c.loop-wal.batches)
+    (take_all c.loop-wal.wal-index c.args.wals.now (omega (arith, c.loop-wal-test.false, ap (λ (l : List FoundWal). length l) c.as_slice-wal-items.ensures)))
+    (c.loop-wal.invariant.merged told dirs listed)
+
+pub returns-clause-reports : goal.returns-clause-reports
+returns-clause-reports g c =
+    let at = files (g.D.Disk.view c.args.disk.now) in
+    λ told dirs listed.
+    subst (λ (l : List FoundWal). ReportOnAll (wals_in at l) c.loop-wal.reports)
+    (take_all c.loop-wal.wal-index c.args.wals.now (omega (arith, c.loop-wal-test.false, ap (λ (l : List FoundWal). length l) c.as_slice-wal-items.ensures)))
+    (c.loop-wal.invariant.reports told dirs listed)

@@ -1,8 +1,8 @@
 -- The WALs gone through so far are merged and reported on.
 use Rattle.std.proofs.Common.{◌≡◌, ◌≤◌, IsTrue, take}
-use Rattle.batch_repr.specs.declared.limits.TheConstants.{NUMBER_FIRST, NUMBER_MAX}
+use Rattle.batch_repr.specs.declared.limits.TheConstants.{NUMBER_MAX}
 use Rattle.batch_repr.specs.Batches.{end_after, IsContiguous}
-use Rattle.disk_face.specs.View.{files}
+use Rattle.disk_face.specs.View.{Dirs, files}
 use Rattle.disk_face.specs.Calls.{GoesOn, SameDisk}
 use Rattle.wal_recovery.specs.Recovering.{WalsMerge}
 use Rattle.wal_recovery.specs.Reports.{ReportOnAll}
@@ -18,11 +18,11 @@ invariant-loop-wal g l = record {
   asks : ReadsOnly (found_in (take l.wal-index l.fn.wals)) (g.D.Disk.view l.initial.disk) (g.D.Disk.view l.disk);
   same : SameDisk (g.D.Disk.view l.initial.disk) (g.D.Disk.view l.disk);
   calm : NoFaultRose (g.D.Disk.view l.initial.disk) (g.D.Disk.view l.disk);
-  next : l.next ≡ end_after NUMBER_FIRST l.batches;
-  contiguous : IsContiguous NUMBER_FIRST l.batches;
+  next : l.next ≡ end_after l.fn.first l.batches;
+  contiguous : IsContiguous l.fn.first l.batches;
   within : l.next ≤ NUMBER_MAX;
-  merged : IsTrue g.D.Disk.tells → AreListedWals (files (g.D.Disk.view l.initial.disk)) l.fn.wals
-      → WalsMerge NUMBER_FIRST (wals_in (files (g.D.Disk.view l.initial.disk)) (take l.wal-index l.fn.wals)) l.batches;
-  reports : IsTrue g.D.Disk.tells → AreListedWals (files (g.D.Disk.view l.initial.disk)) l.fn.wals
+  merged : IsTrue g.D.Disk.tells → (dirs : Dirs) → AreListedWals dirs (files (g.D.Disk.view l.initial.disk)) l.fn.wals
+      → WalsMerge l.fn.first (wals_in (files (g.D.Disk.view l.initial.disk)) (take l.wal-index l.fn.wals)) l.batches;
+  reports : IsTrue g.D.Disk.tells → (dirs : Dirs) → AreListedWals dirs (files (g.D.Disk.view l.initial.disk)) l.fn.wals
       → ReportOnAll (wals_in (files (g.D.Disk.view l.initial.disk)) (take l.wal-index l.fn.wals)) l.reports;
 }

@@ -6,7 +6,8 @@ use Rattle.disk_face.specs.Image.{dirs_as_read}
 use Rattle.wal_recovery.specs.declared.fault.RecoverFault.{RecoverFault}
 use Rattle.wal_recovery.specs.declared.reports.Mode.TheVariants.{Lenient}
 use Rattle.wal_recovery.specs.declared.reports.Recovered.{Recovered}
-use Rattle.wal_recovery.specs.Answers.{IsRefusedBy, DiskMemoryOr}
+use Rattle.wal_recovery.specs.Answers.{IsRefusedByFrom, DiskMemoryOr}
+use Rattle.wal_recovery.specs.Listing.{from_wal}
 use Rattle.wal_recovery.specs.Rows.{wals_in}
 use Rattle.wal_recovery.specs.Gathered.{AreListedWals}
 use Rattle.wal_recovery.proofs.ByWal.{wals_by_number}
@@ -29,21 +30,21 @@ returns-in_err-merged-clause-refused g c =
     let fault = c.in_err-merged.field-0.0 in
     let is : c.from_residual-in_err-merged.result ≡ Err fault = search rules in
     subst (λ (r : Result Recovered RecoverFault). IfErr r (λ fault. IsTrue g.D.Disk.tells
-    → DiskMemoryOr (IsRefusedBy Lenient (dirs_as_read now)) fault)) (sym is)
-    (λ told. c.in_err-merged.ensures.refused told (wals_listed now c.in_ok-wals.wals c.args.segments.now c.in_ok-wals.ensures
+    → DiskMemoryOr (IsRefusedByFrom Lenient c.args.start.number c.args.start.base (from_wal c.args.start.wal (dirs_as_read now))) fault)) (sym is)
+    (λ told. c.in_err-merged.ensures.refused told (from_wal c.args.start.wal (dirs_as_read now)) (wals_listed now c.args.start.wal c.in_ok-wals.wals c.args.segments.now c.in_ok-wals.ensures
     c.requires.ascends (c.requires.listed told)))
 
 pub returns-clause-recovered : goal.returns-clause-recovered
 returns-clause-recovered g c = λ told.
     let now : Files = files (g.D.Disk.view c.args.disk.now) in
-    c.in_ok-merged.ensures.merged told (wals_listed now c.in_ok-wals.wals c.args.segments.now c.in_ok-wals.ensures c.requires.ascends (c.requires.listed told))
+    c.in_ok-merged.ensures.merged told (from_wal c.args.start.wal (dirs_as_read now)) (wals_listed now c.args.start.wal c.in_ok-wals.wals c.args.segments.now c.in_ok-wals.ensures c.requires.ascends (c.requires.listed told))
 
 pub returns-clause-reports : goal.returns-clause-reports
 returns-clause-reports g c = λ told.
     let now : Files = files (g.D.Disk.view c.args.disk.now) in
-    let listed : AreListedWals now c.in_ok-wals.wals = wals_listed now c.in_ok-wals.wals c.args.segments.now c.in_ok-wals.ensures
+    let listed : AreListedWals (from_wal c.args.start.wal (dirs_as_read now)) now c.in_ok-wals.wals = wals_listed now c.args.start.wal c.in_ok-wals.wals c.args.segments.now c.in_ok-wals.ensures
     c.requires.ascends (c.requires.listed told) in
-    record { wals = wals_in now c.in_ok-wals.wals; listed = listed.listed; reported = c.in_ok-merged.ensures.reports told listed }
+    record { wals = wals_in now c.in_ok-wals.wals; listed = listed.listed; reported = c.in_ok-merged.ensures.reports told (from_wal c.args.start.wal (dirs_as_read now)) listed }
 
 pub returns-in_err-merged-clause-asks : goal.returns-in_err-merged-clause-asks
 returns-in_err-merged-clause-asks g c =
