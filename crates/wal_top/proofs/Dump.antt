@@ -13,12 +13,11 @@ use Rattle.wal_recovery.specs.declared.reports.SegReport.{SegReport}
 use Rattle.wal_recovery.specs.Reports.{AreReports}
 use Rattle.wal_recovery.proofs.Laws.{lenient_or_refused}
 use Rattle.wal_top.specs.declared.status.Status.{Status}
-use Rattle.wal_top.specs.declared.status.Status.TheVariants.{Done, Usage, Script, Read, Write, Disk, Refused, NoMemory, Limit}
 use Rattle.wal_top.specs.Call.{Change, Stays}
-use Rattle.wal_top.specs.Recovery.{SaysUnrecovered, IsToRefuse}
+use Rattle.wal_top.specs.Recovery.{SaysUnrecovered}
 use Rattle.wal_top.specs.Dump.{segments_text, ShowsSegments, IsToShowSegments, SaysDump, DumpIsDue, LeavesDump}
 use Rattle.wal_top.specs.Rightly.{IsOfCommand, IsTheDue}
-use Rattle.wal_top.proofs.Recovery.{unrecovered_in, unrecovered_told, refuse_due}
+use Rattle.wal_top.proofs.Recovery.{shows_unrecovered, shown_told, shown_due}
 use Rattle.wal_top.proofs.Untouched.{untouched_polls, untouched_journal, untouched_same}
 
 module _ (tells : Bool) (disk : Change DiskView) (text : List ℕ) where
@@ -41,47 +40,17 @@ module _ (tells : Bool) (disk : Change DiskView) (text : List ℕ) where
   }
 
   pub says_no_segments : (status : Status) → SaysUnrecovered Lenient tells disk status text → SaysDump tells disk status text
-  says_no_segments = unrecovered_in Lenient tells disk text (λ (s : Status). SaysDump tells disk s text) (λ f. f) (λ r. r)
+  says_no_segments = shows_unrecovered Lenient tells disk text (ShowsSegments tells disk text)
 
   -- ---- what has to come
 
-  -- either the segments are shown, or it is said why not
-  module _ (P : Status → Type 0) (shows : ShowsSegments tells disk text → P Done)
-      (unrecovered : (said : Status) → SaysUnrecovered Lenient tells disk said text → P said) where
-    each : (said : Status) → SaysDump tells disk said text → P said
-    each Done h = shows h
-    each Usage h = unrecovered Usage h
-    each Script h = unrecovered Script h
-    each Read h = unrecovered Read h
-    each Write h = unrecovered Write h
-    each Disk h = unrecovered Disk h
-    each Refused h = unrecovered Refused h
-    each NoMemory h = unrecovered NoMemory h
-    each Limit h = unrecovered Limit h
-
-  segments_due : IsToShowSegments tells disk → (said : Status) → SaysDump tells disk said text → Done ≡ said
-  segments_due d = each (λ (s : Status). Done ≡ s) (λ h. refl)
-      (unrecovered_in Lenient tells disk text (λ (s : Status). Done ≡ s) (λ f. absurd (d.calm f.side f.failed))
-      (λ r. absurd (lenient_or_refused (directories disk.before) d.batches r.fault d.recovers (r.refused d.told))))
-
-  refusal_due : IsToRefuse Lenient tells disk → (said : Status) → SaysDump tells disk said text → Refused ≡ said
-  refusal_due d = each (λ (s : Status). Refused ≡ s)
-      (λ h. absurd (lenient_or_refused (directories disk.before) h.batches d.fault (h.recovers d.told) d.refused))
-      (refuse_due Lenient tells disk text d)
-
   pub dump_told : (said : Status) → SaysDump tells disk said text → IsOfCommand said
-  dump_told = each IsOfCommand (λ h. tt) (unrecovered_told Lenient tells disk text)
+  dump_told = shown_told Lenient tells disk text (ShowsSegments tells disk text)
 
   pub dump_due : (said : Status) → SaysDump tells disk said text → IsTheDue (DumpIsDue tells disk) said
-  dump_due said h Done d = segments_due d said h
-  dump_due said h Usage d = absurd d
-  dump_due said h Script d = absurd d
-  dump_due said h Read d = absurd d
-  dump_due said h Write d = absurd d
-  dump_due said h Disk d = absurd d
-  dump_due said h Refused d = refusal_due d said h
-  dump_due said h NoMemory d = absurd d
-  dump_due said h Limit d = absurd d
+  dump_due = shown_due Lenient tells disk text (ShowsSegments tells disk text) (IsToShowSegments tells disk) (λ d. d.calm)
+      (λ d r. lenient_or_refused (directories disk.before) d.batches r.fault d.recovers (r.refused d.told))
+      (λ h d. lenient_or_refused (directories disk.before) h.batches d.fault (h.recovers d.told) d.refused)
 
 -- ---- what is left where nothing was done
 

@@ -12,12 +12,11 @@ use Rattle.wal_recovery.specs.Recovering.{Recovers}
 use Rattle.wal_recovery.specs.Resting.{OnlySynced, AreSegmentsStable}
 use Rattle.wal_recovery.proofs.Laws.{recovered_or_refused}
 use Rattle.wal_top.specs.declared.status.Status.{Status}
-use Rattle.wal_top.specs.declared.status.Status.TheVariants.{Done, Usage, Script, Read, Write, Disk, Refused, NoMemory, Limit}
 use Rattle.wal_top.specs.Call.{Change, Stays}
-use Rattle.wal_top.specs.Recovery.{SaysUnrecovered, IsToRefuse}
+use Rattle.wal_top.specs.Recovery.{SaysUnrecovered}
 use Rattle.wal_top.specs.Recover.{ShowsStore, IsToShowStore, SaysRecover, RecoverIsDue, LeavesRecover}
 use Rattle.wal_top.specs.Rightly.{IsOfCommand, IsTheDue}
-use Rattle.wal_top.proofs.Recovery.{unrecovered_in, unrecovered_told, refuse_due}
+use Rattle.wal_top.proofs.Recovery.{shows_unrecovered, shown_told, shown_due}
 use Rattle.wal_top.proofs.Untouched.{untouched_polls, untouched_journal}
 
 module _ (tells : Bool) (disk : Change DiskView) (text : List ℕ) where
@@ -40,47 +39,17 @@ module _ (tells : Bool) (disk : Change DiskView) (text : List ℕ) where
   }
 
   pub says_no_store : (status : Status) → SaysUnrecovered Strict tells disk status text → SaysRecover tells disk status text
-  says_no_store = unrecovered_in Strict tells disk text (λ (s : Status). SaysRecover tells disk s text) (λ f. f) (λ r. r)
+  says_no_store = shows_unrecovered Strict tells disk text (ShowsStore tells disk text)
 
   -- ---- what has to come
 
-  -- either the store is shown, or it is said why not
-  module _ (P : Status → Type 0) (shows : ShowsStore tells disk text → P Done)
-      (unrecovered : (said : Status) → SaysUnrecovered Strict tells disk said text → P said) where
-    each : (said : Status) → SaysRecover tells disk said text → P said
-    each Done h = shows h
-    each Usage h = unrecovered Usage h
-    each Script h = unrecovered Script h
-    each Read h = unrecovered Read h
-    each Write h = unrecovered Write h
-    each Disk h = unrecovered Disk h
-    each Refused h = unrecovered Refused h
-    each NoMemory h = unrecovered NoMemory h
-    each Limit h = unrecovered Limit h
-
-  store_due : IsToShowStore tells disk → (said : Status) → SaysRecover tells disk said text → Done ≡ said
-  store_due d = each (λ (s : Status). Done ≡ s) (λ h. refl)
-      (unrecovered_in Strict tells disk text (λ (s : Status). Done ≡ s) (λ f. absurd (d.calm f.side f.failed))
-      (λ r. absurd (recovered_or_refused (directories disk.before) d.batches r.fault d.recovers (r.refused d.told))))
-
-  refusal_due : IsToRefuse Strict tells disk → (said : Status) → SaysRecover tells disk said text → Refused ≡ said
-  refusal_due d = each (λ (s : Status). Refused ≡ s)
-      (λ h. absurd (recovered_or_refused (directories disk.before) h.batches d.fault (h.recovers d.told) d.refused))
-      (refuse_due Strict tells disk text d)
-
   pub recover_told : (said : Status) → SaysRecover tells disk said text → IsOfCommand said
-  recover_told = each IsOfCommand (λ h. tt) (unrecovered_told Strict tells disk text)
+  recover_told = shown_told Strict tells disk text (ShowsStore tells disk text)
 
   pub recover_due : (said : Status) → SaysRecover tells disk said text → IsTheDue (RecoverIsDue tells disk) said
-  recover_due said h Done d = store_due d said h
-  recover_due said h Usage d = absurd d
-  recover_due said h Script d = absurd d
-  recover_due said h Read d = absurd d
-  recover_due said h Write d = absurd d
-  recover_due said h Disk d = absurd d
-  recover_due said h Refused d = refusal_due d said h
-  recover_due said h NoMemory d = absurd d
-  recover_due said h Limit d = absurd d
+  recover_due = shown_due Strict tells disk text (ShowsStore tells disk text) (IsToShowStore tells disk) (λ d. d.calm)
+      (λ d r. recovered_or_refused (directories disk.before) d.batches r.fault d.recovers (r.refused d.told))
+      (λ h d. recovered_or_refused (directories disk.before) h.batches d.fault (h.recovers d.told) d.refused)
 
 -- ---- what is left where nothing was done
 

@@ -10,10 +10,10 @@ use Rattle.wal_recovery.specs.Resting.{OnlySynced}
 use Rattle.wal_recovery.specs.Answers.{IsRefusedBy, IsRefusal, FaultRose, DiskMemoryOr}
 use Rattle.wal_top.specs.declared.status.Status.{Status}
 use Rattle.wal_top.specs.declared.status.Status.TheVariants.{Done, Usage, Script, Read, Write, Disk, Refused, NoMemory, Limit}
-use Rattle.wal_top.specs.Call.{Change}
-use Rattle.wal_top.specs.Recovery.{refusal_text, FailsRecovery, RefusesDirectories, SaysUnrecovered, IsToRefuse}
+use Rattle.wal_top.specs.Call.{Change, IsCalmDisk}
+use Rattle.wal_top.specs.Recovery.{refusal_text, FailsRecovery, RefusesDirectories, SaysUnrecovered, IsToRefuse, SaysShown, ShownIsDue}
 use Rattle.wal_top.specs.Faults.{SaysFault}
-use Rattle.wal_top.specs.Rightly.{IsOfCommand}
+use Rattle.wal_top.specs.Rightly.{IsOfCommand, IsTheDue}
 
 module _ (mode : Mode) (tells : Bool) (disk : Change DiskView) (text : List ℕ) where
   -- what holds of both answers holds of the status
@@ -60,3 +60,46 @@ module _ (mode : Mode) (tells : Bool) (disk : Change DiskView) (text : List ℕ)
     says_unrecovered (faults.Conflict wal index first) status (s, t) rose is same = refuses (faults.Conflict wal index first) status s t tt is (same tt)
     says_unrecovered (faults.Corrupt wal index at shown_at) status (s, t) rose is same = refuses (faults.Corrupt wal index at shown_at) status s t tt is (same tt)
     says_unrecovered faults.NoMemory status says rose is same = absurd says
+
+-- ---- a command that shows what the directories recover to
+
+module _ (mode : Mode) (tells : Bool) (disk : Change DiskView) (text : List ℕ) (Shows : Type 0) where
+  pub shows_unrecovered : (status : Status) → SaysUnrecovered mode tells disk status text → SaysShown mode tells disk Shows status text
+  shows_unrecovered = unrecovered_in mode tells disk text (λ (s : Status). SaysShown mode tells disk Shows s text) (λ f. f) (λ r. r)
+
+  -- either it is shown, or it is said why not
+  module _ (P : Status → Type 0) (shows : Shows → P Done) (unrecovered : (said : Status) → SaysUnrecovered mode tells disk said text → P said) where
+    each : (said : Status) → SaysShown mode tells disk Shows said text → P said
+    each Done h = shows h
+    each Usage h = unrecovered Usage h
+    each Script h = unrecovered Script h
+    each Read h = unrecovered Read h
+    each Write h = unrecovered Write h
+    each Disk h = unrecovered Disk h
+    each Refused h = unrecovered Refused h
+    each NoMemory h = unrecovered NoMemory h
+    each Limit h = unrecovered Limit h
+
+  pub shown_told : (said : Status) → SaysShown mode tells disk Shows said text → IsOfCommand said
+  shown_told = each IsOfCommand (λ h. tt) (unrecovered_told mode tells disk text)
+
+  -- What has to be shown is shown and refused directories are refused, since no directories recover and are refused.
+  module _ (IsToShow : Type 0) (calm : IsToShow → IsCalmDisk disk) (not_refused : IsToShow → RefusesDirectories mode tells disk text → ⊥)
+      (not_shown : Shows → IsToRefuse mode tells disk → ⊥) where
+    shown_when_due : IsToShow → (said : Status) → SaysShown mode tells disk Shows said text → Done ≡ said
+    shown_when_due d = each (λ (s : Status). Done ≡ s) (λ h. refl)
+        (unrecovered_in mode tells disk text (λ (s : Status). Done ≡ s) (λ f. absurd (calm d f.side f.failed)) (λ r. absurd (not_refused d r)))
+
+    refused_when_due : IsToRefuse mode tells disk → (said : Status) → SaysShown mode tells disk Shows said text → Refused ≡ said
+    refused_when_due d = each (λ (s : Status). Refused ≡ s) (λ h. absurd (not_shown h d)) (refuse_due mode tells disk text d)
+
+    pub shown_due : (said : Status) → SaysShown mode tells disk Shows said text → IsTheDue (ShownIsDue mode tells disk IsToShow) said
+    shown_due said h Done d = shown_when_due d said h
+    shown_due said h Usage d = absurd d
+    shown_due said h Script d = absurd d
+    shown_due said h Read d = absurd d
+    shown_due said h Write d = absurd d
+    shown_due said h Disk d = absurd d
+    shown_due said h Refused d = refused_when_due d said h
+    shown_due said h NoMemory d = absurd d
+    shown_due said h Limit d = absurd d

@@ -14,9 +14,8 @@ use Rattle.wal_recovery.specs.Recovering.{RecoversLenient}
 use Rattle.wal_recovery.specs.Reports.{AreReports}
 use Rattle.script_runner.specs.Runs.{PollsNeverRise}
 use Rattle.wal_top.specs.declared.status.Status.{Status}
-use Rattle.wal_top.specs.declared.status.Status.TheVariants.{Done, Refused}
 use Rattle.wal_top.specs.Call.{Change, IsCalmDisk}
-use Rattle.wal_top.specs.Recovery.{SaysUnrecovered, IsToRefuse, WritesNoJournal}
+use Rattle.wal_top.specs.Recovery.{SaysShown, ShownIsDue, WritesNoJournal}
 
 -- what is said of a segment and its batches
 abbrev pub report_lines : SegReport → List ℕ
@@ -47,13 +46,10 @@ pub record IsToShowSegments (tells : Bool) (disk : Change DiskView) : Type 0 whe
 -- ---- what it says, when that has to come, and what it leaves
 
 abbrev pub SaysDump : Bool → Change DiskView → Status → List ℕ → Type 0
-SaysDump tells disk Done text = ShowsSegments tells disk text
-SaysDump tells disk status text = SaysUnrecovered Lenient tells disk status text
+SaysDump tells disk status text = SaysShown Lenient tells disk (ShowsSegments tells disk text) status text
 
 abbrev pub DumpIsDue : Bool → Change DiskView → Status → Type 0
-DumpIsDue tells disk Done = IsToShowSegments tells disk
-DumpIsDue tells disk Refused = IsToRefuse Lenient tells disk
-DumpIsDue tells disk status = ⊥
+DumpIsDue tells disk status = ShownIsDue Lenient tells disk (IsToShowSegments tells disk) status
 
 pub record LeavesDump (tells : Bool) (disk : Change DiskView) : Type 0 where
   pub polls : PollsNeverRise disk.before disk.after

@@ -12,9 +12,8 @@ use Rattle.wal_recovery.specs.Recovering.{Recovers}
 use Rattle.wal_recovery.specs.Resting.{OnlySynced, AreSegmentsStable}
 use Rattle.script_runner.specs.Runs.{PollsNeverRise}
 use Rattle.wal_top.specs.declared.status.Status.{Status}
-use Rattle.wal_top.specs.declared.status.Status.TheVariants.{Done, Refused}
 use Rattle.wal_top.specs.Call.{Change, IsCalmDisk}
-use Rattle.wal_top.specs.Recovery.{SaysUnrecovered, IsToRefuse, WritesNoJournal}
+use Rattle.wal_top.specs.Recovery.{SaysShown, ShownIsDue, WritesNoJournal}
 
 -- The store that the directories recover to was shown.
 pub record ShowsStore (tells : Bool) (disk : Change DiskView) (text : List ℕ) : Type 0 where
@@ -36,13 +35,10 @@ pub record IsToShowStore (tells : Bool) (disk : Change DiskView) : Type 0 where
 -- ---- what it says, when that has to come, and what it leaves
 
 abbrev pub SaysRecover : Bool → Change DiskView → Status → List ℕ → Type 0
-SaysRecover tells disk Done text = ShowsStore tells disk text
-SaysRecover tells disk status text = SaysUnrecovered Strict tells disk status text
+SaysRecover tells disk status text = SaysShown Strict tells disk (ShowsStore tells disk text) status text
 
 abbrev pub RecoverIsDue : Bool → Change DiskView → Status → Type 0
-RecoverIsDue tells disk Done = IsToShowStore tells disk
-RecoverIsDue tells disk Refused = IsToRefuse Strict tells disk
-RecoverIsDue tells disk status = ⊥
+RecoverIsDue tells disk status = ShownIsDue Strict tells disk (IsToShowStore tells disk) status
 
 pub record LeavesRecover (tells : Bool) (disk : Change DiskView) : Type 0 where
   pub polls : PollsNeverRise disk.before disk.after

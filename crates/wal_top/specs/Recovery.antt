@@ -15,7 +15,7 @@ use Rattle.wal_recovery.specs.Listing.{name_in}
 use Rattle.wal_recovery.specs.Resting.{OnlySynced, AddsNoImage}
 use Rattle.wal_recovery.specs.Answers.{IsRefusedBy, IsRefusal}
 use Rattle.wal_top.specs.declared.status.Status.{Status}
-use Rattle.wal_top.specs.declared.status.Status.TheVariants.{Disk, Refused}
+use Rattle.wal_top.specs.declared.status.Status.TheVariants.{Done, Disk, Refused}
 use Rattle.wal_top.specs.Call.{Change, IsCalmDisk}
 
 -- the whole text where one of the directories could not be listed, read or synced
@@ -61,6 +61,18 @@ pub record IsToRefuse (mode : Mode) (tells : Bool) (disk : Change DiskView) : Ty
   pub fault : RecoverFault
   pub refused : IsRefusedBy mode (directories disk.before) fault
   pub calm : IsCalmDisk disk
+
+-- ---- of a command that shows what the directories recover to
+
+-- It shows that, at status 0, or says why they do not recover.
+abbrev pub SaysShown : Mode → Bool → Change DiskView → Type 0 → Status → List ℕ → Type 0
+SaysShown mode tells disk Shows Done text = Shows
+SaysShown mode tells disk Shows status text = SaysUnrecovered mode tells disk status text
+
+abbrev pub ShownIsDue : Mode → Bool → Change DiskView → Type 0 → Status → Type 0
+ShownIsDue mode tells disk IsToShow Done = IsToShow
+ShownIsDue mode tells disk IsToShow Refused = IsToRefuse mode tells disk
+ShownIsDue mode tells disk IsToShow status = ⊥
 
 -- Without a journal nothing happens to a file but a sync, a crash at any moment leaves what one before the run might have left, and
 -- nothing is left in flight.
