@@ -31,7 +31,7 @@ pub fn next_word(words: &mut Pieces<'_>) -> Result<Option<Blob>, NoMemory>
     }
 }
 
-/// Whether no word is left.
+/// Whether no word is left. Else the next one is taken off, so this is asked last.
 pub fn is_end(words: &mut Pieces<'_>) -> bool
     ensures { IsTrue result ↔ (words.old ≡ []) }
 {
