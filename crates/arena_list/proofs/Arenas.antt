@@ -14,6 +14,7 @@ use Rattle.arena_list.specs.Steps.{IsCut}
 use Rattle.arena_list.proofs.Cuts.{cut_last, follows_cut, next_held, newest_at, newest_none, held_next}
 use Rattle.arena_list.specs.Arena.{on_level}
 use Rattle.arena_list.specs.Nodes.{version_at, next_on, places_on, versions_on, versions_along, arena_of, IsLevel, IsLinked, IsOnLevel, IsArena}
+use Rattle.arena_list.specs.Fronts.{ShareFront}
 use Rattle.arena_list.proofs.Levels.{mapped, unmapped, ascend_versions, level_is, level_of, on_level_is, read_next}
 
 pub zeros_at : (n i : ℕ) → ◌≡◌ {A = ℕ} (get_or (replicate {A = ℕ} n 0) i 0) 0
@@ -73,6 +74,14 @@ module _ (head : Node) (links : (level : ℕ) → slice_index head.links level �
     };
     all = omega (arith, ap length (alone_none 0));
     few = omega arith;
+  }
+
+  -- and no key has bytes
+  pub alone_front : ShareFront 0 (head ∷ [])
+  alone_front = record {
+    front = [];
+    len = refl;
+    led = λ place h. absurd (none_within place (subst (λ (l : List ℕ). Contains l place) (alone_none 0) h));
   }
 
   pub alone_empty : versions_on (head ∷ []) 0 ≡ []

@@ -1,9 +1,12 @@
 -- One place more, linked in at the levels of its tower.
-use Rattle.std.proofs.Common.{◌≡◌, ◌≢◌, ◌⊎◌, inl, inr, ℕ, ◌+◌, ◌-◌, ◌^◌, ◌<◌, ◌≤◌, true, false, Option, Some, None, List, [], ◌∷◌, ◌++◌, length, Contains, refl, sym, ap, ◌∙◌, subst, arith, slice_index, length-append}
+use Rattle.std.proofs.Common.{◌≡◌, ◌≢◌, ◌⊎◌, inl, inr, ℕ, ◌+◌, ◌-◌, ◌^◌, ◌<◌, ◌≤◌, true, false, Option, Some, None, List, [], ◌∷◌, ◌++◌, length, Contains, refl, sym, ap, ◌∙◌, subst, arith, slice_index, length-append, take, drop}
 use Rattle.std.proofs.lemmas.Bool.{cases_lt}
 use Rattle.std.proofs.lemmas.List.{length-map}
 use Rattle.std.proofs.lemmas.List.Elements.{Contains-append_left, Contains-append_right}
 use Rattle.wal_base.proofs.Laws.{within_cases}
+use Rattle.arena_list.proofs.Fronts.{led_same}
+use Rattle.arena_list.specs.Fronts.{AllLed}
+use Rattle.arena_list.specs.Leads.{lead_of, AreBytes}
 use Rattle.arena_list.specs.declared.node.TheConstants.{LEVELS, GUIDE_HEIGHT}
 use Rattle.arena_list.specs.declared.node.Node.{Node}
 use Rattle.arena_list.specs.declared.guide.Guide.{Guide}
@@ -12,7 +15,7 @@ use Rattle.arena_list.specs.declared.links.FreeList.{FreeList}
 use Rattle.arena_list.specs.Versions.{KeyVersion, version_with, Precedes, HoldsVersion, Adds}
 use Rattle.arena_list.specs.Arena.{UsesPlace}
 use Rattle.arena_list.specs.Chains.{LeadsAlong}
-use Rattle.arena_list.specs.Nodes.{is_vacant, held_of, version_in, node_at, version_at, next_on, places_on, versions_on, arena_of, AscendPlaces, HasNode, IsLevel, IsLinked, AreFree, IsArena}
+use Rattle.arena_list.specs.Nodes.{is_vacant, held_of, version_in, node_at, version_at, next_on, places_on, versions_on, arena_of, AscendPlaces, HasNode, IsLevel, IsLinked, AreFree, IsArena, key_of}
 use Rattle.arena_list.specs.Steps.{IsCut, AreCutsTo, AreWithin, AreOtherPlaces, TakesPlace, PutsIn}
 use Rattle.arena_list.specs.Tops.{places_of, IsTop, IsTopCut, PutsInTop}
 use Rattle.arena_list.proofs.Chains.{amid_there, amid_more, amid_cases, follows_distinct_head, follows_same, not_the_end, spliced_in}
@@ -245,8 +248,8 @@ module _ (old new : List Node) (lasts : List ℕ) (place height : ℕ) (version 
 
 made_version : (key : List ℕ) (seq : ℕ) (value : Option (List ℕ)) (node : Node) → node.held ≡ held_of key value → node.seq ≡ seq
     → version_in node ≡ version_with key seq value
-made_version key seq None node held is = version_same node (record { held = Deletion key; seq = seq; links = [] }) held is
-made_version key seq (Some bytes) node held is = version_same node (record { held = Set key bytes; seq = seq; links = [] }) held is
+made_version key seq None node held is = version_same node (record { held = Deletion key; lead = 0; seq = seq; links = [] }) held is
+made_version key seq (Some bytes) node held is = version_same node (record { held = Set key bytes; lead = 0; seq = seq; links = [] }) held is
 
 made_filled : (key : List ℕ) (value : Option (List ℕ)) → is_vacant (held_of key value) ≡ false
 made_filled key None = refl
@@ -272,9 +275,9 @@ module _ (old mid : List Node) (free left : FreeList) (lasts : List ℕ) (place 
     | inr held ↦ taken_as.fresh (subst (Contains (places_on old 0)) e (within_lowest old arena.linked level (slice_index lasts level) less held))
   ]
 
-  module _ (new : List Node) (value : Option (List ℕ)) (absent : HoldsVersion (versions_on old 0) key seq → ⊥)
+  module _ (new : List Node) (value : Option (List ℕ)) (lead : ℕ) (absent : HoldsVersion (versions_on old 0) key seq → ⊥)
       (up : 0 < height) (most : height ≤ LEVELS)
-      (put : PutsIn mid lasts place height (held_of key value) seq new) where
+      (put : PutsIn mid lasts place height (held_of key value) lead seq new) where
     joins : IsJoined old new lasts place height (version_with key seq value)
     joins = record {
       longer = omega (arith, taken_as.longer, put.len);
@@ -327,9 +330,9 @@ module _ (old mid : List Node) (free left : FreeList) (lasts : List ℕ) (place 
         go (inr made) = inr (made.0, made.1, omega (arith, more, made.0, made.1))
 
     -- the entries that a search looks at first
-    pub insertion_top : (top new_top : List Guide) (index : ℕ) → IsTop old top → IsTopCut old (places_of top) key seq index
-        → PutsInTop new top index place height new_top → IsTop new new_top
-    insertion_top top new_top index is cut puts = go puts
+    pub insertion_top : (shared : ℕ) (top new_top : List Guide) (index : ℕ) → IsTop shared old top → IsTopCut old (places_of top) key seq index
+        → PutsInTop shared new top index place height new_top → IsTop shared new new_top
+    insertion_top shared top new_top index is cut puts = go puts
       where
         stays : (x : ℕ) → Contains (places_of top) x → Stays old new x
         stays x h = (
@@ -339,9 +342,9 @@ module _ (old mid : List Node) (free left : FreeList) (lasts : List ℕ) (place 
           λ level less there. joined_more old new lasts place height (version_with key seq value) arena.linked cuts absent joins level x less there,
         )
 
-        go : PutsInTop new top index place height new_top → IsTop new new_top
-        go (inl same) = subst (IsTop new) (sym same) (top_kept old new top is stays)
-        go (inr (high, guide, to, more)) = subst (IsTop new) (sym more)
+        go : PutsInTop shared new top index place height new_top → IsTop shared new new_top
+        go (inl same) = subst (IsTop shared new) (sym same) (top_kept old new top is stays)
+        go (inr (high, guide, to, more)) = subst (IsTop shared new) (sym more)
             (top_more old new top is place height (version_with key seq value) index guide cut stays joins.is
             (λ level less low. joined_here old new lasts place height (version_with key seq value) arena.linked cuts absent joins level less low)
             (λ x h at. absent (
@@ -349,3 +352,25 @@ module _ (old mid : List Node) (free left : FreeList) (lasts : List ℕ) (place 
               mapped (version_at old) (places_on old 0) x (within_lowest old arena.linked (GUIDE_HEIGHT - 1) x (omega arith) (is.places.linked x h)),
               at,
             )) high to)
+
+    -- the front of the keys, which the new one begins with
+    pub insertion_front : (front : List ℕ) → AllLed front old → take (length front) key ≡ front → AreBytes key → lead ≡ lead_of (drop (length front) key)
+        → AllLed front new
+    insertion_front front is begins bytes led x h = elim (joined_cases old new lasts place height (version_with key seq value) arena.linked cuts absent joins
+        0 x (omega arith) h) [
+          | inl was ↦
+              let other : x ≢ place = λ e. taken_as.fresh (subst (Contains (places_on old 0)) e was) in
+              led_same front (node_at old x) (node_at new x) (joins.held x other)
+              (put.led x other ∙ ap (λ (n : Node). n.lead) (taken_as.kept x other)) (is x was)
+          | inr here ↦
+              let has : key_of (node_at new x).held ≡ key =
+              ap (λ (p : ℕ). key_of (node_at new p).held) here.0 ∙ ap key_of put.holds ∙ made_key value in record {
+                begins = ap (take (length front)) has ∙ begins;
+                lead = ap (λ (p : ℕ). (node_at new p).lead) here.0 ∙ put.leads ∙ led ∙ ap (λ (k : List ℕ). lead_of (drop (length front) k)) (sym has);
+                bytes = subst AreBytes (sym has) bytes;
+              }
+        ]
+      where
+        made_key : (v : Option (List ℕ)) → key_of (held_of key v) ≡ key
+        made_key None = refl
+        made_key (Some v) = refl

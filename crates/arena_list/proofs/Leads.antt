@@ -158,3 +158,7 @@ short_lead (a ∷ b ∷ c ∷ d ∷ e ∷ []) short = refl
 short_lead (a ∷ b ∷ c ∷ d ∷ e ∷ f ∷ []) short = refl
 short_lead (a ∷ b ∷ c ∷ d ∷ e ∷ f ∷ g ∷ []) short = refl
 short_lead (a ∷ b ∷ c ∷ d ∷ e ∷ f ∷ g ∷ h ∷ bytes) short = absurd (omega (arith, short))
+
+-- a lead is a number of eight bytes
+pub lead_fits : (key : List ℕ) → AreBytes key → lead_of key < 2 ^ 64
+lead_fits key are = omega (arith, lead_is key, number_fits 8 key are)

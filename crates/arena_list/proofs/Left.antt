@@ -17,6 +17,8 @@ use Rattle.arena_list.proofs.Chains.{amid_more, amid_cases, distinct_out, follow
 use Rattle.arena_list.proofs.Orders.{never_before_itself}
 use Rattle.arena_list.proofs.Levels.{mapped, unmapped, version_same, ascend_same, ascend_out, ascend_back, ascend_apart, level_is, level_of}
 use Rattle.arena_list.proofs.Cuts.{cut_last, last_for, next_there, follows_cut}
+use Rattle.arena_list.specs.Fronts.{ShareFront}
+use Rattle.arena_list.proofs.Fronts.{front_kept}
 use Rattle.arena_list.proofs.Tops.{top_less}
 
 -- The places of a level with one of them left out.
@@ -332,8 +334,8 @@ module _ {old : List Node} {lasts : List ℕ} {place first count : ℕ} {key : L
         )
 
     -- the entries that a search looks at first
-    pub removal_top : (top left_top : List Guide) (index : ℕ) → IsTop old top → IsTopCut old (places_of top) key seq index
-        → TakesFromTop top index place left_top → IsTop new left_top
+    pub removal_top : {shared : ℕ} (top left_top : List Guide) (index : ℕ) → IsTop shared old top → IsTopCut old (places_of top) key seq index
+        → TakesFromTop top index place left_top → IsTop shared new left_top
     removal_top top left_top index is cut drops = top_less old new top is place index left_top
         (subst (λ (k : List ℕ). IsTopCut old (places_of top) k (version_at old place).number index) (sym r.at.0)
         (subst (λ (n : ℕ). IsTopCut old (places_of top) key n index) (sym r.at.1) cut)) drops
@@ -341,3 +343,10 @@ module _ {old : List Node} {lasts : List ℕ} {place first count : ℕ} {key : L
           version_kept old new lasts place first r.arena.linked own_lasts r.held left x other,
           λ level less there. left_more old new lasts place first r.arena.linked own_lasts r.held left level x less there other,
         ))
+
+    -- the front of the keys
+    pub removal_front : {shared : ℕ} → ShareFront shared old → ShareFront shared new
+    removal_front is = front_kept old new
+        (λ x h.
+        let was = left_cases old new lasts place first r.arena.linked own_lasts r.held left 0 x (omega arith) h in
+        (was.0, left.held x was.1, left.lead x was.1)) is

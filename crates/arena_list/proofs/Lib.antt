@@ -1,11 +1,13 @@
 pub mod Laws
 mod Chains
 mod Leads
+mod Fronts
 mod Orders
 mod Levels
 mod Cuts
 mod Spots
 mod Tops
+mod Lowered
 mod Free
 mod Made
 mod Joined

@@ -11,10 +11,12 @@ use Rattle.arena_list.specs.Arena.{Arena}
 use Rattle.arena_list.specs.Chains.{LeadsAlong}
 use Rattle.arena_list.specs.Nodes.{is_vacant, version_in, node_at, version_at, next_on, places_on, versions_on, arena_of, HasNode, IsLevel, IsArena}
 use Rattle.arena_list.specs.Steps.{MakesPlace}
+use Rattle.arena_list.specs.Fronts.{ShareFront}
 use Rattle.arena_list.specs.Tops.{IsTop}
 use Rattle.arena_list.proofs.Chains.{follows_same}
 use Rattle.arena_list.proofs.Levels.{map_same, ascend_same, level_is, level_of}
 use Rattle.arena_list.proofs.Free.{node_kept, node_made}
+use Rattle.arena_list.proofs.Fronts.{front_kept}
 use Rattle.arena_list.proofs.Tops.{top_kept}
 
 module _ (old new : List Node) (place first : ℕ) (arena : IsArena old first 0) (makes : MakesPlace old place new) where
@@ -87,11 +89,18 @@ module _ (old new : List Node) (place first : ℕ) (arena : IsArena old first 0)
       within : place < length new
       within = omega (arith, makes.at, longer)
 
-  pub made_top : (top : List Guide) → IsTop old top → IsTop new top
+  pub made_top : {shared : ℕ} (top : List Guide) → IsTop shared old top → IsTop shared new top
   made_top top is = top_kept old new top is (λ x h. (
     ap version_in (linked_same (GUIDE_HEIGHT - 1) x (omega arith) (is.places.linked x h)),
     λ level less there. in_new level x less there,
   ))
+
+  pub made_front : {shared : ℕ} → ShareFront shared old → ShareFront shared new
+  made_front is = front_kept old new
+      (λ x h.
+      let was = subst (λ (l : List ℕ). Contains l x) (places_same 0 (omega arith)) h in
+      let same = linked_same 0 x (omega arith) was in
+      (was, ap (λ (n : Node). n.held) same, ap (λ (n : Node). n.lead) same)) is
 
   -- no more than the number of free places is seen to differ
   pub made_seen : arena_of new 1 ≡ record (arena_of old 0) { free = 1 }

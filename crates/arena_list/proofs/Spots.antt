@@ -148,7 +148,7 @@ module _ (nodes : List Node) (linked : IsLinked nodes) (key : List ℕ) (number 
       low : (p : ℕ) → Contains (one.before ++ one.after) p → Contains (places_on nodes 0) p
       low p h = within_lowest nodes linked level p less (subst (λ (l : List ℕ). Contains l p) (sym one.is) h)
 
-  pub same_top_cut : next_on nodes 0 last ≢ 0 → (top : List Guide) (index : ℕ) → IsTop nodes top → IsTopCut nodes (places_of top) key number index
+  pub same_top_cut : {shared : ℕ} → next_on nodes 0 last ≢ 0 → (top : List Guide) (index : ℕ) → IsTop shared nodes top → IsTopCut nodes (places_of top) key number index
       → IsTopCut nodes (places_of top) (version_at nodes (next_on nodes 0 last)).key (version_at nodes (next_on nodes 0 last)).number index
   same_top_cut some top index is one = record {
     within = one.within;
@@ -227,7 +227,7 @@ module _ {nodes : List Node} {first count : ℕ} {key : List ℕ} {seq last plac
     goes_on : next_on nodes 0 last ≢ 0
     goes_on e = some (at.next_is ∙ e)
 
-    found_held : Contains (places_on nodes 0) place
+    pub found_held : Contains (places_on nodes 0) place
     found_held = subst (Contains (places_on nodes 0)) (sym at.next_is) (next_held nodes at.arena.linked key seq last at.cut goes_on)
 
     pub found_within : place < length nodes
@@ -258,7 +258,7 @@ module _ {nodes : List Node} {first count : ℕ} {key : List ℕ} {seq last plac
           at = (refl, refl);
         }
 
-    pub found_top : (top : List Guide) (index : ℕ) → IsTop nodes top → IsTopCut nodes (places_of top) key seq index
+    pub found_top : {shared : ℕ} (top : List Guide) (index : ℕ) → IsTop shared nodes top → IsTopCut nodes (places_of top) key seq index
         → IsTopCut nodes (places_of top) (version_at nodes place).key (version_at nodes place).number index
     found_top top index top_is top_cut =
         subst (λ (p : ℕ). IsTopCut nodes (places_of top) (version_at nodes p).key (version_at nodes p).number index) (sym at.next_is)

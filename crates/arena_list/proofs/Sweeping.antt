@@ -1,5 +1,5 @@
 -- A walk that takes out what no mark keeps: what holds where it stands, and that each step keeps it.
-use Rattle.std.proofs.Common.{◌≡◌, ◌≢◌, ◌⊎◌, ◌↔◌, inl, inr, ℕ, ◌+◌, ◌<◌, ◌≤◌, Bool, true, false, List, [], ◌∷◌, ◌++◌, length, map, Option, Some, None, Contains, Equal, Less, nat_cmp, refl, sym, ap, ◌∙◌, subst, arith, slice_index, slice_index_or, append_assoc, length-append}
+use Rattle.std.proofs.Common.{◌≡◌, ◌≢◌, ◌⊎◌, ◌↔◌, inl, inr, ℕ, ◌+◌, ◌<◌, ◌≤◌, Bool, true, false, List, [], ◌∷◌, ◌++◌, length, map, Option, Some, None, Contains, Equal, Less, nat_cmp, refl, sym, ap, ◌∙◌, subst, arith, slice_index, append_assoc, length-append}
 use Rattle.std.specs.Cmp.Lexicographic.{slice_cmp}
 use Rattle.std.specs.Ordering.{ordering_then}
 use Rattle.std.proofs.lemmas.Bool.{cases_eq, cases_lt}
@@ -13,13 +13,14 @@ use Rattle.arena_list.specs.Versions.{KeyVersion, GoesBefore, Precedes, AscendVe
 use Rattle.arena_list.specs.Marks.{IsKeptFor}
 use Rattle.arena_list.specs.Chains.{LeadsAlong, path, last_of}
 use Rattle.arena_list.specs.Nodes.{is_vacant, node_at, version_in, version_at, next_on, places_on, versions_on, AscendPlaces, IsLinked, IsArena}
+use Rattle.arena_list.specs.Fronts.{IsLed, ShareFront, HaveFront}
 use Rattle.arena_list.specs.Steps.{IsCut, AreCuts, AreLastsFor, AreWithin, TakesOut}
 use Rattle.arena_list.specs.Keeping.{IsMarkUpTo, IsBetween, IsNewerFor, IsNextNewer, StepsOver, KeepsPlace, Sweeps}
 use Rattle.arena_list.proofs.Chains.{follows_distinct, distinct_out, follows_after, follows_same, last_cases, not_the_end, path_of}
 use Rattle.arena_list.proofs.Orders.{before_along, before_cases, never_before_itself, keys_tied}
-use Rattle.arena_list.proofs.Levels.{map_same, ascend_across, ascend_back, ascend_versions, within_lowest, read_next, version_read}
+use Rattle.arena_list.proofs.Levels.{map_same, ascend_across, ascend_back, ascend_versions, within_lowest}
 use Rattle.arena_list.proofs.Cuts.{next_there}
-use Rattle.arena_list.proofs.Left.{version_kept, left_more, level_without, Removal, lasts_within, removal_arena}
+use Rattle.arena_list.proofs.Left.{version_kept, left_more, level_without, Removal, lasts_within, removal_arena, removal_front}
 use Rattle.arena_list.proofs.Passing.{cut_past, cut_left}
 
 -- ---- which versions a mark keeps
@@ -279,14 +280,17 @@ module _ (old : List Node) (free : FreeList) (marks : List ℕ) (nodes : List No
     pub place_within : place < length nodes
     place_within = ((at.arena.linked.levels 0 (omega arith)).held place place_held).0
 
+    pub next_held : next ≢ 0 → Contains (places_on nodes 0) next
+    next_held more =
+        let n = next_there (next_on nodes 0) next rest left_rest.2 more in
+        subst (λ (l : List ℕ). Contains l next) (sym whole)
+        (Contains-append_right at.done (place ∷ rest) next (within_tail place rest next
+        (subst (λ (l : List ℕ). Contains l next) (sym n.1) (within_head next n.0))))
+
     pub next_within : next < length nodes
     next_within = elim (cases_eq next 0) [
       | inl end ↦ omega (arith, end, place_within)
-      | inr more ↦
-          let n = next_there (next_on nodes 0) next rest left_rest.2 more in
-          ((at.arena.linked.levels 0 (omega arith)).held next (subst (λ (l : List ℕ). Contains l next) (sym whole)
-          (Contains-append_right at.done (place ∷ rest) next (within_tail place rest next
-          (subst (λ (l : List ℕ). Contains l next) (sym n.1) (within_head next n.0)))))).0
+      | inr more ↦ ((at.arena.linked.levels 0 (omega arith)).held next (next_held more)).0
     ]
 
     pub cuts_here : AreCuts nodes v.key v.number lasts
@@ -305,12 +309,12 @@ module _ (old : List Node) (free : FreeList) (marks : List ℕ) (nodes : List No
     splits : next ≢ 0 → (back : List ℕ) × (rest ≡ next ∷ back)
     splits more = let n = next_there (next_on nodes 0) next rest left_rest.2 more in (n.0, n.1)
 
-    next_newer : (new_newer : Option ℕ) → IsNewerFor v (version_at nodes next) new_newer → next ≢ 0
+    next_newer : (new_newer : Option ℕ) → (next ≢ 0 → IsNewerFor v (version_at nodes next) new_newer) → next ≢ 0
         → IsNextNewer (at.front ++ v ∷ []) (version_at nodes next) new_newer
     next_newer new_newer is more =
         let s = splits more in
         newer_on (versions_on old 0) at.front (map (version_at nodes) s.0) v (version_at nodes next)
-        (were ∙ ap (λ (l : List ℕ). at.front ++ v ∷ map (version_at nodes) l) s.1) ascend_old new_newer is
+        (were ∙ ap (λ (l : List ℕ). at.front ++ v ∷ map (version_at nodes) l) s.1) ascend_old new_newer (is more)
 
     leads_here : next_on nodes 0 (slice_index lasts 0) ≡ place
     leads_here =
@@ -325,7 +329,7 @@ module _ (old : List Node) (free : FreeList) (marks : List ℕ) (nodes : List No
 
     -- the place is kept
     pub swept_kept : IsBetween marks v.number newer → (new_lasts : List ℕ) → StepsOver nodes lasts place LEVELS new_lasts
-        → (new_newer : Option ℕ) → IsNewerFor v (version_at nodes next) new_newer
+        → (new_newer : Option ℕ) → (next ≢ 0 → IsNewerFor v (version_at nodes next) new_newer)
         → Swept old free marks nodes now_free new_lasts next new_newer removed
     swept_kept is_wanted new_lasts steps new_newer newer_for = record {
       arena = at.arena;
@@ -437,7 +441,7 @@ module _ (old : List Node) (free : FreeList) (marks : List ℕ) (nodes : List No
     -- the place is taken out
     pub swept_out : (IsBetween marks v.number newer → ⊥) → (new : List Node) (new_free : FreeList) → TakesOut nodes lasts place now_free.first new
         → new_free.first ≡ place → new_free.count ≡ now_free.count + 1
-        → (new_newer : Option ℕ) → IsNewerFor v (version_at nodes next) new_newer
+        → (new_newer : Option ℕ) → (next ≢ 0 → IsNewerFor v (version_at nodes next) new_newer)
         → Swept old free marks new new_free lasts next new_newer (removed + 1)
     swept_out not_wanted new new_free left first_is count_is new_newer newer_for = record {
       arena = subst (λ (p : ℕ). IsArena new p new_free.count) (sym first_is)
@@ -503,26 +507,35 @@ module _ (old : List Node) (free : FreeList) (marks : List ℕ) (nodes : List No
             inr (ap is_vacant (left.held p (λ e. not_both (is_vacant (node_at nodes p).held) vacant
             (ap (λ (q : ℕ). is_vacant (node_at nodes q).held) e ∙ full))) ∙ vacant)
 
-    -- ---- the same, by what the nodes at the place and at the next one are read as
-    module _ (node next_node : Node) (node_is : node ≡ slice_index_or nodes place node)
-        (next_is : next_node ≡ slice_index_or nodes (slice_index node.links 0) next_node) where
+    -- ---- the same, by what the node at the place is read as
+    module _ (node : Node) (node_is : node ≡ node_at nodes place) where
       pub goes_to : slice_index node.links 0 ≡ next_on nodes 0 place
-      goes_to = ap (λ (n : Node). slice_index n.links 0) node_is ∙ read_next nodes 0 place node place_within
+      goes_to = ap (λ (n : Node). slice_index n.links 0) node_is
 
       shown : version_in node ≡ version_at nodes place
-      shown = version_read nodes place node node_is place_within
+      shown = ap version_in node_is
 
-      next_shown : version_in next_node ≡ version_at nodes next
-      next_shown =
-          version_read nodes (slice_index node.links 0) next_node next_is (subst (λ (p : ℕ). p < length nodes) (sym goes_to) next_within)
-          ∙ ap (version_at nodes) goes_to
+      newer_of : (n : Option ℕ)
+          → (slice_index node.links 0 ≢ 0 → IsNewerFor (version_at nodes place) (version_at nodes (slice_index node.links 0)) n)
+          → next ≢ 0 → IsNewerFor (version_at nodes place) (version_at nodes next) n
+      newer_of n is more = subst (λ (p : ℕ). IsNewerFor (version_at nodes place) (version_at nodes p) n) goes_to (is (λ e. more (sym goes_to ∙ e)))
 
-      newer_of : (n : Option ℕ) → IsNewerFor (version_in node) (version_in next_node) n → IsNewerFor (version_at nodes place) (version_at nodes next) n
-      newer_of n is = subst (λ (w : KeyVersion). IsNewerFor (version_at nodes place) w n) next_shown
-          (subst (λ (w : KeyVersion). IsNewerFor w (version_in next_node) n) shown is)
+      -- the keys of both have the front
+      pub fronts_here : {shared : ℕ} → ShareFront shared nodes → slice_index node.links 0 ≢ 0
+          → HaveFront shared (node_at nodes (slice_index node.links 0)) (node_at nodes place)
+      fronts_here is more = (
+        is.front,
+        is.len,
+        subst (λ (p : ℕ). IsLed is.front (node_at nodes p)) (sym goes_to) (is.led next (next_held (λ e. more (goes_to ∙ e)))),
+        is.led place place_held,
+      )
+
+      pub follows_within : slice_index node.links 0 < length nodes
+      follows_within = subst (λ (p : ℕ). p < length nodes) (sym goes_to) next_within
 
       pub step_kept : IsBetween marks node.seq newer → (new_lasts : List ℕ) → StepsOver nodes lasts place LEVELS new_lasts
-          → (new_newer : Option ℕ) → IsNewerFor (version_in node) (version_in next_node) new_newer
+          → (new_newer : Option ℕ)
+          → (slice_index node.links 0 ≢ 0 → IsNewerFor (version_at nodes place) (version_at nodes (slice_index node.links 0)) new_newer)
           → Swept old free marks nodes now_free new_lasts (slice_index node.links 0) new_newer removed
       step_kept is_wanted new_lasts steps new_newer newer_for =
           subst (λ (p : ℕ). Swept old free marks nodes now_free new_lasts p new_newer removed) (sym goes_to)
@@ -530,7 +543,8 @@ module _ (old : List Node) (free : FreeList) (marks : List ℕ) (nodes : List No
 
       pub step_out : (IsBetween marks node.seq newer → ⊥) → (new : List Node) (new_free : FreeList) → TakesOut nodes lasts place now_free.first new
           → new_free.first ≡ place → new_free.count ≡ now_free.count + 1
-          → (new_newer : Option ℕ) → IsNewerFor (version_in node) (version_in next_node) new_newer
+          → (new_newer : Option ℕ)
+          → (slice_index node.links 0 ≢ 0 → IsNewerFor (version_at nodes place) (version_at nodes (slice_index node.links 0)) new_newer)
           → Swept old free marks new new_free lasts (slice_index node.links 0) new_newer (removed + 1)
       step_out not_wanted new new_free left first_is count_is new_newer newer_for =
           subst (λ (p : ℕ). Swept old free marks new new_free lasts p new_newer (removed + 1)) (sym goes_to)
@@ -545,3 +559,6 @@ module _ (old : List Node) (free : FreeList) (marks : List ℕ) (nodes : List No
           → length (path (next_on new 0) (slice_index node.links 0) (length new)) < length (path (next_on nodes 0) place (length nodes))
       step_out_less new left = subst (λ (p : ℕ). length (path (next_on new 0) p (length new)) < length (path (next_on nodes 0) place (length nodes)))
           (sym goes_to) (out_less new left)
+
+      pub step_out_front : {shared : ℕ} (new : List Node) → TakesOut nodes lasts place now_free.first new → ShareFront shared nodes → ShareFront shared new
+      step_out_front new left is = removal_front removal_here left is

@@ -48,8 +48,8 @@ is_not true true e f = absurd cc
 is_not true false e f = absurd cc
 is_not false b e f = absurd cc
 
-pub swept_top : (old : List Node) (free : FreeList) (marks : List ℕ) (new : List Node) (new_free : FreeList) (removed : ℕ) (top : List Guide)
-    → Sweeps old free marks new new_free removed → IsTop old top → IsTop new (filter (λ guide. is_full new guide.place) top)
+pub swept_top : {shared : ℕ} (old : List Node) (free : FreeList) (marks : List ℕ) (new : List Node) (new_free : FreeList) (removed : ℕ) (top : List Guide)
+    → Sweeps old free marks new new_free removed → IsTop shared old top → IsTop shared new (filter (λ guide. is_full new guide.place) top)
 swept_top old free marks new new_free removed top swept is =
     top_some old new top is (filter (λ guide. is_full new guide.place) top) (ascend_filter old (λ guide. is_full new guide.place) top is.places.ascends)
     (λ guide h. (filtered (λ g. is_full new g.place) top guide h).0) stays

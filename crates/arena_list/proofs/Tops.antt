@@ -14,7 +14,7 @@ use Rattle.arena_list.specs.Steps.{MayGoOn, MayStop}
 use Rattle.arena_list.specs.Tops.{places_of, TellsVersion, IsTop, IsTopCut, IsGuideTo, TakesFromTop}
 use Rattle.arena_list.proofs.Chains.{amid_cases}
 use Rattle.arena_list.proofs.Orders.{before_along, never_before_itself, after_others}
-use Rattle.arena_list.proofs.Levels.{mapped, unmapped, ascend_same, ascend_across, ascend_back, ascend_in, ascend_out}
+use Rattle.arena_list.proofs.Levels.{mapped, unmapped, ascend_same, ascend_across, ascend_back, ascend_in, ascend_out, within_lowest}
 
 -- ---- what stands before an index, and from it on
 
@@ -61,10 +61,15 @@ pub place_of : (top : List Guide) (guide : Guide) → Contains top guide → Con
 place_of top guide h = mapped (λ g. g.place) top guide h
 
 -- an entry's node is there
-pub guide_there : (nodes : List Node) (top : List Guide) → IsLinked nodes → IsTop nodes top → (guide : Guide) → Contains top guide
+pub guide_there : {shared : ℕ} (nodes : List Node) (top : List Guide) → IsLinked nodes → IsTop shared nodes top → (guide : Guide) → Contains top guide
     → guide.place < length nodes
 guide_there nodes top linked is guide h =
     ((linked.levels (GUIDE_HEIGHT - 1) (omega arith)).held guide.place (is.places.linked guide.place (place_of top guide h))).0
+
+pub guide_lowest : {shared : ℕ} (nodes : List Node) (top : List Guide) → IsLinked nodes → IsTop shared nodes top → (guide : Guide) → Contains top guide
+    → Contains (places_on nodes 0) guide.place
+guide_lowest nodes top linked is guide h =
+    within_lowest nodes linked (GUIDE_HEIGHT - 1) guide.place (omega arith) (is.places.linked guide.place (place_of top guide h))
 
 places_parted : (index : ℕ) (top : List Guide) → places_of (take index top) ++ places_of (drop index top) ≡ places_of top
 places_parted index top =
@@ -111,7 +116,7 @@ top_cut nodes places key number index ascends within below above = record {
           above (omega (arith, from, last, there)) (subst (λ (j : ℕ). GoesBefore (version_at nodes (get_or places j 0)) key number) same g)
     ]
 
-module _ (nodes : List Node) (top : List Guide) (is : IsTop nodes top) (key : List ℕ) (number index : ℕ)
+module _ {shared : ℕ} (nodes : List Node) (top : List Guide) (is : IsTop shared nodes top) (key : List ℕ) (number index : ℕ)
     (cut : IsTopCut nodes (places_of top) key number index) where
   in_top : (x : ℕ) → Contains (take index (places_of top)) x → Contains (places_of top) x
   in_top x h = subst (λ (l : List ℕ). Contains l x) (take-append-drop index (places_of top))
@@ -144,8 +149,8 @@ Stays old new place =
     (version_at new place ≡ version_at old place)
     × ((level : ℕ) → level < LEVELS → Contains (places_on old level) place → Contains (places_on new level) place)
 
-pub no_top : (nodes : List Node) → IsTop nodes []
-no_top nodes = record {
+pub no_top : (shared : ℕ) (nodes : List Node) → IsTop shared nodes []
+no_top shared nodes = record {
   places = record { linked = λ x h. absurd (none_within x h); ascends = tt };
   tells = λ guide h. absurd (none_within guide h);
   tall = λ guide h. absurd (none_within guide h);
@@ -156,10 +161,10 @@ drop_first [] index less = absurd (omega (arith, less))
 drop_first (x ∷ xs) zero less = refl
 drop_first (x ∷ xs) (suc index) less = drop_first xs index (omega (arith, less))
 
-module _ (old new : List Node) (top : List Guide) (is : IsTop old top) where
+module _ {shared : ℕ} (old new : List Node) (top : List Guide) (is : IsTop shared old top) where
   -- some of the entries, whose places stay
   pub top_some : (left : List Guide) → AscendPlaces old (places_of left) → ((guide : Guide) → Contains left guide → Contains top guide)
-      → ((guide : Guide) → Contains left guide → Stays old new guide.place) → IsTop new left
+      → ((guide : Guide) → Contains left guide → Stays old new guide.place) → IsTop shared new left
   top_some left ascends some stays = record {
     places = record {
       linked = λ x h.
@@ -171,11 +176,11 @@ module _ (old new : List Node) (top : List Guide) (is : IsTop old top) where
           let m = unmapped (λ guide. guide.place) left x h in
           subst (λ (p : ℕ). version_at new p ≡ version_at old p) m.2 (stays m.0 m.1).0) ascends;
     };
-    tells = λ guide h. subst (TellsVersion guide) (sym (stays guide h).0) (is.tells guide (some guide h));
+    tells = λ guide h. subst (TellsVersion shared guide) (sym (stays guide h).0) (is.tells guide (some guide h));
     tall = λ guide h tall. (stays guide h).1 (LEVELS - 1) (omega arith) (is.tall guide (some guide h) tall);
   }
 
-  pub top_kept : ((x : ℕ) → Contains (places_of top) x → Stays old new x) → IsTop new top
+  pub top_kept : ((x : ℕ) → Contains (places_of top) x → Stays old new x) → IsTop shared new top
   top_kept stays = top_some top is.places.ascends (λ guide h. h) (λ guide h. stays guide.place (place_of top guide h))
 
   in_either : (index : ℕ) (guide : Guide) → Contains (take index top ++ drop index top) guide → Contains top guide
@@ -186,7 +191,7 @@ module _ (old new : List Node) (top : List Guide) (is : IsTop old top) where
       → ((x : ℕ) → Contains (places_of top) x → Stays old new x)
       → version_at new place ≡ version → ((level : ℕ) → level < LEVELS → level < height → Contains (places_on new level) place)
       → ((x : ℕ) → Contains (places_of top) x → IsAt (version_at old x) version.key version.number → ⊥)
-      → GUIDE_HEIGHT ≤ height → IsGuideTo new place height guide → IsTop new (insert top index guide)
+      → GUIDE_HEIGHT ≤ height → IsGuideTo shared new place height guide → IsTop shared new (insert top index guide)
   top_more place height version index guide cut stays at here apart high to = record {
     places = record {
       linked = λ x h.
@@ -201,8 +206,9 @@ module _ (old new : List Node) (top : List Guide) (is : IsTop old top) where
           (λ x h. before x h) (λ x h. after x h));
     };
     tells = λ g h. elim (amid_cases (take index top) (drop index top) guide g h) [
-      | inl same ↦ subst (λ (e : Guide). TellsVersion e (version_at new e.place)) same (subst (λ (p : ℕ). TellsVersion guide (version_at new p)) (sym to.at) to.tells)
-      | inr was ↦ subst (TellsVersion g) (sym (was_kept g was).0) (is.tells g (in_either index g was))
+      | inl same ↦ subst (λ (e : Guide). TellsVersion shared e (version_at new e.place)) same
+          (subst (λ (p : ℕ). TellsVersion shared guide (version_at new p)) (sym to.at) to.tells)
+      | inr was ↦ subst (TellsVersion shared g) (sym (was_kept g was).0) (is.tells g (in_either index g was))
     ];
     tall = λ g h tall. elim (amid_cases (take index top) (drop index top) guide g h) [
       | inl same ↦ subst (λ (e : Guide). Contains (places_on new (LEVELS - 1)) e.place) same
@@ -245,8 +251,8 @@ module _ (old new : List Node) (top : List Guide) (is : IsTop old top) where
   -- the entry of a place less
   pub top_less : (place index : ℕ) (left : List Guide) → IsTopCut old (places_of top) (version_at old place).key (version_at old place).number index
       → TakesFromTop top index place left
-      → ((x : ℕ) → Contains (places_of top) x → x ≢ place → Stays old new x) → IsTop new left
-  top_less place index left cut (inl (less, at, gone)) stays = subst (IsTop new) (sym gone)
+      → ((x : ℕ) → Contains (places_of top) x → x ≢ place → Stays old new x) → IsTop shared new left
+  top_less place index left cut (inl (less, at, gone)) stays = subst (IsTop shared new) (sym gone)
       (top_some (take index top ++ drop (suc index) top)
       (subst (AscendPlaces old) (sym (map-append (λ g. g.place) (take index top) (drop (suc index) top)))
       (ascend_out old (places_of (take index top)) (places_of (drop (suc index) top)) place whole))
@@ -289,7 +295,7 @@ module _ (old new : List Node) (top : List Guide) (is : IsTop old top) where
             (within_head place (places_of (drop (suc index) top)))))
         | inr late ↦ itself x (inr ((ascend_back old (places_of (take index top)) (place ∷ places_of (drop (suc index) top)) whole).0 x late))
       ]
-  top_less place index left cut (inr (other, same)) stays = subst (IsTop new) (sym same) (top_kept (λ x h. stays x h (apart x h)))
+  top_less place index left cut (inr (other, same)) stays = subst (IsTop shared new) (sym same) (top_kept (λ x h. stays x h (apart x h)))
     where
       none : Contains (places_of top) place → ⊥
       none h = elim (Contains-append_cases (take index (places_of top)) (drop index (places_of top)) place

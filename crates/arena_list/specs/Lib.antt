@@ -7,6 +7,7 @@ pub mod Chains
 pub mod Leads
 pub mod Nodes
 pub mod Steps
+pub mod Fronts
 pub mod Tops
 pub mod Keeping
 pub mod Theorems

@@ -43,7 +43,7 @@ version_in node = record { key = key_of node.held; number = node.seq; value = va
 -- ---- a vector of nodes
 
 abbrev pub no_node : Node
-no_node = record { held = Vacant; seq = 0; links = [] }
+no_node = record { held = Vacant; lead = 0; seq = 0; links = [] }
 
 abbrev pub node_at : List Node → ℕ → Node
 node_at nodes place = slice_index_or nodes place no_node

@@ -55,6 +55,7 @@ AreOtherPlaces lasts place = (level : ℕ) → level < LEVELS → slice_index la
 pub record KeepsVersions (old new : List Node) : Type 0 where
   pub len : length new ≡ length old
   pub held : (place : ℕ) → (node_at new place).held ≡ (node_at old place).held
+  pub lead : (place : ℕ) → (node_at new place).lead ≡ (node_at old place).lead
   pub seq : (place : ℕ) → (node_at new place).seq ≡ (node_at old place).seq
 
 -- So many levels high each of the nodes leads on to the place.
@@ -89,11 +90,13 @@ TakesPlace nodes free place new_nodes new_free =
     ⊎ ((free.first ≡ 0) × MakesPlace nodes place new_nodes × (new_free ≡ free))
 
 -- A version is put into a place, which leads on to what these nodes led on to, and they lead on to it, so many levels high.
-pub record PutsIn (old : List Node) (lasts : List ℕ) (place height : ℕ) (held : Held) (seq : ℕ) (new : List Node) : Type 0 where
+pub record PutsIn (old : List Node) (lasts : List ℕ) (place height : ℕ) (held : Held) (lead seq : ℕ) (new : List Node) : Type 0 where
   pub len : length new ≡ length old
   pub holds : (node_at new place).held ≡ held
+  pub leads : (node_at new place).lead ≡ lead
   pub has : (node_at new place).seq ≡ seq
   pub kept : (other : ℕ) → other ≢ place → (node_at new other).held ≡ (node_at old other).held
+  pub led : (other : ℕ) → other ≢ place → (node_at new other).lead ≡ (node_at old other).lead
   pub same : (other : ℕ) → other ≢ place → (node_at new other).seq ≡ (node_at old other).seq
   pub to : (level : ℕ) → level < height → next_on new level (slice_index lasts level) ≡ place
   pub on : (level : ℕ) → level < height → next_on new level place ≡ next_on old level (slice_index lasts level)
@@ -105,6 +108,7 @@ pub record TakesOut (old : List Node) (lasts : List ℕ) (place first : ℕ) (ne
   pub vacant : is_vacant (node_at new place).held ≡ true
   pub next : next_on new 0 place ≡ first
   pub held : (other : ℕ) → other ≢ place → (node_at new other).held ≡ (node_at old other).held
+  pub lead : (other : ℕ) → other ≢ place → (node_at new other).lead ≡ (node_at old other).lead
   pub seq : (other : ℕ) → other ≢ place → (node_at new other).seq ≡ (node_at old other).seq
   pub to : (level : ℕ) → level < LEVELS → slice_index lasts level ≢ place → next_on old level (slice_index lasts level) ≡ place
       → next_on new level (slice_index lasts level) ≡ next_on old level place

@@ -4,10 +4,11 @@ ghost use Rattle.std.specs.Prelude.{◌≡◌, ◌↔◌, ◌<◌, IsTrue, lengt
 ghost use Rattle.std.specs.Ordering.{nat_cmp};
 ghost use Rattle.std.specs.Cmp.Lexicographic.{slice_cmp};
 ghost use Rattle.arena_list.specs.Versions.{GoesBefore};
-ghost use Rattle.arena_list.specs.Nodes.{version_in, version_at};
+ghost use Rattle.arena_list.specs.Nodes.{node_at, version_in, version_at};
+ghost use Rattle.arena_list.specs.Fronts.{HasFront, IsTold};
 ghost use Rattle.arena_list.specs.Tops.{TellsVersion};
 
-use crate::lead::{LEAD_SIZE, length_in_lead};
+use crate::lead::{lead, length_in_lead, rest_of};
 use crate::node::{Node, Place};
 use crate::sought::Sought;
 use std::cmp::Ordering;
@@ -19,7 +20,8 @@ pub(crate) struct Guide {
     lead: u64,
     number: u64,
     pub(crate) place: Place,
-    /// The length of its key, where it ends within the lead. Lead and length tell such a key whole.
+    /// The length of what follows the front in its key, where that ends within the lead. Front, lead and length tell such
+    /// a key whole.
     len: Option<u8>,
     /// Whether its tower has all levels.
     pub(crate) is_tall: bool,
@@ -28,17 +30,18 @@ pub(crate) struct Guide {
 const _: () = prove!(size_of::<Guide>() == 24);
 
 impl Guide {
-    /// What is compared of a node's version, and where the node stands.
-    pub(crate) fn of(node: &Node, place: Place, is_tall: bool) -> Guide
+    /// What is compared of a node's version, whose key has a front of so many bytes, and where the node stands.
+    pub(crate) fn of(node: &Node, place: Place, is_tall: bool, shared: usize) -> Guide
         ensures place { result.place ≡ place }
         ensures tall { result.is_tall ≡ is_tall }
-        ensures tells { TellsVersion result (version_in node.now) }
+        ensures tells { TellsVersion shared result (version_in node.now) }
     {
+        let rest = rest_of(node.held.key(), shared);
         Guide {
-            lead: node.held.lead(),
+            lead: lead(rest),
             number: node.seq,
             place,
-            len: length_in_lead(node.held.key()),
+            len: length_in_lead(rest),
             is_tall,
         }
     }
@@ -47,7 +50,10 @@ impl Guide {
     /// leads.
     fn order(&self, nodes: &[Node], sought: &Sought<'_>) -> Ordering
         requires node { self.now.place < length nodes.now }
-        requires tells { TellsVersion self.now (version_at nodes.now self.now.place) }
+        requires tells { TellsVersion sought.now.shared self.now
+            (version_at nodes.now self.now.place) }
+        requires told { IsTold (node_at nodes.now self.now.place) sought.now }
+        requires front { HasFront sought.now.shared (node_at nodes.now self.now.place) }
         ensures { result
             ≡ slice_cmp nat_cmp (version_at nodes.now self.now.place).key sought.now.key.now }
     {
@@ -58,16 +64,21 @@ impl Guide {
             return Ordering::Greater;
         }
         match self.len {
-            Some(len) => usize::from(len).cmp(&sought.key.len()),
-            None if sought.key.len() <= LEAD_SIZE => Ordering::Greater,
-            None => nodes[self.place as usize].held.order(sought),
+            Some(len) if sought.extent > 0 => usize::from(len).cmp(
+                &(sought.key.len() - sought.shared),
+            ),
+            None if sought.key.len() <= sought.extent => Ordering::Greater,
+            _ => nodes[self.place as usize].order(sought),
         }
     }
 
     /// Whether the version of its node goes before what is sought.
     pub(crate) fn is_before(&self, nodes: &[Node], sought: &Sought<'_>) -> bool
         requires node { self.now.place < length nodes.now }
-        requires tells { TellsVersion self.now (version_at nodes.now self.now.place) }
+        requires tells { TellsVersion sought.now.shared self.now
+            (version_at nodes.now self.now.place) }
+        requires told { IsTold (node_at nodes.now self.now.place) sought.now }
+        requires front { HasFront sought.now.shared (node_at nodes.now self.now.place) }
         ensures { IsTrue result
             ↔ GoesBefore (version_at nodes.now self.now.place) sought.now.key.now sought.now.number }
     {

@@ -1,9 +1,10 @@
 //! Taking out, in one walk, the versions that no mark keeps.
 
-ghost use Rattle.std.specs.Prelude.{◌≡◌, ◌↔◌, leb, IsTrue, filter};
+ghost use Rattle.std.specs.Prelude.{◌≡◌, ◌≢◌, ◌↔◌, ◌<◌, leb, IsTrue, filter, length};
 ghost use Rattle.std.specs.List.Sorted.{IsNonDecreasing};
-ghost use Rattle.arena_list.specs.Nodes.{IsArena, version_in};
+ghost use Rattle.arena_list.specs.Nodes.{IsArena, node_at, version_at};
 ghost use Rattle.arena_list.specs.Steps.{AreWithin};
+ghost use Rattle.arena_list.specs.Fronts.{ShareFront, HaveFront};
 ghost use Rattle.arena_list.specs.Keeping.{IsBetween, IsNewerFor, StepsOver, Sweeps, is_full};
 
 use crate::guide::Guide;
@@ -29,11 +30,18 @@ fn is_marked(marks: &[u64], number: u64, most: Option<u64>) -> bool
     }
 }
 
-/// The number of a version where it is of the same key as the next one: the next newer of that one's key.
-fn newer_than(version: &Node, next: &Node) -> Option<u64>
-    ensures { IsNewerFor (version_in version.now) (version_in next.now) result }
+/// The number of the version at a place where it is of the same key as the one at the next place: the next newer of that
+/// one's key. The keys of both have a front of so many bytes.
+fn newer_than(nodes: &[Node], place: Place, next: Place, shared: usize) -> Option<u64>
+    requires place { place < length nodes.now }
+    requires next { next < length nodes.now }
+    requires front { next ≢ 0 → HaveFront shared (node_at nodes.now next)
+        (node_at nodes.now place) }
+    ensures { next ≢ 0 → IsNewerFor (version_at nodes.now place) (version_at nodes.now next)
+        result }
 {
-    if next.has_key_of(version) {
+    let version = &nodes[place as usize];
+    if next != 0 && nodes[next as usize].has_key_of(version, shared) {
         Some(version.seq)
     } else {
         None
@@ -53,10 +61,12 @@ fn step_over(nodes: &[Node], lasts: &mut [Place; LEVELS], place: Place)
 }
 
 /// Takes out the versions that are their key's newest below none of the marks, and answers how many.
-pub(crate) fn sweep(nodes: &mut [Node], free: &mut FreeList, marks: &[u64]) -> u64
+pub(crate) fn sweep(nodes: &mut [Node], free: &mut FreeList, shared: usize, marks: &[u64]) -> u64
     requires arena { IsArena nodes.old free.old.first free.old.count }
+    requires front { ShareFront shared nodes.old }
     requires marks { IsNonDecreasing marks.now }
-    ensures { Sweeps nodes.old free.old marks.now nodes.new free.new result }
+    ensures swept { Sweeps nodes.old free.old marks.now nodes.new free.new result }
+    ensures front { ShareFront shared nodes.new }
 {
     let mut lasts = [0; LEVELS];
     let mut place = nodes[0].links[0];
@@ -66,7 +76,7 @@ pub(crate) fn sweep(nodes: &mut [Node], free: &mut FreeList, marks: &[u64]) -> u
         let node = &nodes[place as usize];
         let next = node.links[0];
         let wanted = is_marked(marks, node.seq, newer);
-        newer = newer_than(node, &nodes[next as usize]);
+        newer = newer_than(nodes, place, next, shared);
         if wanted {
             step_over(nodes, &mut lasts, place);
         } else {

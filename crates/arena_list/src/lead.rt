@@ -1,9 +1,9 @@
 //! The lead of a key: its first bytes as one number.
 
-ghost use Rattle.std.specs.Prelude.{◌≡◌, ◌↔◌, IsTrue};
+ghost use Rattle.std.specs.Prelude.{◌≡◌, ◌↔◌, ◌≤◌, IsTrue, length, take, drop};
 ghost use Rattle.std.specs.Ordering.{nat_cmp};
 ghost use Rattle.std.specs.Cmp.Lexicographic.{slice_cmp};
-ghost use Rattle.arena_list.specs.Leads.{lead_of, IsLengthInLead, AreBytes};
+ghost use Rattle.arena_list.specs.Leads.{lead_of, IsLengthInLead, LengthsTell, AreBytes};
 
 use std::cmp::Ordering;
 
@@ -35,23 +35,46 @@ pub(crate) fn length_in_lead(key: &[u8]) -> Option<u8>
     }
 }
 
-/// How two keys with the same lead stand to each other. Where one of them ends within the lead, one begins with the
-/// other, so their lengths decide. Only else their bytes are read.
-pub(crate) fn order_of_same_lead(key: &[u8], other: &[u8]) -> Ordering
-    requires { lead_of key.now ≡ lead_of other.now }
+/// What follows so many bytes of a key, and nothing where it has fewer.
+pub(crate) fn rest_of(key: &[u8], shared: usize) -> &[u8]
+    ensures { result.now ≡ drop shared key.now }
+{
+    match key.get(shared..) {
+        Some(rest) => rest,
+        None => &[],
+    }
+}
+
+/// How many bytes at their front two keys have in common.
+pub(crate) fn shared_len(key: &[u8], other: &[u8]) -> usize
+    ensures within { result ≤ length key.now }
+    ensures too { result ≤ length other.now }
+    ensures shared { take result key.now ≡ take result other.now }
+{
+    let mut shared = 0;
+    while shared < key.len() && shared < other.len() && key[shared] == other[shared] {
+        shared += 1;
+    }
+    shared
+}
+
+/// How two keys with the same lead stand to each other. Where one of them ends within what the leads tell, one begins
+/// with the other, so their lengths decide. Only else their bytes are read.
+pub(crate) fn order_of_same_lead(key: &[u8], other: &[u8], extent: usize) -> Ordering
+    requires { LengthsTell key.now other.now extent }
     ensures { result ≡ slice_cmp nat_cmp key.now other.now }
 {
-    if key.len() <= LEAD_SIZE || other.len() <= LEAD_SIZE {
+    if key.len() <= extent || other.len() <= extent {
         return key.len().cmp(&other.len());
     }
     key.cmp(other)
 }
 
 /// Whether two keys with the same lead are equal. Their bytes are read only where they are equally long and go on after
-/// the lead.
-pub(crate) fn is_same_key(key: &[u8], other: &[u8]) -> bool
-    requires { lead_of key.now ≡ lead_of other.now }
+/// what the leads tell.
+pub(crate) fn is_same_key(key: &[u8], other: &[u8], extent: usize) -> bool
+    requires { LengthsTell key.now other.now extent }
     ensures { IsTrue result ↔ (key.now ≡ other.now) }
 {
-    key.len() == other.len() && (key.len() <= LEAD_SIZE || key == other)
+    key.len() == other.len() && (key.len() <= extent || key == other)
 }

@@ -5,10 +5,12 @@
 //!
 //! What holds of each value here: the node at place 0 holds nothing and heads each level; what is linked at a level
 //! ascends, and is linked at the level below too; each other node is linked at level 0 or is free, and no place is both.
-//! A vector has what is compared of the nodes with high towers, in order, for searches to begin at.
+//! A vector has what is compared of the nodes with high towers, in order, for searches to begin at. All keys that are held
+//! begin with the same so many bytes, and each lead is of what follows these.
 #![tactic(auto)]
 
 mod found;
+mod front;
 mod guide;
 mod keeping;
 mod lead;

@@ -4,7 +4,7 @@ ghost use Rattle.std.specs.Prelude.{◌≡◌, ◌≢◌, ℕ, ◌+◌, ◌^◌,
 ghost use Rattle.arena_list.specs.Nodes.{node_at, next_on, AreFree};
 ghost use Rattle.arena_list.specs.Steps.{AreWithin, AreOtherPlaces, LinksIn, LinksOut, MakesPlace, TakesPlace, PutsIn, TakesOut};
 
-use crate::node::{Keyed, LEVELS, Node, Place};
+use crate::node::{Held, LEVELS, Node, Place};
 use std::mem::replace;
 use wal_base::NoMemory;
 
@@ -111,17 +111,23 @@ pub(crate) fn put_in(
     lasts: &[Place; LEVELS],
     place: Place,
     height: usize,
-    held: Keyed,
+    held: Held,
+    lead: u64,
     seq: u64,
 )
     requires height { height ≤ LEVELS }
     requires within { AreWithin nodes.old lasts.now }
     requires place { place < length nodes.old }
     requires apart { AreOtherPlaces lasts.now place }
-    ensures { PutsIn nodes.old lasts.now place height held seq nodes.new }
+    ensures { PutsIn nodes.old lasts.now place height held lead seq nodes.new }
 {
     let links = links_after(nodes, lasts, height);
-    nodes[place as usize] = Node { links, held, seq };
+    nodes[place as usize] = Node {
+        links,
+        seq,
+        lead,
+        held,
+    };
     link_in(nodes, lasts, place, height);
 }
 
@@ -131,7 +137,7 @@ pub(crate) fn take_out(
     lasts: &[Place; LEVELS],
     place: Place,
     first: Place,
-) -> Keyed
+) -> Held
     requires within { AreWithin nodes.old lasts.now }
     requires place { place < length nodes.old }
     ensures out { TakesOut nodes.old lasts.now place first nodes.new }

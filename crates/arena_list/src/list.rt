@@ -10,11 +10,12 @@ ghost use Rattle.arena_list.specs.Spots.{IsLastBefore, IsFirstFrom};
 ghost use Rattle.arena_list.specs.Arena.{on_level, places_in, UsesPlace, MakesRoom};
 
 use crate::found::Found;
+use crate::front::lower_front;
 use crate::guide::Guide;
 use crate::keeping::{keep_full, sweep};
 use crate::links::{FreeList, make_place, put_in, take_out, take_place};
 use crate::marks::Marks;
-use crate::node::{GUIDE_HEIGHT, Keyed, LEVELS, Node};
+use crate::node::{GUIDE_HEIGHT, Held, LEVELS, Node};
 use crate::search::find;
 use crate::sought::Sought;
 use crate::top::{find_spot, lasts_for, put_in_top, take_from_top};
@@ -34,6 +35,8 @@ pub struct ArenaList {
     nodes: Vec<Node>,
     /// What is compared of nodes with high towers, in order, where a search begins.
     top: Vec<Guide>,
+    /// How many first bytes are the same in all keys.
+    shared: usize,
     free: FreeList,
     /// How many insertions there were.
     inserted: u64,
@@ -42,6 +45,7 @@ pub struct ArenaList {
 impl Model for ArenaList {
     ghost use Rattle.arena_list.specs.Arena.{Arena};
     ghost use Rattle.arena_list.specs.Nodes.{arena_of, IsArena};
+    ghost use Rattle.arena_list.specs.Fronts.{ShareFront};
     ghost use Rattle.arena_list.specs.Tops.{IsTop};
 
     ghost Value = { Arena };
@@ -49,7 +53,7 @@ impl Model for ArenaList {
     ghost view = { λ a. arena_of a.nodes.items a.free.count };
 
     ghost invariant = { λ a. IsArena a.nodes.items a.free.first a.free.count
-        × IsTop a.nodes.items a.top.items };
+        × ShareFront a.shared a.nodes.items × IsTop a.shared a.nodes.items a.top.items };
 }
 
 /// The height of the tower of the n-th insertion: 1 plus the number of trailing zero bits of n, at most `LEVELS`.
@@ -71,6 +75,7 @@ impl ArenaList {
         Ok(ArenaList {
             nodes,
             top: Vec::new(alloc),
+            shared: 0,
             free: FreeList { first: 0, count: 0 },
             inserted: 0,
         })
@@ -110,16 +115,19 @@ impl ArenaList {
     {
         let inserted = self.inserted.wrapping_add(1);
         let height = tower_height(inserted);
-        let sought = Sought::new(key.as_slice(), seq);
+        let (nodes, top) = (self.nodes.as_mut_slice(), self.top.as_mut_slice());
+        self.shared = lower_front(nodes, top, self.shared, key.as_slice());
+        let sought = Sought::behind(self.shared, key.as_slice(), seq);
+        let lead = sought.lead;
         let spot = find_spot(self.nodes.as_slice(), self.top.as_slice(), &sought, height);
         let Ok(place) = take_place(&mut self.nodes, &mut self.free) else {
             return Err((key, value));
         };
         self.inserted = inserted;
-        let held = Keyed::new(key, value);
+        let held = Held::of(key, value);
         let nodes = self.nodes.as_mut_slice();
-        put_in(nodes, &spot.lasts, place, height, held, seq);
-        put_in_top(&mut self.top, nodes, spot.index, place, height);
+        put_in(nodes, &spot.lasts, place, height, held, lead, seq);
+        put_in_top(&mut self.top, nodes, spot.index, place, height, self.shared);
         Ok(())
     }
 
@@ -130,8 +138,8 @@ impl ArenaList {
         let Some(number) = below.checked_sub(1) else {
             return Found::Nothing;
         };
-        let sought = Sought::new(key, number);
         let nodes = self.nodes.as_slice();
+        let sought = Sought::among(nodes, self.shared, key, number);
         let spot = find_spot(nodes, self.top.as_slice(), &sought, 1);
         let place = nodes[spot.lasts[0] as usize].links[0];
         if place == 0 || !nodes[place as usize].has_key(&sought) {
@@ -145,8 +153,8 @@ impl ArenaList {
     pub fn before(&self, key: &[u8], seq: u64) -> Option<Version<'_>>
         ensures { IsLastBefore self.now.versions key.now seq (option_map version_shown result) }
     {
-        let sought = Sought::new(key, seq);
         let nodes = self.nodes.as_slice();
+        let sought = Sought::among(nodes, self.shared, key, seq);
         let spot = find_spot(nodes, self.top.as_slice(), &sought, 1);
         let place = spot.lasts[0];
         if place == 0 {
@@ -159,8 +167,8 @@ impl ArenaList {
     pub fn from(&self, key: &[u8], seq: u64) -> Option<Version<'_>>
         ensures { IsFirstFrom self.now.versions key.now seq (option_map version_shown result) }
     {
-        let sought = Sought::new(key, seq);
         let nodes = self.nodes.as_slice();
+        let sought = Sought::among(nodes, self.shared, key, seq);
         let spot = find_spot(nodes, self.top.as_slice(), &sought, 1);
         let place = nodes[spot.lasts[0] as usize].links[0];
         if place == 0 {
@@ -192,8 +200,8 @@ impl ArenaList {
     pub fn walk_from(&self, key: &[u8], seq: u64) -> Walk<'_>
         ensures { IsRestFrom self.now.versions key.now seq result }
     {
-        let sought = Sought::new(key, seq);
         let nodes = self.nodes.as_slice();
+        let sought = Sought::among(nodes, self.shared, key, seq);
         let spot = find_spot(nodes, self.top.as_slice(), &sought, 1);
         Walk::from(nodes, nodes[spot.lasts[0] as usize].links[0])
     }
@@ -207,8 +215,8 @@ impl ArenaList {
         ensures places { places_in self.new ≡ places_in self.old }
         ensures unchanged { OnFalse result (self.new ≡ self.old) }
     {
-        let sought = Sought::new(key, seq);
         let (nodes, top) = (self.nodes.as_slice(), self.top.as_slice());
+        let sought = Sought::among(nodes, self.shared, key, seq);
         let spot = find_spot(nodes, top, &sought, GUIDE_HEIGHT);
         let Some(place) = find(nodes, &spot.lasts, &sought) else {
             return false;
@@ -224,15 +232,16 @@ impl ArenaList {
     /// Takes the first version that does not go before the spot of a key and a number out, hands it over, and frees its
     /// place. `None` exactly where there is none. It takes no memory.
     pub fn take_from(&mut self, key: &[u8], seq: u64) -> Option<(Blob, u64, Option<Blob>)>
-        ensures first { IsFirstFrom self.old.versions key.now seq (option_map version_taken result) }
+        ensures first { IsFirstFrom self.old.versions key.now seq
+            (option_map version_taken result) }
         ensures versions { IfSome result
             (λ taken. LeavesOut self.old.versions taken.0 taken.1 self.new.versions) }
         ensures free { OnSome result (self.new.free ≡ self.old.free + 1) }
         ensures places { places_in self.new ≡ places_in self.old }
         ensures unchanged { IfNone result (self.new ≡ self.old) }
     {
-        let sought = Sought::new(key, seq);
         let (nodes, top) = (self.nodes.as_slice(), self.top.as_slice());
+        let sought = Sought::among(nodes, self.shared, key, seq);
         let spot = find_spot(nodes, top, &sought, GUIDE_HEIGHT);
         let taken = nodes[spot.lasts[0] as usize].links[0];
         if taken == 0 {
@@ -260,7 +269,8 @@ impl ArenaList {
         ensures fewer { result + length self.new.versions ≡ length self.old.versions }
         ensures freed { self.new.free ≡ self.old.free + result }
     {
-        let removed = sweep(self.nodes.as_mut_slice(), &mut self.free, marks.as_slice());
+        let nodes = self.nodes.as_mut_slice();
+        let removed = sweep(nodes, &mut self.free, self.shared, marks.as_slice());
         keep_full(self.nodes.as_slice(), &mut self.top);
         removed
     }

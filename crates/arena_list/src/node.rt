@@ -3,15 +3,14 @@
 ghost use Rattle.std.specs.Prelude.{◌≡◌, ◌↔◌, ℕ, ◌<◌, true, not, IsTrue, slice_index, option_map};
 ghost use Rattle.std.specs.Ordering.{nat_cmp};
 ghost use Rattle.std.specs.Cmp.Lexicographic.{slice_cmp};
-ghost use Rattle.arena_list.specs.Leads.{lead_of, AreBytes};
 ghost use Rattle.arena_list.specs.Versions.{IsAt, GoesBefore, version_shown};
 ghost use Rattle.arena_list.specs.Nodes.{key_of, value_of, held_of, unless_vacant, is_vacant, version_in};
+ghost use Rattle.arena_list.specs.Fronts.{HaveFront, IsTold};
 
-use crate::lead::{is_same_key, lead, order_of_same_lead};
+use crate::lead::{LEAD_SIZE, is_same_key, order_of_same_lead};
 use crate::sought::Sought;
 use crate::version::Version;
 use std::cmp::Ordering;
-use std::marker::Model;
 use std::mem::size_of;
 use wal_base::Blob;
 
@@ -34,28 +33,6 @@ pub(crate) enum Held {
     Set { key: Blob, bytes: Blob },
 }
 
-/// What a node holds, with the lead of its key beside it: most comparisons of keys end at that, and read no bytes from
-/// elsewhere. Contracts see what is held.
-#[derive(Drop)]
-pub(crate) struct Keyed {
-    lead: u64,
-    held: Held,
-}
-
-impl Model for Keyed {
-    ghost use Rattle.arena_list.specs.declared.node.Held.{Held};
-
-    ghost Value = { Held };
-
-    ghost use Rattle.std.specs.Prelude.{◌≡◌};
-    ghost use Rattle.arena_list.specs.Leads.{lead_of, AreBytes};
-    ghost use Rattle.arena_list.specs.Nodes.{key_of};
-
-    ghost view = { λ a. a.held };
-
-    ghost invariant = { λ a. (a.lead ≡ lead_of (key_of a.held)) × AreBytes (key_of a.held) };
-}
-
 /// A node, which has a place in the vector of them.
 #[derive(Drop)]
 pub(crate) struct Node {
@@ -63,7 +40,10 @@ pub(crate) struct Node {
     pub(crate) links: [Place; LEVELS],
     /// The number of its version. It stands beside the links and the lead, so that a comparison mostly reads no more.
     pub(crate) seq: u64,
-    pub(crate) held: Keyed,
+    /// The lead of its key, after the front that the keys of the list have in common. Most comparisons of keys end at that,
+    /// and read no bytes from elsewhere.
+    pub(crate) lead: u64,
+    pub(crate) held: Held,
 }
 
 /// How many bytes a node takes beside those of its two `Blob`s.
@@ -72,7 +52,28 @@ const OWN_SIZE: usize = 72;
 const _: () = prove!(size_of::<Node>() == OWN_SIZE + 2 * size_of::<Blob>());
 
 impl Held {
-    fn key(&self) -> &[u8]
+    /// The version with this key and value, but for its number.
+    pub(crate) fn of(key: Blob, value: Option<Blob>) -> Held
+        ensures { result ≡ held_of key value }
+    {
+        match value {
+            None => Held::Deletion { key },
+            Some(bytes) => Held::Set { key, bytes },
+        }
+    }
+
+    /// Hands over the key and the value of its version.
+    pub(crate) fn into_parts(self) -> Option<(Blob, Option<Blob>)>
+        ensures { option_map (λ parts. held_of parts.0 parts.1) result ≡ unless_vacant self }
+    {
+        match self {
+            Held::Vacant => None,
+            Held::Deletion { key } => Some((key, None)),
+            Held::Set { key, bytes } => Some((key, Some(bytes))),
+        }
+    }
+
+    pub(crate) fn key(&self) -> &[u8]
         ensures { result.now ≡ key_of self.now }
     {
         match self {
@@ -81,105 +82,14 @@ impl Held {
         }
     }
 
-    fn value(&self) -> Option<&[u8]>
+    /// The value that its version left the key with, and `None` for a deletion.
+    pub(crate) fn value(&self) -> Option<&[u8]>
         ensures { option_map (λ bytes. bytes.now) result ≡ value_of self.now }
     {
         match self {
             Held::Vacant | Held::Deletion { .. } => None,
             Held::Set { bytes, .. } => Some(bytes.as_slice()),
         }
-    }
-}
-
-impl Keyed {
-    /// The version with this key and value, but for its number.
-    pub(crate) fn new(key: Blob, value: Option<Blob>) -> Keyed
-        ensures { result ≡ held_of key value }
-    {
-        let lead = lead(key.as_slice());
-        match value {
-            None => Keyed {
-                lead,
-                held: Held::Deletion { key },
-            },
-            Some(bytes) => Keyed {
-                lead,
-                held: Held::Set { key, bytes },
-            },
-        }
-    }
-
-    /// Holds no version.
-    fn vacant() -> Keyed
-        ensures { is_vacant result ≡ true }
-    {
-        Keyed {
-            lead: 0,
-            held: Held::Vacant,
-        }
-    }
-
-    /// Hands over the key and the value of its version, which it holds.
-    pub(crate) fn into_parts(self) -> Option<(Blob, Option<Blob>)>
-        ensures { option_map (λ parts. held_of parts.0 parts.1) result ≡ unless_vacant self }
-    {
-        match self.held {
-            Held::Vacant => None,
-            Held::Deletion { key } => Some((key, None)),
-            Held::Set { key, bytes } => Some((key, Some(bytes))),
-        }
-    }
-
-    /// The lead of its key.
-    pub(crate) fn lead(&self) -> u64
-        ensures number { result ≡ lead_of (key_of self.now) }
-        ensures bytes { AreBytes (key_of self.now) }
-    {
-        self.lead
-    }
-
-    pub(crate) fn key(&self) -> &[u8]
-        ensures { result.now ≡ key_of self.now }
-    {
-        self.held.key()
-    }
-
-    /// The value that its version left the key with, and `None` for a deletion.
-    pub(crate) fn value(&self) -> Option<&[u8]>
-        ensures { option_map (λ bytes. bytes.now) result ≡ value_of self.now }
-    {
-        self.held.value()
-    }
-
-    /// Whether it holds a version.
-    fn is_full(&self) -> bool
-        ensures { result ≡ not (is_vacant self.now) }
-    {
-        match self.held {
-            Held::Vacant => false,
-            Held::Deletion { .. } | Held::Set { .. } => true,
-        }
-    }
-
-    /// How its key stands to the one that is sought. Nothing of its key is read unless the leads are equal. A search asks
-    /// this of each node, so the leads are compared by two tests: `cmp` would make an answer first, which is then tested.
-    pub(crate) fn order(&self, sought: &Sought<'_>) -> Ordering
-        ensures { result ≡ slice_cmp nat_cmp (key_of self.now) sought.now.key.now }
-    {
-        if self.lead < sought.lead {
-            return Ordering::Less;
-        }
-        if self.lead > sought.lead {
-            return Ordering::Greater;
-        }
-        order_of_same_lead(self.held.key(), sought.key)
-    }
-
-    /// Whether its version has the key that is sought. Nothing of its key is read unless the leads are equal.
-    fn has_key(&self, sought: &Sought<'_>) -> bool
-        ensures { IsTrue result ↔ (key_of self.now ≡ sought.now.key.now) }
-    {
-        self.lead == sought.lead && is_same_key(self.held.key(), sought.key)
     }
 }
 
@@ -194,48 +104,74 @@ impl Node {
         links[0] = next;
         Node {
             links,
-            held: Keyed::vacant(),
             seq: 0,
+            lead: 0,
+            held: Held::Vacant,
         }
+    }
+
+    /// How its key stands to the one that is sought. Nothing of its key is read unless the leads are equal. A search asks
+    /// this of each node, so the leads are compared by two tests: `cmp` would make an answer first, which is then tested.
+    pub(crate) fn order(&self, sought: &Sought<'_>) -> Ordering
+        requires { IsTold self.now sought.now }
+        ensures { result ≡ slice_cmp nat_cmp (key_of self.now.held) sought.now.key.now }
+    {
+        if self.lead < sought.lead {
+            return Ordering::Less;
+        }
+        if self.lead > sought.lead {
+            return Ordering::Greater;
+        }
+        order_of_same_lead(self.held.key(), sought.key, sought.extent)
     }
 
     /// Whether its version goes before what is sought.
     pub(crate) fn is_before(&self, sought: &Sought<'_>) -> bool
-        ensures { IsTrue result ↔ GoesBefore (version_in self.now) sought.now.key.now sought.now.number }
+        requires { IsTold self.now sought.now }
+        ensures { IsTrue result ↔ GoesBefore (version_in self.now) sought.now.key.now
+            sought.now.number }
     {
-        match self.held.order(sought) {
+        match self.order(sought) {
             Ordering::Less => true,
             Ordering::Equal => sought.number < self.seq,
             Ordering::Greater => false,
         }
     }
 
-    /// Whether its version has the key that is sought.
+    /// Whether its version has the key that is sought. Nothing of its key is read unless the leads are equal.
     pub(crate) fn has_key(&self, sought: &Sought<'_>) -> bool
+        requires { IsTold self.now sought.now }
         ensures { IsTrue result ↔ ((version_in self.now).key ≡ sought.now.key.now) }
     {
-        self.held.has_key(sought)
+        self.lead == sought.lead && is_same_key(self.held.key(), sought.key, sought.extent)
     }
 
-    /// Whether its version has the key of another one's. Nothing of the keys is read unless the leads are equal.
-    pub(crate) fn has_key_of(&self, other: &Node) -> bool
+    /// Whether its version has the key of another one's, where both have a front of so many bytes. Nothing of the keys is
+    /// read unless the leads are equal.
+    pub(crate) fn has_key_of(&self, other: &Node, shared: usize) -> bool
+        requires { HaveFront shared self.now other.now }
         ensures { IsTrue result ↔ ((version_in self.now).key ≡ (version_in other.now).key) }
     {
-        self.held.lead == other.held.lead && is_same_key(self.held.key(), other.held.key())
+        let key = self.held.key();
+        self.lead == other.lead && is_same_key(key, other.held.key(), shared + LEAD_SIZE)
     }
 
     /// Whether it holds a version.
     pub(crate) fn is_full(&self) -> bool
         ensures { result ≡ not (is_vacant self.now.held) }
     {
-        self.held.is_full()
+        match self.held {
+            Held::Vacant => false,
+            Held::Deletion { .. } | Held::Set { .. } => true,
+        }
     }
 
     /// Whether its version has the key and the number that are sought.
     pub(crate) fn is_at(&self, sought: &Sought<'_>) -> bool
+        requires { IsTold self.now sought.now }
         ensures { IsTrue result ↔ IsAt (version_in self.now) sought.now.key.now sought.now.number }
     {
-        self.seq == sought.number && self.held.has_key(sought)
+        self.seq == sought.number && self.has_key(sought)
     }
 
     /// Shows its version.

@@ -4,6 +4,7 @@ ghost use Rattle.std.specs.Prelude.{◌≡◌, ◌-◌, ◌<◌, ◌≤◌, leng
 ghost use Rattle.arena_list.specs.Nodes.{next_on, places_on, version_at, versions_on, IsLinked};
 ghost use Rattle.arena_list.specs.Versions.{IsAt, HoldsVersion};
 ghost use Rattle.arena_list.specs.Steps.{IsCut, MayGoOn, MayStop, AreCutsTo};
+ghost use Rattle.arena_list.specs.Fronts.{AreTold};
 
 use crate::node::{LEVELS, Node, Place};
 use crate::sought::Sought;
@@ -20,6 +21,7 @@ fn seek_on_level(nodes: &[Node], level: usize, from: Stop, sought: &Sought<'_>) 
     requires level { level < LEVELS }
     requires head { 0 < length nodes.now }
     requires linked { IsLinked nodes.now }
+    requires told { AreTold nodes.now sought.now }
     requires last { MayGoOn nodes.now level sought.now.key.now sought.now.number from.last }
     requires next { MayStop nodes.now sought.now.key.now sought.now.number from.next }
     ensures cut { IsCut nodes.now level sought.now.key.now sought.now.number result.last }
@@ -45,6 +47,7 @@ pub(crate) fn seek(
     requires height { height ≤ LEVELS }
     requires head { 0 < length nodes.now }
     requires linked { IsLinked nodes.now }
+    requires told { AreTold nodes.now sought.now }
     requires last { MayGoOn nodes.now (height - 1) sought.now.key.now sought.now.number from.last }
     requires next { MayStop nodes.now sought.now.key.now sought.now.number from.next }
     ensures { AreCutsTo nodes.now sought.now.key.now sought.now.number height result }
@@ -65,7 +68,9 @@ pub(crate) fn seek(
 pub(crate) fn find(nodes: &[Node], lasts: &[Place; LEVELS], sought: &Sought<'_>) -> Option<Place>
     requires head { 0 < length nodes.now }
     requires linked { IsLinked nodes.now }
-    requires cut { IsCut nodes.now 0 sought.now.key.now sought.now.number (slice_index lasts.now 0) }
+    requires told { AreTold nodes.now sought.now }
+    requires cut { IsCut nodes.now 0 sought.now.key.now sought.now.number
+        (slice_index lasts.now 0) }
     ensures held { IfSome result (Contains (places_on nodes.now 0)) }
     ensures next { IfSome result
         (λ place. place ≡ next_on nodes.now 0 (slice_index lasts.now 0)) }

@@ -9,6 +9,8 @@ use std::collections::BTreeMap;
 use std::process::Abort;
 use wal_base::{Blob, NoMemory};
 
+mod fronts;
+
 fn blob(rt: &impl Abort, alloc: Global, bytes: &[u8]) -> Blob
     ensures { result ≡ bytes.now }
 {
@@ -461,20 +463,24 @@ fn has_near_keys(rt: &impl Abort, list: &ArenaList, keys: &[&[u8]]) {
     }
 }
 
+/// Puts keys in one after another, and takes them out. All the time those that are held are found, in order.
+fn come_and_go(rt: &impl Abort, rig: &mut Rig, keys: &[&[u8]]) {
+    for held in 0..keys.len() {
+        assert_eq!(rt; rig.list.newest(keys[held], u64::MAX), Found::Nothing);
+        rig.put(rt, keys[held], held as u64, Some(keys[held]));
+        has_near_keys(rt, &rig.list, &keys[..held + 1]);
+    }
+    for held in 0..keys.len() {
+        assert!(rt; rig.list.remove(keys[held], held as u64));
+        assert_eq!(rt; rig.list.newest(keys[held], u64::MAX), Found::Nothing);
+        has_near_keys(rt, &rig.list, &keys[held + 1..]);
+    }
+}
+
 #[test]
 fn keys_are_in_the_order_of_their_bytes_whatever_their_leads(rt: HostRuntime) {
     let mut rig = Rig::new(&rt, rt.alloc());
-    let keys = near_keys();
-    for held in 0..NEAR {
-        assert_eq!(&rt; rig.list.newest(keys[held], u64::MAX), Found::Nothing);
-        rig.put(&rt, keys[held], held as u64, Some(keys[held]));
-        has_near_keys(&rt, &rig.list, &keys[..held + 1]);
-    }
-    for held in 0..NEAR {
-        assert!(&rt; rig.list.remove(keys[held], held as u64));
-        assert_eq!(&rt; rig.list.newest(keys[held], u64::MAX), Found::Nothing);
-        has_near_keys(&rt, &rig.list, &keys[held + 1..]);
-    }
+    come_and_go(&rt, &mut rig, &near_keys());
 }
 
 /// A version that is shown, by its key and number.

@@ -4,11 +4,12 @@
 //! towers, one in 64, what is compared stands in a vector, side by side. A search finds its way in it by halves, mostly
 //! without a look at a node, and goes on along the levels below.
 
-ghost use Rattle.std.specs.Prelude.{◌≡◌, ◌⊎◌, ◌-◌, ◌<◌, ◌≤◌, IsTrue, Contains, length, slice_index, take, drop, vec_len};
+ghost use Rattle.std.specs.Prelude.{◌≡◌, ◌⊎◌, ℕ, ◌-◌, ◌<◌, ◌≤◌, IsTrue, Contains, length, slice_index, take, drop, vec_len};
 ghost use Rattle.arena_list.specs.declared.guide.Guide.{Guide as Entry};
 ghost use Rattle.arena_list.specs.Nodes.{next_on, IsLinked};
 ghost use Rattle.arena_list.specs.Steps.{AreCuts, AreCutsTo, AreLastsFor};
-ghost use Rattle.arena_list.specs.Tops.{places_of, IsTop, IsTopCut, PutsInTop, TakesFromTop};
+ghost use Rattle.arena_list.specs.Fronts.{ShareFront, AreTold};
+ghost use Rattle.arena_list.specs.Tops.{places_of, IsTop, IsTopCut, PutsInTop, TakesFromTop, guide_at, GuidesAnew};
 
 use crate::guide::Guide;
 use crate::node::{GUIDE_HEIGHT, LEVELS, Node, Place};
@@ -27,7 +28,9 @@ pub(crate) struct Spot {
 /// How many of the entries go before what is sought.
 fn count_before(nodes: &[Node], top: &[Guide], sought: &Sought<'_>) -> usize
     requires linked { IsLinked nodes.now }
-    requires top { IsTop nodes.now top.now }
+    requires front { ShareFront sought.now.shared nodes.now }
+    requires top { IsTop sought.now.shared nodes.now top.now }
+    requires told { AreTold nodes.now sought.now }
     ensures { IsTopCut nodes.now (places_of top.now) sought.now.key.now sought.now.number result }
 {
     let mut low = 0;
@@ -84,8 +87,10 @@ fn tall_before(top: &[Guide], index: usize) -> Place
 fn seek_low(nodes: &[Node], top: &[Guide], index: usize, sought: &Sought<'_>) -> [Place; LEVELS]
     requires head { 0 < length nodes.now }
     requires linked { IsLinked nodes.now }
-    requires top { IsTop nodes.now top.now }
-    requires index { IsTopCut nodes.now (places_of top.now) sought.now.key.now sought.now.number index }
+    requires top { IsTop sought.now.shared nodes.now top.now }
+    requires told { AreTold nodes.now sought.now }
+    requires index { IsTopCut nodes.now (places_of top.now) sought.now.key.now sought.now.number
+        index }
     ensures { AreCutsTo nodes.now sought.now.key.now sought.now.number GUIDE_HEIGHT result }
 {
     let from = Stop {
@@ -99,8 +104,10 @@ fn seek_low(nodes: &[Node], top: &[Guide], index: usize, sought: &Sought<'_>) ->
 fn seek_all(nodes: &[Node], top: &[Guide], index: usize, sought: &Sought<'_>) -> [Place; LEVELS]
     requires head { 0 < length nodes.now }
     requires linked { IsLinked nodes.now }
-    requires top { IsTop nodes.now top.now }
-    requires index { IsTopCut nodes.now (places_of top.now) sought.now.key.now sought.now.number index }
+    requires top { IsTop sought.now.shared nodes.now top.now }
+    requires told { AreTold nodes.now sought.now }
+    requires index { IsTopCut nodes.now (places_of top.now) sought.now.key.now sought.now.number
+        index }
     ensures { AreCuts nodes.now sought.now.key.now sought.now.number result }
 {
     let from = Stop {
@@ -115,7 +122,9 @@ pub(crate) fn find_spot(nodes: &[Node], top: &[Guide], sought: &Sought<'_>, heig
     requires height { height ≤ LEVELS }
     requires head { 0 < length nodes.now }
     requires linked { IsLinked nodes.now }
-    requires top { IsTop nodes.now top.now }
+    requires front { ShareFront sought.now.shared nodes.now }
+    requires top { IsTop sought.now.shared nodes.now top.now }
+    requires told { AreTold nodes.now sought.now }
     ensures lasts { AreCutsTo nodes.now sought.now.key.now sought.now.number height result.lasts }
     ensures index { IsTopCut nodes.now (places_of top.now) sought.now.key.now sought.now.number
         result.index }
@@ -140,9 +149,12 @@ pub(crate) fn lasts_for(
 ) -> [Place; LEVELS]
     requires head { 0 < length nodes.now }
     requires linked { IsLinked nodes.now }
-    requires top { IsTop nodes.now top.now }
-    requires lasts { AreCutsTo nodes.now sought.now.key.now sought.now.number GUIDE_HEIGHT spot.now.lasts }
-    requires index { IsTopCut nodes.now (places_of top.now) sought.now.key.now sought.now.number spot.now.index }
+    requires top { IsTop sought.now.shared nodes.now top.now }
+    requires told { AreTold nodes.now sought.now }
+    requires lasts { AreCutsTo nodes.now sought.now.key.now sought.now.number GUIDE_HEIGHT
+        spot.now.lasts }
+    requires index { IsTopCut nodes.now (places_of top.now) sought.now.key.now sought.now.number
+        spot.now.index }
     requires next { place ≡ next_on nodes.now 0 (slice_index spot.now.lasts 0) }
     ensures { AreLastsFor nodes.now sought.now.key.now sought.now.number place result }
 {
@@ -160,13 +172,14 @@ pub(crate) fn put_in_top(
     index: usize,
     place: Place,
     height: usize,
+    shared: usize,
 )
     requires index { index ≤ vec_len top.old }
     requires place { place < length nodes.now }
-    ensures { PutsInTop nodes.now top.old.items index place height top.new.items }
+    ensures { PutsInTop shared nodes.now top.old.items index place height top.new.items }
 {
     if height >= GUIDE_HEIGHT {
-        let guide = Guide::of(&nodes[place as usize], place, height == LEVELS);
+        let guide = Guide::of(&nodes[place as usize], place, height == LEVELS, shared);
         let _ = top.insert(index, guide);
     }
 }
@@ -177,5 +190,17 @@ pub(crate) fn take_from_top(top: &mut Vec<Guide>, index: usize, place: Place)
 {
     if index < top.len() && top[index].place == place {
         top.remove(index);
+    }
+}
+
+/// Makes all entries anew, of keys with a front of so many bytes.
+pub(crate) fn guide_anew(top: &mut [Guide], nodes: &[Node], shared: usize)
+    requires { (k : ℕ) → k < length top.old → (guide_at top.old k).place < length nodes.now }
+    ensures { GuidesAnew nodes.now shared (length top.old) top.old top.new }
+{
+    for index in 0..top.len() {
+        let place = top[index].place;
+        let is_tall = top[index].is_tall;
+        top[index] = Guide::of(&nodes[place as usize], place, is_tall, shared);
     }
 }

@@ -1,14 +1,15 @@
--- Keys of one length that end within the lead are told by it.
-use Rattle.std.proofs.Common.{◌≤◌, length, le-leb, rules}
-use Rattle.arena_list.specs.Leads.{AreBytes}
-use Rattle.arena_list.proofs.Leads.{lead_tells}
+-- Keys of one length that are within the extent are told by their lead.
+use Rattle.std.proofs.Common.{inl, ◌≤◌, length, nat_cmp, sym, ap, ◌∙◌, le-leb}
+use Rattle.std.proofs.lemmas.Cmp.{tied_itself, nat_cmp_total}
+use Rattle.arena_list.proofs.Orders.{keys_equal}
 use Rattle.arena_list.proofs.lead.is_same_key.Goals as goal
 
-pub returns-then-key-le-LEAD_SIZE : goal.returns-then-key-le-LEAD_SIZE
-returns-then-key-le-LEAD_SIZE c =
+pub returns-then-key-extent : goal.returns-then-key-extent
+returns-then-key-extent c =
     let key = c.args.key.now in
     let other = c.args.other.now in
-    let bytes : AreBytes key = search rules in
-    let other_bytes : AreBytes other = search rules in
-    let short : length key ≤ 8 = c.if-key-le-LEAD_SIZE.true in
-    (λ _. lead_tells key other bytes other_bytes c.if-key-other.true short c.requires, λ _. le-leb (length key) 8 short)
+    let short : length key ≤ c.args.extent = c.if-key-extent.true in (
+      λ _. keys_equal key other
+          (c.requires (inl short) ∙ ap (nat_cmp (length key)) (sym c.if-key-other.true) ∙ tied_itself nat_cmp_total (length key)),
+      λ _. le-leb (length key) c.args.extent short,
+    )

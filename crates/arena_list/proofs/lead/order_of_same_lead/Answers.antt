@@ -1,14 +1,11 @@
--- Where one of the keys ends within the lead, their lengths are in the order of the keys.
-use Rattle.std.proofs.Common.{◌⊎◌, inl, inr, ◌≤◌, length, sym, ◌∙◌, rules}
-use Rattle.arena_list.specs.Leads.{AreBytes}
-use Rattle.arena_list.proofs.Leads.{lead_same}
+-- Where one of the keys is within the extent, their lengths are in the order of the keys.
+use Rattle.std.proofs.Common.{◌⊎◌, inl, inr, ◌≤◌, length, sym, ◌∙◌}
 use Rattle.arena_list.proofs.lead.order_of_same_lead.Goals as goal
 
-pub returns-then-key-le-LEAD_SIZE : goal.returns-then-key-le-LEAD_SIZE
-returns-then-key-le-LEAD_SIZE c =
+pub returns-then-key-extent : goal.returns-then-key-extent
+returns-then-key-extent c =
     let key = c.args.key.now in
     let other = c.args.other.now in
-    let short : (length key ≤ 8) ⊎ (length other ≤ 8) = elim c.then-key-le-LEAD_SIZE.either [ inl less ↦ inl less | inr less ↦ inr less.1 ] in
-    let bytes : AreBytes key = search rules in
-    let other_bytes : AreBytes other = search rules in
-    c.cmp.ensures ∙ sym (lead_same key other bytes other_bytes short c.requires)
+    let short : (length key ≤ c.args.extent) ⊎ (length other ≤ c.args.extent) =
+    elim c.then-key-extent.either [ inl less ↦ inl less | inr less ↦ inr less.1 ] in
+    c.cmp.ensures ∙ sym (c.requires short)

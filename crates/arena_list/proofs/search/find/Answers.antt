@@ -5,6 +5,7 @@ use Rattle.arena_list.specs.Versions.{KeyVersion, IsAt}
 use Rattle.arena_list.specs.Nodes.{no_node}
 use Rattle.arena_list.proofs.Levels.{version_read}
 use Rattle.arena_list.proofs.Arenas.{LandsAt, lands_at, lands_on_held, landed}
+use Rattle.arena_list.proofs.Fronts.{told_read}
 use Rattle.arena_list.proofs.search.find.Goals as goal
 use Rattle.arena_list.proofs.search.find.Goals.{then-place-eq0-via-then-place-eq0, then-place-eq0-via-else-place-eq0+then-not-is_at}
 
@@ -19,6 +20,19 @@ bounds-nodes-place c =
     let sought = c.args.sought.now in
     (lands_at c.args.nodes.now sought.key.now sought.number (slice_index c.args.lasts.now 0) c.index-nodes-lasts.result c.requires.linked c.requires.head
     c.requires.cut).below c.if-place-eq0.false
+
+pub is_at-requires : goal.is_at-requires
+is_at-requires c =
+    let sought = c.args.sought.now in
+    let nodes = c.args.nodes.now in
+    let last = slice_index c.args.lasts.now 0 in
+    let cut = c.requires.cut in
+    let lands : LandsAt nodes last c.index-nodes-lasts.result =
+    lands_at nodes sought.key.now sought.number last c.index-nodes-lasts.result c.requires.linked c.requires.head cut in
+    let place = slice_index (slice_index_or nodes last c.index-nodes-lasts.result).links 0 in
+    told_read nodes sought place c.index-nodes-place.result c.requires.told
+    (landed nodes c.requires.linked sought.key.now sought.number last cut place lands.is c.if-place-eq0.false) (lands.below c.if-place-eq0.false)
+    c.index-nodes-place.is
 
 pub returns-then-place-eq0-clause-none : goal.returns-then-place-eq0-clause-none
 returns-then-place-eq0-clause-none c holds =

@@ -1,12 +1,13 @@
 -- The next place stands on the level. Where the search stops there, the level is cut.
-use Rattle.std.proofs.Common.{◌≢◌, ℕ, ◌<◌, length, inl, inr, sym, ◌∙◌, subst}
+use Rattle.std.proofs.Common.{◌≢◌, Contains, ℕ, ◌<◌, length, inl, inr, sym, ◌∙◌, subst}
 use Rattle.arena_list.specs.Versions.{KeyVersion, GoesBefore}
 use Rattle.std.proofs.lemmas.Bool.{iff_false}
 use Rattle.arena_list.specs.Chains.{path}
-use Rattle.arena_list.specs.Nodes.{next_on, version_at}
+use Rattle.arena_list.specs.Nodes.{next_on, places_on, version_at}
 use Rattle.arena_list.specs.Steps.{MayGoOn, MayStop}
-use Rattle.arena_list.proofs.Levels.{read_next, version_read}
-use Rattle.arena_list.proofs.Cuts.{next_below, goes_on, goes_less, cut_here}
+use Rattle.arena_list.proofs.Levels.{read_next, version_read, within_lowest}
+use Rattle.arena_list.proofs.Cuts.{next_within, next_below, goes_on, goes_less, cut_here}
+use Rattle.arena_list.proofs.Fronts.{told_read}
 use Rattle.arena_list.proofs.search.seek_on_level.Goals as goal
 
 pub bounds-nodes-next : goal.bounds-nodes-next
@@ -24,6 +25,20 @@ bounds-nodes-last-then-is_before c =
     subst (λ (p : ℕ). p < length c.args.nodes.now) (sym inv.next)
     (next_below c.args.nodes.now c.requires.linked c.args.level c.requires.level sought.key.now sought.number c.loop-next.last inv.goes
     (λ e. c.if-next-ne0.true (inv.next ∙ e)))
+
+pub is_before-requires : goal.is_before-requires
+is_before-requires c =
+    let sought = c.args.sought.now in
+    let nodes = c.args.nodes.now in
+    let inv = c.loop-next.invariant in
+    let some : next_on nodes c.args.level c.loop-next.last ≢ 0 = λ e. c.if-next-ne0.true (inv.next ∙ e) in
+    let there : Contains (places_on nodes c.args.level) c.loop-next.next =
+    subst (Contains (places_on nodes c.args.level)) (sym inv.next)
+    (next_within nodes c.requires.linked c.args.level c.requires.level sought.key.now sought.number c.loop-next.last inv.goes some) in
+    let within : c.loop-next.next < length nodes =
+    ((c.requires.linked.levels c.args.level c.requires.level).held c.loop-next.next there).0 in
+    told_read nodes sought c.loop-next.next c.index-nodes-next.result c.requires.told
+    (within_lowest nodes c.requires.linked c.args.level c.loop-next.next c.requires.level there) within c.index-nodes-next.is
 
 pub loop-next-smaller : goal.loop-next-smaller
 loop-next-smaller c =

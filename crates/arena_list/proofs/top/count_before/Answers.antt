@@ -5,7 +5,8 @@ use Rattle.std.proofs.lemmas.List.Elements.{Contains-get_or}
 use Rattle.arena_list.specs.Versions.{GoesBefore}
 use Rattle.arena_list.specs.Nodes.{version_at}
 use Rattle.arena_list.specs.Tops.{places_of}
-use Rattle.arena_list.proofs.Tops.{place_at, places_count, guide_there, top_cut}
+use Rattle.arena_list.proofs.Tops.{place_at, places_count, guide_there, guide_lowest, top_cut}
+use Rattle.arena_list.proofs.Fronts.{front_has}
 use Rattle.arena_list.proofs.top.count_before.Goals as goal
 
 pub is_before-requires-clause-node : goal.is_before-requires-clause-node
@@ -14,6 +15,21 @@ is_before-requires-clause-node c =
     let middle = c.loop-low.low + (c.loop-low.high - c.loop-low.low) / 2 in
     let less : middle < length top = omega (arith, c.loop-low-test.true, c.loop-low.invariant.within) in
     guide_there c.args.nodes.now top c.requires.linked c.requires.top _ (Contains-get_or top middle _ less)
+
+pub is_before-requires-clause-told : goal.is_before-requires-clause-told
+is_before-requires-clause-told c =
+    let top = c.args.top.now in
+    let middle = c.loop-low.low + (c.loop-low.high - c.loop-low.low) / 2 in
+    let less : middle < length top = omega (arith, c.loop-low-test.true, c.loop-low.invariant.within) in
+    c.requires.told _ (guide_lowest c.args.nodes.now top c.requires.linked c.requires.top _ (Contains-get_or top middle _ less))
+
+pub is_before-requires-clause-front : goal.is_before-requires-clause-front
+is_before-requires-clause-front c =
+    let top = c.args.top.now in
+    let middle = c.loop-low.low + (c.loop-low.high - c.loop-low.low) / 2 in
+    let less : middle < length top = omega (arith, c.loop-low-test.true, c.loop-low.invariant.within) in
+    front_has c.args.nodes.now c.requires.front _
+    (guide_lowest c.args.nodes.now top c.requires.linked c.requires.top _ (Contains-get_or top middle _ less))
 
 pub loop-low-preserved-then-is_before : goal.loop-low-preserved-then-is_before
 loop-low-preserved-then-is_before c =

@@ -1,43 +1,55 @@
--- Where the leads differ, they are in the order of the keys. Where they do not, and one of the keys ends within its lead, the lengths are.
-use Rattle.std.proofs.Common.{◌≡◌, inl, inr, ◌<◌, Option, Some, None, ℕ, length, nat_cmp, sym, ap, ◌∙◌, subst, arith}
-use Rattle.arena_list.specs.Leads.{IsLengthInLead, lead_of}
-use Rattle.arena_list.specs.Nodes.{version_at}
-use Rattle.arena_list.proofs.Leads.{lead_less, lead_greater, lead_same}
+-- The leads tell, and where they are the same the lengths of keys within the extent.
+use Rattle.std.proofs.Common.{◌≡◌, inl, inr, ℕ, ◌+◌, ◌-◌, ◌<◌, ◌≤◌, Option, Some, None, length, drop, nat_cmp, sym, ap, ap₂, ◌∙◌, subst, arith}
+use Rattle.std.proofs.lemmas.Bool.{cases_lt}
+use Rattle.arena_list.specs.Leads.{IsLengthInLead}
+use Rattle.arena_list.specs.Nodes.{node_at, key_of}
 use Rattle.arena_list.proofs.Orders.{greater_numbers}
+use Rattle.arena_list.proofs.Fronts.{behind_front, same_more}
 use Rattle.arena_list.proofs.guide.Guide.order.Goals as goal
 
 pub returns-then-self-sought : goal.returns-then-self-sought
 returns-then-self-sought c =
-    let own = (version_at c.args.nodes.now c.args.self.now.place).key in
-    let sought = c.args.sought.now in
-    let tells = c.requires.tells in
-    sym (lead_less own sought.key.now tells.bytes sought.are_bytes (omega (arith, tells.lead, sought.is_lead, c.if-self-sought.true)))
+    let node = node_at c.args.nodes.now c.args.self.now.place in
+    let behind = behind_front c.args.sought.now.shared node c.requires.front in
+    sym (c.requires.told.less (omega (arith, behind.0, c.requires.tells.lead, c.if-self-sought.true)))
 
 pub returns-then-self-sought-2 : goal.returns-then-self-sought-2
 returns-then-self-sought-2 c =
-    let own = (version_at c.args.nodes.now c.args.self.now.place).key in
-    let sought = c.args.sought.now in
-    let tells = c.requires.tells in
-    sym (lead_greater own sought.key.now tells.bytes sought.are_bytes (omega (arith, tells.lead, sought.is_lead, c.if-self-sought-2.true)))
+    let node = node_at c.args.nodes.now c.args.self.now.place in
+    let behind = behind_front c.args.sought.now.shared node c.requires.front in
+    sym (c.requires.told.greater (omega (arith, behind.0, c.requires.tells.lead, c.if-self-sought-2.true)))
 
 pub returns-in-Some : goal.returns-in-Some
 returns-in-Some c =
-    let own = (version_at c.args.nodes.now c.args.self.now.place).key in
     let sought = c.args.sought.now in
-    let tells = c.requires.tells in
-    let same : lead_of own ≡ lead_of sought.key.now = omega (arith, tells.lead, sought.is_lead, c.if-self-sought.false, c.if-self-sought-2.false) in
-    let len : IsLengthInLead (Some c.in-Some.len) own = subst (λ (o : Option ℕ). IsLengthInLead o own) c.in-Some.is tells.len in
-    let short = inl (omega (arith, len.0, len.1)) in
-    c.cmp.ensures ∙ ap (λ (n : ℕ). nat_cmp n (length sought.key.now)) (c.from.ensures ∙ len.0)
-    ∙ sym (lead_same own sought.key.now tells.bytes sought.are_bytes short same)
+    let node = node_at c.args.nodes.now c.args.self.now.place in
+    let own = key_of node.held in
+    let key = sought.key.now in
+    let behind = behind_front sought.shared node c.requires.front in
+    let same : node.lead ≡ sought.lead = omega (arith, behind.0, c.requires.tells.lead, c.if-self-sought.false, c.if-self-sought-2.false) in
+    let len : IsLengthInLead (Some c.in-Some.len) (drop sought.shared own) =
+    subst (λ (o : Option ℕ). IsLengthInLead o (drop sought.shared own)) c.in-Some.is c.requires.tells.len in
+    let begins = sought.begins c.if-sought-gt0.true in
+    let own_len : length own ≡ sought.shared + c.in-Some.len = omega (arith, behind.1, len.0) in
+    let key_len : length key ≡ sought.shared + (length key - sought.shared) = omega (arith, begins.1) in
+    let short = inl (omega (arith, own_len, len.1, begins.0)) in
+    c.cmp.ensures ∙ ap (λ (n : ℕ). nat_cmp n (length key - sought.shared)) c.from.ensures
+    ∙ same_more sought.shared c.in-Some.len (length key - sought.shared)
+    ∙ ap₂ (λ (m n : ℕ). nat_cmp m n) (sym own_len) (sym key_len) ∙ sym (c.requires.told.same same short)
 
 pub returns-in-None : goal.returns-in-None
 returns-in-None c =
-    let own = (version_at c.args.nodes.now c.args.self.now.place).key in
     let sought = c.args.sought.now in
-    let tells = c.requires.tells in
-    let same : lead_of own ≡ lead_of sought.key.now = omega (arith, tells.lead, sought.is_lead, c.if-self-sought.false, c.if-self-sought-2.false) in
-    let long : IsLengthInLead None own = subst (λ (o : Option ℕ). IsLengthInLead o own) c.in-None.is tells.len in
-    let longer : length sought.key.now < length own = omega (arith, long, c.if-sought-le-LEAD_SIZE.true) in
-    sym (lead_same own sought.key.now tells.bytes sought.are_bytes (inr c.if-sought-le-LEAD_SIZE.true) same
-    ∙ greater_numbers (length own) (length sought.key.now) longer)
+    let node = node_at c.args.nodes.now c.args.self.now.place in
+    let own = key_of node.held in
+    let key = sought.key.now in
+    let behind = behind_front sought.shared node c.requires.front in
+    let same : node.lead ≡ sought.lead = omega (arith, behind.0, c.requires.tells.lead, c.if-self-sought.false, c.if-self-sought-2.false) in
+    let long : IsLengthInLead None (drop sought.shared own) =
+    subst (λ (o : Option ℕ). IsLengthInLead o (drop sought.shared own)) c.in-None.is c.requires.tells.len in
+    let short : length key ≤ sought.extent = c.if-sought.true in
+    let longer : length key < length own = elim (cases_lt 0 sought.extent) [
+      | inl some ↦ omega (arith, short, long, behind.1, (sought.begins some).0)
+      | inr none ↦ omega (arith, short, long, behind.1, none)
+    ] in
+    sym (c.requires.told.same same (inr short) ∙ greater_numbers (length own) (length key) longer)

@@ -2,7 +2,7 @@
 use Rattle.std.proofs.Common.{◌≡◌, inr, subst, arith}
 use Rattle.arena_list.specs.Arena.{Arena, MakesRoom}
 use Rattle.arena_list.specs.Nodes.{arena_of, IsArena}
-use Rattle.arena_list.proofs.Made.{made_arena, made_top, made_seen}
+use Rattle.arena_list.proofs.Made.{made_arena, made_front, made_top, made_seen}
 use Rattle.arena_list.proofs.list.ArenaList.reserve_one.Goals as goal
 
 pub invariant_of-self-2 : goal.invariant_of-self-2
@@ -12,7 +12,8 @@ invariant_of-self-2 c =
     let none : c.self.inside.free.count ≡ 0 = omega arith in
     let arena : IsArena items first 0 = subst (IsArena items first) none c.self.invariant.0 in (
       made_arena items c.make_place.new.nodes.items c.in_ok-place.place first arena c.in_ok-place.ensures.made,
-      made_top items c.make_place.new.nodes.items c.in_ok-place.place first arena c.in_ok-place.ensures.made c.self.inside.top.items c.self.invariant.1,
+      made_front items c.make_place.new.nodes.items c.in_ok-place.place first arena c.in_ok-place.ensures.made c.self.invariant.1,
+      made_top items c.make_place.new.nodes.items c.in_ok-place.place first arena c.in_ok-place.ensures.made c.self.inside.top.items c.self.invariant.2,
     )
 
 pub returns-clause-room : goal.returns-clause-room

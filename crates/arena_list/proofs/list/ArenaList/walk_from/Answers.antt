@@ -9,13 +9,13 @@ use Rattle.arena_list.proofs.Spots.{read_lands, spot_within}
 use Rattle.arena_list.proofs.list.ArenaList.walk_from.Goals as goal
 
 pub bounds-nodes-spot : goal.bounds-nodes-spot
-bounds-nodes-spot c = let sought = c.new-sought.result in
+bounds-nodes-spot c = let sought = c.among-sought.result in
     spot_within c.as_slice-nodes.result.now _ _ _ sought.key.now sought.number _ c.as_slice-nodes.ensures.value c.self.invariant.0
     (c.find_spot-spot.ensures.lasts.low 0 (omega arith))
 
 pub from-requires : goal.from-requires
 from-requires c =
-    let sought = c.new-sought.result in
+    let sought = c.among-sought.result in
     let nodes = c.as_slice-nodes.result.now in
     let l = read_lands c.as_slice-nodes.result.now _ _ _ sought.key.now sought.number _ c.index-nodes-spot.result c.as_slice-nodes.ensures.value
     c.self.invariant.0 (c.find_spot-spot.ensures.lasts.low 0 (omega arith)) in
@@ -23,12 +23,12 @@ from-requires c =
 
 pub returns : goal.returns
 returns c =
-    let sought = c.new-sought.result in
+    let sought = c.among-sought.result in
     let nodes = c.as_slice-nodes.result.now in
     let is : nodes ≡ c.self.inside.nodes.items = c.as_slice-nodes.ensures.value in
     let l = read_lands c.as_slice-nodes.result.now _ _ _ sought.key.now sought.number _ c.index-nodes-spot.result c.as_slice-nodes.ensures.value
     c.self.invariant.0 (c.find_spot-spot.ensures.lasts.low 0 (omega arith)) in
-    subst₂ (λ (k : List ℕ) (n : ℕ). IsRestFrom c.args.self.now.versions k n c.from.result) c.new-sought.ensures.key c.new-sought.ensures.number
+    subst₂ (λ (k : List ℕ) (n : ℕ). IsRestFrom c.args.self.now.versions k n c.from.result) c.among-sought.ensures.key c.among-sought.ensures.number
     (subst (λ (a : Arena). IsRestFrom a.versions sought.key.now sought.number c.from.result)
     (ap (λ (ns : List Node). arena_of ns c.self.inside.free.count) is ∙ c.self.view_is)
     (subst (IsRestFrom (versions_on nodes 0) sought.key.now sought.number)
