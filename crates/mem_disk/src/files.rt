@@ -6,7 +6,7 @@ ghost use Rattle.disk_face.specs.Image.{as_read};
 ghost use Rattle.disk_face.specs.Calls.{MayStart, flight_of, place_of, fresh, FillsFrom};
 ghost use Rattle.disk_face.specs.Tables.{whole};
 ghost use Rattle.mem_disk.specs.Failing.{AnswersIf, half_put, left_over};
-ghost use Rattle.mem_disk.specs.Changes.{PutsAt, IsPuttingAt, RemovesAt, LeavesAt, ChangesAsDone, SettlesAt, BeginsAt, ExtendsAt, HeldReads, HeldSent, HeldFills};
+ghost use Rattle.mem_disk.specs.Changes.{PutsAt, PutsFile, IsPuttingAt, RemovesAt, LeavesAt, ChangesAsDone, SettlesAt, BeginsAt, ExtendsAt, HeldReads, HeldSent, HeldFills};
 ghost use Rattle.mem_disk.specs.Mem.{files_held, file_of, is_table, index_at, FoundAt, IsUncreated, IsCreated, AreInOrder};
 
 use crate::order::{insert_file, is_place, is_table_place};
@@ -132,14 +132,28 @@ fn add(alloc: Global, files: &mut Vec<MemFile>, place: FilePlace) -> Result<(), 
     insert_file(files, file)
 }
 
-/// Places a whole file.
+// Puts a file over that of its place, or in its order where none is.
+fn put_over(files: &mut Vec<MemFile>, file: MemFile) -> Result<(), NoMemory>
+    ensures ok { OnOk result (PutsFile file files.old.items files.new.items) }
+    ensures err { OnErr result (files.new.items ≡ files.old.items) }
+    ensures ordered { AreInOrder files.old.items → AreInOrder files.new.items }
+{
+    match find(files, file.place) {
+        Some(at) => {
+            files[at] = file;
+            Ok(())
+        }
+        None => insert_file(files, file),
+    }
+}
+
+/// Places a whole file, in place of one that is there, whatever state that is in.
 pub fn place_whole(
     alloc: Global,
     files: &mut Vec<MemFile>,
     place: FilePlace,
     bytes: &[u8],
 ) -> Result<(), NoMemory>
-    requires { files_held files.old.items place ≡ None }
     ensures ok { OnOk result (PutsAt place (whole bytes.now) files.old.items files.new.items) }
     ensures err { OnErr result (files.new.items ≡ files.old.items) }
     ensures ordered { AreInOrder files.old.items → AreInOrder files.new.items }
@@ -153,7 +167,7 @@ pub fn place_whole(
         created: true,
         leaving: false,
     };
-    insert_file(files, file)
+    put_over(files, file)
 }
 
 fn extend(files: &mut [MemFile], side: Side, name: SegName, bytes: &[u8]) -> Result<(), NoMemory>
@@ -189,7 +203,8 @@ pub fn read_len(file: &MemFile) -> usize
 /// What a read gives. `None` exactly where no file of that segment is created.
 pub fn content_of(files: &Vec<MemFile>, side: Side, name: SegName) -> Option<&[u8]>
     ensures some { IfSome result (λ bytes. HeldReads files.now.items side name bytes.now) }
-    ensures none { IfNone result (as_read (segment side name) (files_held files.now.items (segment side name)) ≡ None) }
+    ensures none { IfNone result (as_read (segment side name)
+        (files_held files.now.items (segment side name)) ≡ None) }
 {
     let at = find(files, FilePlace::Segment { side, name })?;
     let found = &files[at];
@@ -288,7 +303,8 @@ fn put_half(
     bytes: &[u8],
 ) -> Result<(), NoMemory>
     requires absent { files_held files.old.items (table upto) ≡ None }
-    ensures ok { OnOk result (PutsAt (table upto) (half_put bytes.now) files.old.items files.new.items) }
+    ensures ok { OnOk result (PutsAt (table upto) (half_put bytes.now) files.old.items
+        files.new.items) }
     ensures err { OnErr result (files.new.items ≡ files.old.items) }
     ensures ordered { AreInOrder files.old.items → AreInOrder files.new.items }
 {
@@ -313,8 +329,10 @@ pub fn put_as_planned(
     fails: bool,
 ) -> Result<(), DiskErr>
     requires absent { files_held files.old.items (table upto) ≡ None }
-    ensures ok { OnOk result (PutsAt (table upto) (whole bytes.now) files.old.items files.new.items) }
-    ensures half { IsErrOf result DiskErr.Failed → PutsAt (table upto) (half_put bytes.now) files.old.items files.new.items }
+    ensures ok { OnOk result (PutsAt (table upto) (whole bytes.now) files.old.items
+        files.new.items) }
+    ensures half { IsErrOf result DiskErr.Failed → PutsAt (table upto) (half_put bytes.now)
+        files.old.items files.new.items }
     ensures no_memory { IsErrOf result DiskErr.NoMemory → files.new.items ≡ files.old.items }
     ensures putting { IsPuttingAt upto bytes.now files.old.items files.new.items }
     ensures fails { AnswersIf (IsTrue fails) result }

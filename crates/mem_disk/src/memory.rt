@@ -101,13 +101,14 @@ impl MemDisk {
         self.put_whole(FilePlace::Segment { side, name }, bytes)
     }
 
-    /// Places a whole table, all of it stable. `Err` means out of memory, and changes nothing.
+    /// Places a whole table, all of it stable, in place of one of that number, whatever state that is in. `Err` means
+    /// out of memory, and changes nothing.
     pub fn place_table(&mut self, upto: u64, bytes: &[u8]) -> Result<(), NoMemory>
         requires number { IsTableNumber upto }
-        requires absent { files (seen self.old) (table upto) ≡ None }
         ensures goes_on { GoesOn (seen self.old) (seen self.new) }
         ensures flights { (seen self.new).in_flight ≡ (seen self.old).in_flight }
-        ensures put { OnOk result (PutsWholeAt (table upto) bytes.now (seen self.old) (seen self.new)) }
+        ensures put { OnOk result (PutsWholeAt (table upto) bytes.now (seen self.old)
+            (seen self.new)) }
         ensures err { OnErr result (seen self.new ≡ seen self.old) }
         ensures stalls { StallsStay (seen self.old) (seen self.new) }
         ensures steady { (seen self.new).faults ≡ (seen self.old).faults }
@@ -118,9 +119,8 @@ impl MemDisk {
         self.put_whole(FilePlace::Table { upto }, bytes)
     }
 
-    // Puts a whole file where none is.
+    // Puts a whole file, in place of one that is there.
     fn put_whole(&mut self, place: FilePlace, bytes: &[u8]) -> Result<(), NoMemory>
-        requires absent { files (seen self.old) place ≡ None }
         ensures goes_on { GoesOn (seen self.old) (seen self.new) }
         ensures flights { (seen self.new).in_flight ≡ (seen self.old).in_flight }
         ensures put { OnOk result (PutsWholeAt place bytes.now (seen self.old) (seen self.new)) }
@@ -165,7 +165,8 @@ impl MemDisk {
     /// of memory.
     pub fn fail_table_call(&mut self, number: u64) -> Result<(), NoMemory>
         ensures same { seen self.new ≡ seen self.old }
-        ensures planned { OnOk result (plan_of self.new ≡ failing_table_call number (plan_of self.old)) }
+        ensures planned { OnOk result (plan_of self.new ≡ failing_table_call number
+            (plan_of self.old)) }
         ensures err { OnErr result (plan_of self.new ≡ plan_of self.old) }
     {
         let number = self.table_calls.calls.saturating_add(number);
@@ -176,7 +177,8 @@ impl MemDisk {
     /// What a read gives. `None` exactly where no file of that segment is created.
     pub fn content(&self, side: Side, name: SegName) -> Option<&[u8]>
         ensures some { IfSome result (λ bytes. SegmentReads (seen self.now) side name bytes.now) }
-        ensures none { IfNone result (as_read (segment side name) (files (seen self.now) (segment side name)) ≡ None) }
+        ensures none { IfNone result (as_read (segment side name)
+            (files (seen self.now) (segment side name)) ≡ None) }
     {
         content_of(&self.files, side, name)
     }

@@ -83,6 +83,49 @@ fn a_table_whose_removal_fails_is_kept(rt: HostRuntime) -> Result<(), DiskErr> {
     Ok(())
 }
 
+/// Whether the table 7 stands there once, and no other one, and is read as these bytes.
+fn has_seven(disk: &mut MemDisk, bytes: &[u8]) -> bool {
+    let mut buf = *b"........";
+    let read = match disk.read_table(7, 0, &mut buf) {
+        Ok(read) => read,
+        Err(_) => return false,
+    };
+    let len = read as u64;
+    buf.get(..read) == Some(bytes) && has_tables(disk, &[TableListed { upto: 7, len }])
+}
+
+#[test]
+fn a_table_is_placed_over_a_longer_and_a_shorter_one(rt: HostRuntime) -> Result<(), DiskErr> {
+    let mut disk = MemDisk::new(rt.alloc())?;
+    disk.place_table(7, b"longer")?;
+    disk.place_table(7, b"abc")?;
+    assert!(rt; has_seven(&mut disk, b"abc"));
+    disk.place_table(7, b"as long")?;
+    assert!(rt; has_seven(&mut disk, b"as long"));
+    Ok(())
+}
+
+#[test]
+fn a_table_is_placed_over_half_of_one(rt: HostRuntime) -> Result<(), DiskErr> {
+    let mut disk = MemDisk::new(rt.alloc())?;
+    disk.fail_table_call(0)?;
+    assert!(rt; disk.put_table(7, b"abcdef") == Err(DiskErr::Failed));
+    disk.place_table(7, b"placed")?;
+    assert!(rt; has_seven(&mut disk, b"placed"));
+    Ok(())
+}
+
+#[test]
+fn a_table_is_placed_over_one_whose_removal_failed(rt: HostRuntime) -> Result<(), DiskErr> {
+    let mut disk = MemDisk::new(rt.alloc())?;
+    disk.place_table(7, b"abc")?;
+    disk.fail_table_call(0)?;
+    assert!(rt; disk.drop_table(7) == Err(DiskErr::Failed));
+    disk.place_table(7, b"placed")?;
+    assert!(rt; has_seven(&mut disk, b"placed"));
+    Ok(())
+}
+
 #[test]
 fn a_segment_whose_removal_fails_takes_no_tail(rt: HostRuntime) -> Result<(), DiskErr> {
     let pick = picks_of(rt.alloc(), &[(NAME, Some(b"tail".as_slice()))])?;
