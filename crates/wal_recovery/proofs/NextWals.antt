@@ -1,6 +1,7 @@
 -- The number after the last names of both listings is that of the next WAL.
+use native.Mathlib.Decide.{dec_le}
 use Rattle.wal_base.proofs.Laws.{within_cases, within_head}
-use Rattle.std.proofs.Common.{◌≡◌, ◌⊎◌, inl, inr, ℕ, suc, ◌≤◌, List, [], ◌∷◌, ◌++◌, Some, Contains, length, subst, ap, ◌∙◌, refl, arith}
+use Rattle.std.proofs.Common.{◌≡◌, ◌⊎◌, inl, inr, ℕ, suc, ◌≤◌, max, List, [], ◌∷◌, ◌++◌, Some, Contains, length, subst, ap, refl, arith}
 use Rattle.std.proofs.lemmas.List.Elements.{Contains-append_right}
 use Rattle.disk_face.specs.declared.Side.{Side}
 use Rattle.disk_face.specs.declared.Side.TheVariants.{Primary, Secondary}
@@ -88,32 +89,40 @@ module _ (files : Files) (sides : Sides) (listings : AreListings files sides) wh
   Least next = ((next ≡ 1) × ((number : ℕ) (stored : Stored) → StandsIn (dirs_as_read files) number stored → ⊥))
       ⊎ ((number : ℕ) × (stored : Stored) × StandsIn (dirs_as_read files) number stored × (next ≡ suc number))
 
-  module _ (one other next : ℕ) (a : IsAfter sides.primary one) (b : IsAfter sides.secondary other) (low : one ≤ next) (below : other ≤ next) where
-    of_one : next ≡ one → Least next
-    of_one is = elim a.least [
-      | inr (item, at, e) ↦ let s = ones_stand item at in inr (item.name.wal, s.0, s.1, is ∙ e)
+  module _ (one other : ℕ) (a : IsAfter sides.primary one) (b : IsAfter sides.secondary other) where
+    of_one : other ≤ one → Least one
+    of_one below = elim a.least [
+      | inr (item, at, e) ↦ let s = ones_stand item at in inr (item.name.wal, s.0, s.1, e)
       | inl (first, none) ↦ elim b.least [
-        | inl (also, empty) ↦ inl (is ∙ first, none_listed none empty)
-        | inr (item, at, e) ↦ let s = others_stand item at in inr (item.name.wal, s.0, s.1, omega (arith, is, first, e, below))
+        | inl (also, empty) ↦ inl (first, none_listed none empty)
+        | inr (item, at, e) ↦ let s = others_stand item at in inr (item.name.wal, s.0, s.1, omega (arith, first, e, below))
       ]
     ]
 
-    of_other : next ≡ other → Least next
-    of_other is = elim b.least [
-      | inr (item, at, e) ↦ let s = others_stand item at in inr (item.name.wal, s.0, s.1, is ∙ e)
+    of_other : one ≤ other → Least other
+    of_other low = elim b.least [
+      | inr (item, at, e) ↦ let s = others_stand item at in inr (item.name.wal, s.0, s.1, e)
       | inl (first, none) ↦ elim a.least [
-        | inl (also, empty) ↦ inl (is ∙ first, none_listed empty none)
-        | inr (item, at, e) ↦ let s = ones_stand item at in inr (item.name.wal, s.0, s.1, omega (arith, is, first, e, low))
+        | inl (also, empty) ↦ inl (first, none_listed empty none)
+        | inr (item, at, e) ↦ let s = ones_stand item at in inr (item.name.wal, s.0, s.1, omega (arith, first, e, low))
       ]
     ]
 
-    pub next_is : (next ≡ one) ⊎ (next ≡ other) → IsNextWal (dirs_as_read files) next
-    next_is is = record {
+    least_is : (next : ℕ) → next ≡ max one other → Least next
+    least_is next is = elim (dec_le one other) [
+      | yes low ↦ let e : other ≡ next = omega (arith, is, low) in subst Least e (of_other low)
+      | no above ↦
+          let below : other ≤ one = omega (arith, above) in
+          let e : one ≡ next = omega (arith, is, below) in subst Least e (of_one below)
+    ]
+
+    pub next_is : (next : ℕ) → next ≡ max one other → IsNextWal (dirs_as_read files) next
+    next_is next is = record {
       above = λ number stored there.
           let l = listed number stored there in
           elim l.2 [
-            | inl here ↦ omega (arith, a.above l.0 here, low, l.1)
-            | inr here ↦ omega (arith, b.above l.0 here, below, l.1)
+            | inl here ↦ omega (arith, a.above l.0 here, is, l.1)
+            | inr here ↦ omega (arith, b.above l.0 here, is, l.1)
           ];
-      least = elim is [ inl e ↦ of_one e | inr e ↦ of_other e ];
+      least = least_is next is;
     }

@@ -10,14 +10,14 @@ use Rattle.disk_face.specs.declared.SegName.{SegName}
 use Rattle.disk_face.specs.declared.OpId.{OpId}
 use Rattle.disk_face.specs.declared.Progress.{Progress}
 use Rattle.disk_face.specs.declared.Listed.{Listed}
-use Rattle.disk_face.specs.View.{was_listed, was_read, was_started, was_polled, Flight, DiskView, Makes, side_eq}
+use Rattle.disk_face.specs.View.{Call, was_listed, was_read, was_started, was_polled, Flight, DiskView, Makes, side_eq}
 use Rattle.disk_face.specs.Asked.{name_eq, listings, bytes_asked, length_listed, length_among, creates}
 use Rattle.disk_face.proofs.Laws.{creations_further, makes_none, makes_further, listings-append, bytes_asked-append, length_listed-append}
 use Rattle.wal_recovery.specs.declared.listing.Found.{Found}
 use Rattle.wal_recovery.specs.declared.wals.FoundWal.{FoundWal}
 use Rattle.wal_recovery.specs.Rows.{item_of, Takes, Weaves, Groups}
 use Rattle.wal_recovery.proofs.AtWal.{StandsAt}
-use Rattle.wal_recovery.specs.Asking.{AsksOnce, both_listed, ListsInTurn, length_in_row, ReadsOnly, found_in}
+use Rattle.wal_recovery.specs.Asking.{AreNotOnTables, AsksOnce, both_listed, ListsInTurn, OnlyLists, length_in_row, ReadsOnly, found_in}
 use Rattle.wal_recovery.specs.declared.listing.Sides.{Sides}
 use Rattle.wal_recovery.specs.Sides.{ListsBoth, IsAsLongAsListed, ReadsListed}
 
@@ -29,10 +29,22 @@ bytes_append : (side : Side) (name : SegName) (front back : List Found)
     → length_in_row side name (front ++ back) ≡ length_in_row side name front + length_in_row side name back
 bytes_append side name front back = sum_by-append (bytes_here side name) front back
 
+pub not_on_tables : (front back : List Call) → AreNotOnTables front → AreNotOnTables back → AreNotOnTables (front ++ back)
+not_on_tables [] back a b = b
+not_on_tables (call ∷ front) back a b = (a.0, not_on_tables front back a.1 b)
+
 -- ---- calls that list nothing
 
 pub reads_none : (row : List Found) (v : DiskView) → ReadsOnly row v v
-reads_none row v = record { made = []; makes = makes_none v; lists = λ side. refl; listed = λ side name. refl; asked = λ side name. omega arith; creates = refl }
+reads_none row v = record {
+  made = [];
+  makes = makes_none v;
+  lists = λ side. refl;
+  listed = λ side name. refl;
+  asked = λ side name. omega arith;
+  creates = refl;
+  tables = tt;
+}
 
 pub reads_more : (front back : List Found) (old mid new : DiskView) → ReadsOnly front old mid → ReadsOnly back mid new → ReadsOnly (front ++ back) old new
 reads_more front back old mid new a b = record {
@@ -42,6 +54,7 @@ reads_more front back old mid new a b = record {
   listed = λ side name. omega (arith, length_listed-append side name b.made a.made, a.listed side name, b.listed side name);
   asked = λ side name. omega (arith, bytes_asked-append side name b.made a.made, bytes_append side name front back, a.asked side name, b.asked side name);
   creates = creations_further b.made a.made ∙ omega (arith, a.creates, b.creates);
+  tables = not_on_tables b.made a.made b.tables a.tables;
 }
 
 -- the row may go on after what was read
@@ -53,6 +66,7 @@ reads_wider front back old new a = record {
   listed = a.listed;
   asked = λ side name. omega (arith, bytes_append side name front back, a.asked side name);
   creates = a.creates;
+  tables = a.tables;
 }
 
 -- a segment of which nothing is asked stands after
@@ -76,6 +90,7 @@ reads_one f len old new is le = record {
   asked = λ side name. sum_less (if side_eq side f.side && name_eq name f.name then len else 0) (bytes_here side name f)
       (if_less (side_eq side f.side && name_eq name f.name) len f.len le);
   creates = refl;
+  tables = (tt, tt);
 }
 
 -- one operation, of a segment that is there
@@ -88,10 +103,19 @@ starts_one id flight old new none is = record {
   listed = λ side name. refl;
   asked = λ side name. omega arith;
   creates = omega (arith, none);
+  tables = (tt, tt);
 }
 
 pub polls_one : (id : OpId) (answer : Progress) (old new : DiskView) → new.calls ≡ was_polled id answer ∷ old.calls → ReadsOnly [] old new
-polls_one id answer old new is = record { made = was_polled id answer ∷ []; makes = is; lists = λ side. refl; listed = λ side name. refl; asked = λ side name. omega arith; creates = refl }
+polls_one id answer old new is = record {
+  made = was_polled id answer ∷ [];
+  makes = is;
+  lists = λ side. refl;
+  listed = λ side name. refl;
+  asked = λ side name. omega arith;
+  creates = refl;
+  tables = (tt, tt);
+}
 
 -- ---- the listings
 
@@ -179,6 +203,32 @@ lists_one ones old new a = record { made = was_listed Primary ones ∷ []; makes
     once Primary = omega arith
     once Secondary = omega arith
 
+-- nothing is done but these listings
+pub only_two : (ones others : List Listed) (old mid new : DiskView) → Makes (was_listed Primary ones ∷ []) old mid
+    → Makes (was_listed Secondary others ∷ []) mid new → OnlyLists old new
+only_two ones others old mid new a b = record {
+  made = both_listed ones others;
+  makes = makes_further (was_listed Primary ones ∷ []) (was_listed Secondary others ∷ []) old mid new a b;
+  lists = λ side. omega (arith, each_once ones others side);
+  asked = λ side name. refl;
+  creates = refl;
+  tables = (tt, (tt, tt));
+}
+
+pub only_one : (ones : List Listed) (old new : DiskView) → Makes (was_listed Primary ones ∷ []) old new → OnlyLists old new
+only_one ones old new a = record {
+  made = was_listed Primary ones ∷ [];
+  makes = a;
+  lists = once;
+  asked = λ side name. refl;
+  creates = refl;
+  tables = (tt, tt);
+}
+  where
+    once : (side : Side) → listings side (was_listed Primary ones ∷ []) ≤ 1
+    once Primary = omega arith
+    once Secondary = omega arith
+
 -- ---- the whole recovery
 
 pub reads_listed : (row : List Found) (sides : Sides) (old new : DiskView) → IsAsLongAsListed row sides → ReadsOnly row old new → ReadsListed sides old new
@@ -189,10 +239,19 @@ reads_listed row sides old new long a = record {
   listed = a.listed;
   asked = λ side name. omega (arith, a.asked side name, long side name);
   creates = a.creates;
+  tables = a.tables;
 }
 
 pub reads_no_listed : (sides : Sides) (v : DiskView) → ReadsListed sides v v
-reads_no_listed sides v = record { made = []; makes = makes_none v; lists = λ side. refl; listed = λ side name. refl; asked = λ side name. omega arith; creates = refl }
+reads_no_listed sides v = record {
+  made = [];
+  makes = makes_none v;
+  lists = λ side. refl;
+  listed = λ side name. refl;
+  asked = λ side name. omega arith;
+  creates = refl;
+  tables = tt;
+}
 
 pub asks_once : (sides : Sides) (old mid new : DiskView) → ListsBoth sides old mid → ReadsListed sides mid new → AsksOnce old new
 asks_once sides old mid new a b = record {

@@ -15,11 +15,11 @@ use Rattle.wal_recovery.proofs.OneAnswer.{recovers_once_from}
 use Rattle.wal_recovery.proofs.OneRefusal.{recovered_or_refused_from, refused_once_from}
 use Rattle.wal_recovery.proofs.OneLenient.{lenient_once_after, lenient_or_refused_after, lenient_refused_once_after}
 
-once : (mode : Mode) (first : ℕ) (base : List Batch) (dirs : Dirs) (a b : List Batch) → RecoversByFrom mode first base dirs a
+pub recovers_by_once : (mode : Mode) (first : ℕ) (base : List Batch) (dirs : Dirs) (a b : List Batch) → RecoversByFrom mode first base dirs a
     → RecoversByFrom mode first base dirs b → a ≡ b
-once Strict first base dirs a b h k =
+recovers_by_once Strict first base dirs a b h k =
     h.behind ∙ ap (λ (l : List Batch). base ++ l) (recovers_once_from first dirs h.merged k.merged h.recovers k.recovers) ∙ sym k.behind
-once Lenient first base dirs a b h k = lenient_once_after (front_of base) dirs a b h k
+recovers_by_once Lenient first base dirs a b h k = lenient_once_after (front_of base) dirs a b h k
 
 not_both : (mode : Mode) (first : ℕ) (base : List Batch) (dirs : Dirs) (merged : List Batch) (fault : RecoverFault)
     → RecoversByFrom mode first base dirs merged → IsRefusedByFrom mode first base dirs fault → ⊥
@@ -47,7 +47,7 @@ module _ (mode : Mode) (first : ℕ) (base : List Batch) (dirs : Dirs) (tells : 
   pub only_recovered : (result : Result Recovered RecoverFault) → IfOk result (λ (found : Recovered). IsTrue tells → RecoversByFrom mode first base dirs found.batches)
       → IfErr result (λ (fault : RecoverFault). IsTrue tells → DiskMemoryOr (IsRefusedByFrom mode first base dirs) fault) → (merged : List Batch)
       → RecoversByFrom mode first base dirs merged → OkOrFailed result merged
-  only_recovered (Ok found) is why merged h = once mode first base dirs found.batches merged (is told) h
+  only_recovered (Ok found) is why merged h = recovers_by_once mode first base dirs found.batches merged (is told) h
   only_recovered (Err (faults.Disk side)) is why merged h = tt
   only_recovered (Err (faults.DuplicateSegment w i)) is why merged h = not_both mode first base dirs merged (faults.DuplicateSegment w i) h (why told)
   only_recovered (Err (faults.BadBatch w i p f)) is why merged h = not_both mode first base dirs merged (faults.BadBatch w i p f) h (why told)

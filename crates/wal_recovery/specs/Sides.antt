@@ -9,7 +9,7 @@ use Rattle.disk_face.specs.Listing.{IsAscending, AreSegmentNames, IsListing}
 use Rattle.disk_face.specs.Asked.{listings, bytes_asked, length_listed, creations}
 use Rattle.wal_recovery.specs.declared.listing.Found.{Found}
 use Rattle.wal_recovery.specs.declared.listing.Sides.{Sides}
-use Rattle.wal_recovery.specs.Asking.{both_listed, length_in_row}
+use Rattle.wal_recovery.specs.Asking.{AreNotOnTables, both_listed, length_in_row}
 
 -- Each side's names ascend, and are names of segments.
 pub record AreSideNames (sides : Sides) : Type 0 where
@@ -41,7 +41,7 @@ abbrev pub IsAsLongAsListed : List Found → Sides → Type 0
 IsAsLongAsListed row sides =
     (side : Side) (name : SegName) → length_in_row side name row ≤ length_listed side name (both_listed sides.primary sides.secondary)
 
--- The calls made since list no side, ask for no more bytes of each segment than it is listed with, and create none.
+-- The calls made since list no side, ask for no more bytes of each segment than it is listed with, create none, and are not on tables.
 pub record ReadsListed (sides : Sides) (old new : DiskView) : Type 0 where
   pub made : List Call
   pub makes : Makes made old new
@@ -50,3 +50,4 @@ pub record ReadsListed (sides : Sides) (old new : DiskView) : Type 0 where
   pub asked : (side : Side) (name : SegName)
       → bytes_asked side name made ≤ length_listed side name (both_listed sides.primary sides.secondary)
   pub creates : creations made ≡ 0
+  pub tables : AreNotOnTables made

@@ -14,7 +14,7 @@ ghost use Rattle.wal_recovery.specs.Answers.{FaultRose, NoFaultRose, DiskMemoryO
 ghost use Rattle.wal_recovery.specs.Rows.{Ascends, IsRowOf, IsNext, Weaves, MeetsOrMemory, IsDiskOrMemory};
 ghost use Rattle.wal_recovery.specs.Rows.{files_from, RefusesTwice};
 ghost use Rattle.wal_recovery.specs.Gathered.{IsNoDisk};
-ghost use Rattle.wal_recovery.specs.Asking.{AsksOnce};
+ghost use Rattle.wal_recovery.specs.Asking.{AsksOnce, OnlyLists};
 ghost use Rattle.wal_recovery.specs.Sides.{AreSideNames, AreListings, AreSidesOf, ListsBoth, IsAsLongAsListed, IsAfter};
 ghost use Rattle.wal_recovery.specs.Promises.{ListsSideOnce, IsSideListing};
 
@@ -147,6 +147,7 @@ pub fn list_sides<D: Disk>(disk: &mut D) -> Result<Sides, RecoverFault>
     ensures goes_on { GoesOn (D.view disk.old) (D.view disk.new) }
     ensures same { SameDisk (D.view disk.old) (D.view disk.new) }
     ensures asks { AsksOnce (D.view disk.old) (D.view disk.new) }
+    ensures only { OnlyLists (D.view disk.old) (D.view disk.new) }
     ensures lists { IfOk result (λ sides. ListsBoth sides (D.view disk.old) (D.view disk.new)) }
     ensures fault { IfErr result IsDiskOrMemory }
     ensures rose { IfErr result (FaultRose (D.view disk.old) (D.view disk.new)) }
@@ -214,10 +215,5 @@ pub(crate) fn next_wal(sides: &Sides) -> u64
         → IsNextWal (dirs_as_read files) result }
 {
     let primary = next_wal_after(sides.primary.as_slice());
-    let secondary = next_wal_after(sides.secondary.as_slice());
-    if primary < secondary {
-        secondary
-    } else {
-        primary
-    }
+    primary.max(next_wal_after(sides.secondary.as_slice()))
 }

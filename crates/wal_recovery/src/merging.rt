@@ -190,7 +190,8 @@ fn merge_wal<D: Disk>(
     ensures numbered { IfOk result (All IsNumbered) }
     ensures contiguous { IfOk result (IsContiguous next) }
     ensures merged { IfOk result (MergesWal D.tells (D.view disk.old) wal.now next) }
-    ensures reports { OnOk result (ReportsOnWal D.tells (D.view disk.old) wal.now reports.old reports.new) }
+    ensures reports { OnOk result (ReportsOnWal D.tells (D.view disk.old) wal.now reports.old
+        reports.new) }
     ensures refused { IfErr result (IsWalRefused D.tells (D.view disk.old) wal.now next) }
 {
     let row = read_wal(alloc, disk, wal, Mode::Strict, reports)?;
@@ -286,7 +287,8 @@ fn add_wal<D: Disk>(
     ensures rose { IfErr result (FaultRose (D.view disk.old) (D.view disk.new)) }
     ensures calm { OnOk result (NoFaultRose (D.view disk.old) (D.view disk.new)) }
     ensures merged { MergesReports reports.old reports.new so_far result }
-    ensures reports { OnOk result (ReportsOnWal D.tells (D.view disk.old) wal.now reports.old reports.new) }
+    ensures reports { OnOk result (ReportsOnWal D.tells (D.view disk.old) wal.now reports.old
+        reports.new) }
     ensures refused { RefusesWalLeniently D.tells (D.view disk.old) wal.now so_far result }
 {
     let row = read_wal(alloc, disk, wal, Mode::Lenient, reports)?;

@@ -24,9 +24,11 @@ fn fill<D: Disk>(disk: &mut D, segment: Found, buffer: &mut [u8]) -> Result<usiz
     ensures goes_on { GoesOn (D.view disk.old) (D.view disk.new) }
     ensures asks { ReadsIfWithin (length buffer.old) segment (D.view disk.old) (D.view disk.new) }
     ensures same { SameDisk (D.view disk.old) (D.view disk.new) }
-    ensures failed { IsErrOf result DiskErr.Failed → SideRose segment.side (D.view disk.old) (D.view disk.new) }
+    ensures failed { IsErrOf result DiskErr.Failed → SideRose segment.side (D.view disk.old)
+        (D.view disk.new) }
     ensures calm { OnOk result (NoFaultRose (D.view disk.old) (D.view disk.new)) }
-    ensures bytes { IfOk result (FillsBuffer D.tells (D.view disk.old) segment buffer.old buffer.new) }
+    ensures bytes { IfOk result (FillsBuffer D.tells (D.view disk.old) segment buffer.old
+        buffer.new) }
 {
     if buffer.is_empty() {
         return Ok(0);
@@ -46,7 +48,8 @@ pub(crate) fn read_bytes<D: Disk>(
     ensures fault { IfErr result IsDiskOrMemory }
     ensures rose { IfErr result (FaultRose (D.view disk.old) (D.view disk.new)) }
     ensures calm { OnOk result (NoFaultRose (D.view disk.old) (D.view disk.new)) }
-    ensures bytes { IfOk result (λ bytes. AreBytesOf D.tells (D.view disk.old) segment segment.len bytes.items) }
+    ensures bytes { IfOk result (λ bytes. AreBytesOf D.tells (D.view disk.old) segment segment.len
+        bytes.items) }
 {
     let Ok(len) = usize::try_from(segment.len) else {
         return Err(RecoverFault::NoMemory);

@@ -61,7 +61,8 @@ fn recover_strict<D: Disk>(
     ensures next_wal { IfOk result (λ found. found.next_wal ≡ next_wal) }
     ensures each_moment { OnlySyncsThroughout D.tells (D.view disk.old) (D.view disk.new) }
     ensures untouched { IfErr result (UntouchedIfRefused (D.view disk.old) (D.view disk.new)) }
-    ensures stable { OnOk result (StabilizesRestedFrom start D.tells (D.view disk.old) (D.view disk.new)) }
+    ensures stable { OnOk result (StabilizesRestedFrom start D.tells (D.view disk.old)
+        (D.view disk.new)) }
 {
     let wals = by_wal(alloc, segments)?;
     let mut reports = SegReports::new(alloc);
@@ -164,7 +165,8 @@ pub fn recover_listed<D: Disk>(
     // The files: nothing happens to any but a sync, so a crash may leave nothing new; refused directories are not touched, and what was read is stable where no gap is accepted.
     ensures each_moment { AddsNoImageThroughout D.tells (D.view disk.old) (D.view disk.new) }
     ensures files { OnlySyncs D.tells (D.view disk.old) (D.view disk.new) }
-    ensures stable { OnOk result (StabilizesIfStrictFrom start D.tells mode (D.view disk.old) (D.view disk.new)) }
+    ensures stable { OnOk result (StabilizesIfStrictFrom start D.tells mode (D.view disk.old)
+        (D.view disk.new)) }
     ensures untouched { IfErr result (UntouchedIfRefused (D.view disk.old) (D.view disk.new)) }
     ensures starts_nothing { mode ≡ Lenient → SameDisk (D.view disk.old) (D.view disk.new) }
 {
@@ -207,7 +209,8 @@ pub fn recover<D: Disk>(alloc: Global, disk: &mut D, mode: Mode) -> Result<Recov
     // The files: nothing happens to any but a sync, so a crash may leave nothing new; refused directories are not touched, and what was read is stable where no gap is accepted.
     ensures each_moment { AddsNoImageThroughout D.tells (D.view disk.old) (D.view disk.new) }
     ensures files { OnlySyncs D.tells (D.view disk.old) (D.view disk.new) }
-    ensures stable { OnOk result (StabilizesIfStrict D.tells mode (D.view disk.old) (D.view disk.new)) }
+    ensures stable { OnOk result (StabilizesIfStrict D.tells mode (D.view disk.old)
+        (D.view disk.new)) }
     ensures untouched { IfErr result (UntouchedIfRefused (D.view disk.old) (D.view disk.new)) }
     ensures starts_nothing { mode ≡ Lenient → SameDisk (D.view disk.old) (D.view disk.new) }
 {

@@ -4,7 +4,7 @@ use Rattle.disk_face.specs.View.{Files, files}
 use Rattle.disk_face.specs.Listing.{IsListing}
 use Rattle.disk_face.proofs.Laws.{same_files}
 use Rattle.wal_recovery.specs.Asking.{names_given}
-use Rattle.wal_recovery.proofs.ReadsOnly.{lists_two, lists_one}
+use Rattle.wal_recovery.proofs.ReadsOnly.{lists_two, lists_one, only_two, only_one}
 use Rattle.wal_recovery.proofs.listing.list_sides.Goals as goal
 
 pub returns-in_err-primary-clause-asks : goal.returns-in_err-primary-clause-asks
@@ -19,6 +19,20 @@ returns-in_err-secondary-clause-asks g c =
 pub returns-clause-asks : goal.returns-clause-asks
 returns-clause-asks g c =
     lists_two (names_given c.names_on.result) (names_given c.names_on-2.result) (g.D.Disk.view c.args.disk.now)
+    (g.D.Disk.view c.names_on.new.disk) (g.D.Disk.view c.names_on-2.new.disk) c.names_on.ensures.asks c.names_on-2.ensures.asks
+
+pub returns-in_err-primary-clause-only : goal.returns-in_err-primary-clause-only
+returns-in_err-primary-clause-only g c = only_one (names_given c.names_on.result) (g.D.Disk.view c.args.disk.now)
+    (g.D.Disk.view c.names_on.new.disk) c.names_on.ensures.asks
+
+pub returns-in_err-secondary-clause-only : goal.returns-in_err-secondary-clause-only
+returns-in_err-secondary-clause-only g c =
+    only_two (names_given c.names_on.result) (names_given c.names_on-2.result) (g.D.Disk.view c.args.disk.now)
+    (g.D.Disk.view c.names_on.new.disk) (g.D.Disk.view c.names_on-2.new.disk) c.names_on.ensures.asks c.names_on-2.ensures.asks
+
+pub returns-clause-only : goal.returns-clause-only
+returns-clause-only g c =
+    only_two (names_given c.names_on.result) (names_given c.names_on-2.result) (g.D.Disk.view c.args.disk.now)
     (g.D.Disk.view c.names_on.new.disk) (g.D.Disk.view c.names_on-2.new.disk) c.names_on.ensures.asks c.names_on-2.ensures.asks
 
 pub returns-clause-sides : goal.returns-clause-sides
