@@ -1,0 +1,9 @@
+mod Tools
+mod OneStore
+mod Counting
+mod ReadsTables
+mod Asks
+mod Whole
+mod NextWal
+mod Starting
+mod Answering

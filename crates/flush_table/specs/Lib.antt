@@ -1,0 +1,6 @@
+pub mod Stores
+pub mod Asked
+pub mod Reading
+pub mod Begun
+pub mod Promises
+pub mod Theorems
