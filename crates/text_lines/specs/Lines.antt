@@ -8,8 +8,9 @@ use Rattle.batch_repr.specs.declared.batch.Batch.{Batch}
 use Rattle.batch_repr.specs.Batches.{count_of}
 use Rattle.disk_face.specs.declared.Side.{Side}
 use Rattle.disk_face.specs.declared.Side.TheVariants.{Primary, Secondary}
-use Rattle.disk_face.specs.Names.{seg_text}
+use Rattle.disk_face.specs.Names.{seg_text, table_name_text}
 use Rattle.text_lines.specs.declared.segments.SegmentLine.{SegmentLine}
+use Rattle.text_lines.specs.declared.segments.TableLine.{TableLine}
 use Rattle.text_lines.specs.Printed.{printed}
 
 -- `set K V`, `del K`, `note T` or `rdel K K`
@@ -39,6 +40,11 @@ segment_line segment records =
     codes "segment " ++ seg_text segment.name ++ codes " " ++ side_word segment.side ++ codes " bytes " ++ decimal segment.len ++ codes
     " records " ++ decimal records
     ++ codes " ends " ++ decimal segment.ends_at ++ codes " " ++ torn_word segment.torn ++ 10 ∷ []
+
+-- `table NAME keys L next N`
+abbrev pub table_line : TableLine → List ℕ
+table_line line =
+    codes "table " ++ table_name_text line.name.upto ++ codes " keys " ++ decimal line.keys ++ codes " next " ++ decimal line.next ++ 10 ∷ []
 
 -- `end batches B next N`
 unfoldable pub recovered_end : ℕ → ℕ → List ℕ

@@ -1,7 +1,7 @@
-//! The lines that the program prints of what a log holds: bytes, batches, segments, a store, and refusals.
+//! The lines that the program prints of what a log holds: bytes, batches, segments, tables, a store, and refusals.
 //!
 //! Stands on `batch_repr` for batches and what a store answers after them, and on `disk_face` for the names of
-//! segments. The layer above uses one contract: each call adds to a text exactly the line that its definition says, and
+//! segments and tables. The layer above uses one contract: each call adds to a text exactly the line that its definition says, and
 //! of a store one line for each key that has a value, in order of bytes; on out of memory it leaves the text as it was.
 //! `live_keys` gives these keys themselves, with their values.
 //!
@@ -21,5 +21,5 @@ pub use batches::put_batch;
 pub use pieces::{Piece, put_pieces};
 pub use printed::{put_number, put_printed};
 pub use refusals::{put_bad_batch, put_conflict, put_corrupt, put_duplicate, put_gap};
-pub use segments::{SegmentLine, put_recovered_end, put_segment, side_name};
+pub use segments::{SegmentLine, TableLine, put_recovered_end, put_segment, put_table, side_name};
 pub use store::{LiveKeys, live_keys, put_store};

@@ -4,7 +4,7 @@ ghost use Rattle.std.specs.Prelude.{◌≡◌, ◌++◌, take, length, OnOk, OnE
 ghost use Rattle.text_lines.specs.Pieces.{piece_text, pieces_text};
 
 use crate::printed::{add_printed, put_number};
-use disk_face::SegName;
+use disk_face::{SegName, TableName};
 use wal_base::{Buf, NoMemory};
 
 /// A piece of a line.
@@ -18,6 +18,8 @@ pub enum Piece<'p> {
     Number(u64),
     /// The spelling of this name.
     Name(SegName),
+    /// The spelling of this name of a table.
+    TableName(TableName),
 }
 
 /// Adds the pieces, one after another. On out of memory the text is as it was.
@@ -67,5 +69,6 @@ fn add_piece(out: &mut Buf, piece: Piece<'_>) -> Result<(), NoMemory>
         Piece::Printed(bytes) => add_printed(out, bytes),
         Piece::Number(number) => put_number(out, number),
         Piece::Name(name) => name.put(out),
+        Piece::TableName(name) => name.put(out),
     }
 }

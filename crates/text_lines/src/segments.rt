@@ -1,10 +1,10 @@
-//! The line of a segment, and the line that ends what was recovered.
+//! The line of a segment, the line of a table, and the line that ends what was recovered.
 
 ghost use Rattle.std.specs.Prelude.{◌≡◌, ◌++◌, OnOk, OnErr};
-ghost use Rattle.text_lines.specs.Lines.{side_word, torn_word, segment_line, recovered_end};
+ghost use Rattle.text_lines.specs.Lines.{side_word, torn_word, segment_line, table_line, recovered_end};
 
 use crate::{Piece, put_pieces};
-use disk_face::{SegName, Side};
+use disk_face::{SegName, Side, TableName};
 use wal_base::{Buf, NoMemory};
 
 /// What one line says of a segment.
@@ -40,6 +40,34 @@ pub fn put_segment(out: &mut Buf, segment: &SegmentLine, records: usize) -> Resu
         Piece::Number(segment.ends_at),
         Piece::Text(b" "),
         Piece::Text(torn_name(segment.torn).as_bytes()),
+        Piece::Text(b"\n"),
+    ];
+    put_pieces(out, &line)
+}
+
+/// What one line says of a table.
+#[derive(Clone, Copy, Debug, PartialEq, Eq)]
+pub struct TableLine {
+    /// Its name.
+    pub name: TableName,
+    /// How many keys it has.
+    pub keys: u64,
+    /// The number that comes next after its batches.
+    pub next: u64,
+}
+
+/// Adds the line of a table. On out of memory the text is as it was.
+pub fn put_table(out: &mut Buf, table: &TableLine) -> Result<(), NoMemory>
+    ensures ok { OnOk result (out.new ≡ out.old ++ table_line table.now) }
+    ensures err { OnErr result (out.new ≡ out.old) }
+{
+    let line = [
+        Piece::Text(b"table "),
+        Piece::TableName(table.name),
+        Piece::Text(b" keys "),
+        Piece::Number(table.keys),
+        Piece::Text(b" next "),
+        Piece::Number(table.next),
         Piece::Text(b"\n"),
     ];
     put_pieces(out, &line)

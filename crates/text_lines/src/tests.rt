@@ -1,9 +1,10 @@
 use crate::{
-    SegmentLine, put_bad_batch, put_batch, put_conflict, put_corrupt, put_duplicate, put_gap,
-    put_number, put_printed, put_recovered_end, put_segment, put_store, side_name,
+    SegmentLine, TableLine, put_bad_batch, put_batch, put_conflict, put_corrupt, put_duplicate,
+    put_gap, put_number, put_printed, put_recovered_end, put_segment, put_store, put_table,
+    side_name,
 };
 use batch_repr::{Batch, BatchFault, SharedEntries};
-use disk_face::{SegName, Side};
+use disk_face::{SegName, Side, TableName};
 use std::alloc::Global;
 use std::process::Abort;
 use test_rigs::{Change, batch_of};
@@ -103,6 +104,19 @@ fn put_segments(out: &mut Buf) -> Result<(), NoMemory> {
     };
     put_segment(out, &clean, 0)?;
     put_recovered_end(out, 1, 11)
+}
+
+#[test]
+fn a_table_has_one_line(rt: HostRuntime) {
+    let mut out = Buf::new(rt.alloc()).expect(&rt, "memory");
+    let table = TableLine {
+        name: TableName { upto: 2 },
+        keys: 3,
+        next: 17,
+    };
+    let put = put_table(&mut out, &table);
+    let text = b"table 000002.tab keys 3 next 17\n";
+    assert!(rt; put.is_ok() && out.as_slice() == text.as_slice());
 }
 
 #[test]
