@@ -1,6 +1,9 @@
 //! A disk that holds polls of one operation back.
 
-use disk_face::{CallLog, Disk, DiskErr, DiskOp, Names, OpId, Progress, SegName, Side};
+use disk_face::{
+    CallLog, Disk, DiskErr, DiskOp, FilePlace, Names, OpId, Progress, SegName, Side, TableDisk,
+    TableNames,
+};
 use wal_base::NoMemory;
 
 /// A disk that answers so many polls of one operation on the primary side pending.
@@ -61,4 +64,36 @@ impl<D: Disk> Disk for Late<D> {
     ghost finite = { λ d k told le. D.finite d.inner k told le };
 
     ghost sound = { λ d p f told is. D.sound d.inner p f told is };
+}
+
+impl<D: TableDisk> TableDisk for Late<D> {
+    fn tables(&mut self) -> Result<TableNames, DiskErr> {
+        let answer = self.inner.tables();
+        self.log.note_tables(&answer);
+        answer
+    }
+
+    fn read_table(&mut self, upto: u64, at: u64, buf: &mut [u8]) -> Result<usize, DiskErr> {
+        self.log.note_table_read(upto, buf.len());
+        self.inner.read_table(upto, at, buf)
+    }
+
+    fn put_table(&mut self, upto: u64, bytes: &[u8]) -> Result<(), DiskErr> {
+        let answer = self.inner.put_table(upto, bytes);
+        self.log.note_put(upto, bytes, &answer);
+        answer
+    }
+
+    fn drop_segment(&mut self, side: Side, name: SegName) -> Result<(), DiskErr> {
+        let answer = self.inner.drop_segment(side, name);
+        self.log
+            .note_removal(FilePlace::Segment { side, name }, &answer);
+        answer
+    }
+
+    fn drop_table(&mut self, upto: u64) -> Result<(), DiskErr> {
+        let answer = self.inner.drop_table(upto);
+        self.log.note_removal(FilePlace::Table { upto }, &answer);
+        answer
+    }
 }

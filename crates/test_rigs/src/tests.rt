@@ -2,7 +2,7 @@ ghost use Rattle.std.specs.Prelude.{◌≡◌, None, IsTrue};
 ghost use Rattle.disk_face.specs.View.{segment, files, NothingInFlight};
 
 use crate::{Change, Fresh, Late, batch_of, numbered_set};
-use disk_face::{CallLog, Disk, DiskOp, Progress, SegName, Side};
+use disk_face::{CallLog, Disk, DiskErr, DiskOp, Progress, SegName, Side, TableDisk};
 use std::alloc::Global;
 use wal_base::{Entry, NoMemory};
 
@@ -90,5 +90,27 @@ fn a_late_operation_is_pending_and_then_ends(rt: HostRuntime) -> Result<(), NoMe
     assert!(rt; ended == [Progress::Pending, Progress::Done]);
     let failed = created(rt.alloc(), 0)?;
     assert!(rt; failed == [Progress::Pending, Progress::Failed]);
+    Ok(())
+}
+
+/// Puts a table, reads its first byte, and removes it. Answers how many tables are listed before and after that.
+fn turned_over<D: TableDisk>(disk: &mut D) -> Result<(usize, u8, usize), DiskErr> {
+    disk.put_table(1, b"t")?;
+    let before = disk.tables()?.len();
+    let mut byte = [0u8; 1];
+    disk.read_table(1, 0, &mut byte)?;
+    disk.drop_table(1)?;
+    Ok((before, byte[0], disk.tables()?.len()))
+}
+
+#[test]
+fn tables_stand_on_the_disk_within(rt: HostRuntime) -> Result<(), NoMemory> {
+    let mut disk = Late {
+        inner: Fresh::new(rt.alloc())?.into_disk(),
+        op: 0,
+        polls: 1,
+        log: CallLog::new(),
+    };
+    assert!(rt; turned_over(&mut disk) == Ok((1, b't', 0)));
     Ok(())
 }
