@@ -12,7 +12,7 @@ use Rattle.arena_list.specs.declared.node.Node.{Node}
 use Rattle.arena_list.specs.declared.sought.Sought.{Sought}
 use Rattle.arena_list.specs.Leads.{lead_of, LengthsTell, LeadsTell, AreBytes}
 use Rattle.arena_list.specs.Nodes.{key_of, node_at, places_on}
-use Rattle.arena_list.specs.Fronts.{IsLed, ShareFront, HasFront, HaveFront, IsTold, AreTold}
+use Rattle.arena_list.specs.Fronts.{IsLed, ShareFront, HasFront, HaveFront, IsNodeTold, AreTold}
 use Rattle.arena_list.proofs.Levels.{read_at}
 use Rattle.arena_list.proofs.Orders.{keys_tied, less_numbers, greater_numbers}
 use Rattle.arena_list.proofs.Leads.{lead_less, lead_greater, lead_same, lead_fits}
@@ -203,6 +203,6 @@ front_has nodes is place h = (is.front, is.len, is.led place h)
 
 -- what is told of the nodes is told of one that was read
 pub told_read : (nodes : List Node) (sought : Sought) (place : ℕ) (node : Node) → AreTold nodes sought → Contains (places_on nodes 0) place
-    → place < length nodes → node ≡ slice_index_or nodes place node → IsTold node sought
+    → place < length nodes → node ≡ slice_index_or nodes place node → IsNodeTold node sought
 told_read nodes sought place node told there within is =
-    subst (λ (n : Node). IsTold n sought) (sym (is ∙ read_at nodes place node within)) (told place there)
+    subst (λ (n : Node). IsNodeTold n sought) (sym (is ∙ read_at nodes place node within)) (told place there)

@@ -30,11 +30,11 @@ abbrev pub HaveFront : ℕ → Node → Node → Type 0
 HaveFront shared node other = (front : List ℕ) × (length front ≡ shared) × IsLed front node × IsLed front other
 
 -- The leads tell how each key stands to the one that is sought.
-abbrev pub IsTold : Node → Sought → Type 0
-IsTold node sought = LeadsTell (key_of node.held) node.lead sought.key.now sought.lead sought.extent
+abbrev pub IsNodeTold : Node → Sought → Type 0
+IsNodeTold node sought = LeadsTell (key_of node.held) node.lead sought.key.now sought.lead sought.extent
 
 abbrev pub AreTold : List Node → Sought → Type 0
-AreTold nodes sought = (place : ℕ) → Contains (places_on nodes 0) place → IsTold (node_at nodes place) sought
+AreTold nodes sought = (place : ℕ) → Contains (places_on nodes 0) place → IsNodeTold (node_at nodes place) sought
 
 -- No more than leads differ.
 pub record KeepsAllButLeads (old new : List Node) : Type 0 where

@@ -62,8 +62,8 @@ fn lead_anew(nodes: &mut [Node], shared: usize)
     }
 }
 
-/// Lowers the front to what a key begins with, too, and answers its length. That takes a look at each key that is held, but
-/// all such passes together look at no more bytes than the keys have: each held the bytes that leave the front.
+/// Lowers the front to what a key begins with, too, and answers its length. That visits each node, but all such passes
+/// together visit no more nodes than the keys have bytes: each key visited had the bytes that leave the front.
 pub(crate) fn lower_front(nodes: &mut [Node], top: &mut [Guide], shared: usize, key: &[u8]) -> usize
     requires head { 0 < length nodes.old }
     requires linked { IsLinked nodes.old }

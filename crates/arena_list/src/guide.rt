@@ -5,7 +5,7 @@ ghost use Rattle.std.specs.Ordering.{nat_cmp};
 ghost use Rattle.std.specs.Cmp.Lexicographic.{slice_cmp};
 ghost use Rattle.arena_list.specs.Versions.{GoesBefore};
 ghost use Rattle.arena_list.specs.Nodes.{node_at, version_in, version_at};
-ghost use Rattle.arena_list.specs.Fronts.{HasFront, IsTold};
+ghost use Rattle.arena_list.specs.Fronts.{HasFront, IsNodeTold};
 ghost use Rattle.arena_list.specs.Tops.{TellsVersion};
 
 use crate::lead::{lead, length_in_lead, rest_of};
@@ -52,7 +52,7 @@ impl Guide {
         requires node { self.now.place < length nodes.now }
         requires tells { TellsVersion sought.now.shared self.now
             (version_at nodes.now self.now.place) }
-        requires told { IsTold (node_at nodes.now self.now.place) sought.now }
+        requires told { IsNodeTold (node_at nodes.now self.now.place) sought.now }
         requires front { HasFront sought.now.shared (node_at nodes.now self.now.place) }
         ensures { result
             ≡ slice_cmp nat_cmp (version_at nodes.now self.now.place).key sought.now.key.now }
@@ -77,7 +77,7 @@ impl Guide {
         requires node { self.now.place < length nodes.now }
         requires tells { TellsVersion sought.now.shared self.now
             (version_at nodes.now self.now.place) }
-        requires told { IsTold (node_at nodes.now self.now.place) sought.now }
+        requires told { IsNodeTold (node_at nodes.now self.now.place) sought.now }
         requires front { HasFront sought.now.shared (node_at nodes.now self.now.place) }
         ensures { IsTrue result
             ↔ GoesBefore (version_at nodes.now self.now.place) sought.now.key.now sought.now.number }

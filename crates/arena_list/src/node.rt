@@ -5,7 +5,7 @@ ghost use Rattle.std.specs.Ordering.{nat_cmp};
 ghost use Rattle.std.specs.Cmp.Lexicographic.{slice_cmp};
 ghost use Rattle.arena_list.specs.Versions.{IsAt, GoesBefore, version_shown};
 ghost use Rattle.arena_list.specs.Nodes.{key_of, value_of, held_of, unless_vacant, is_vacant, version_in};
-ghost use Rattle.arena_list.specs.Fronts.{HaveFront, IsTold};
+ghost use Rattle.arena_list.specs.Fronts.{HaveFront, IsNodeTold};
 
 use crate::lead::{LEAD_SIZE, is_same_key, order_of_same_lead};
 use crate::sought::Sought;
@@ -113,7 +113,7 @@ impl Node {
     /// How its key stands to the one that is sought. Nothing of its key is read unless the leads are equal. A search asks
     /// this of each node, so the leads are compared by two tests: `cmp` would make an answer first, which is then tested.
     pub(crate) fn order(&self, sought: &Sought<'_>) -> Ordering
-        requires { IsTold self.now sought.now }
+        requires { IsNodeTold self.now sought.now }
         ensures { result ≡ slice_cmp nat_cmp (key_of self.now.held) sought.now.key.now }
     {
         if self.lead < sought.lead {
@@ -127,7 +127,7 @@ impl Node {
 
     /// Whether its version goes before what is sought.
     pub(crate) fn is_before(&self, sought: &Sought<'_>) -> bool
-        requires { IsTold self.now sought.now }
+        requires { IsNodeTold self.now sought.now }
         ensures { IsTrue result ↔ GoesBefore (version_in self.now) sought.now.key.now
             sought.now.number }
     {
@@ -140,7 +140,7 @@ impl Node {
 
     /// Whether its version has the key that is sought. Nothing of its key is read unless the leads are equal.
     pub(crate) fn has_key(&self, sought: &Sought<'_>) -> bool
-        requires { IsTold self.now sought.now }
+        requires { IsNodeTold self.now sought.now }
         ensures { IsTrue result ↔ ((version_in self.now).key ≡ sought.now.key.now) }
     {
         self.lead == sought.lead && is_same_key(self.held.key(), sought.key, sought.extent)
@@ -168,7 +168,7 @@ impl Node {
 
     /// Whether its version has the key and the number that are sought.
     pub(crate) fn is_at(&self, sought: &Sought<'_>) -> bool
-        requires { IsTold self.now sought.now }
+        requires { IsNodeTold self.now sought.now }
         ensures { IsTrue result ↔ IsAt (version_in self.now) sought.now.key.now sought.now.number }
     {
         self.seq == sought.number && self.has_key(sought)
