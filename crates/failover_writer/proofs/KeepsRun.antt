@@ -19,7 +19,8 @@ use Rattle.log_writer.specs.Writer.{Writer}
 use Rattle.log_writer.specs.Fits.{place_of_writer}
 use Rattle.failover_writer.specs.State.{State, acked}
 use Rattle.failover_writer.specs.Ranges.{AreJoined, StandsFor}
-use Rattle.failover_writer.specs.Keeping.{IsElsewhere, IsRunOver, KeepsRun, HasNoSegment, OthersStay, IsOpenedOn, StoodAt}
+use Rattle.wal_recovery.specs.Further.{IsElsewhere}
+use Rattle.failover_writer.specs.Keeping.{IsRunOver, KeepsRun, HasNoSegment, OthersStay, IsOpenedOn, StoodAt}
 use Rattle.failover_writer.proofs.Segments.{not_theirs}
 use Rattle.failover_writer.proofs.OwnSegments.{are_records, all_kept, not_both, OwnRow, own_row}
 

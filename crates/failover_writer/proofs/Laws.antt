@@ -1,6 +1,6 @@
 -- What the crates above cite of these proofs, and all that they may.
 pub use Rattle.failover_writer.proofs.KeepsRun.{run_kept_now}
-pub use Rattle.failover_writer.proofs.IsOpening.{read_synced, recovered_opens, rested_synced}
+pub use Rattle.failover_writer.proofs.IsOpening.{recovered_opens}
 pub use Rattle.failover_writer.proofs.RecoversTo.{base_recovers, none_of_opening}
 pub use Rattle.failover_writer.proofs.ReadsAsImage.{reads_as_image}
 pub use Rattle.failover_writer.proofs.Segments.{not_theirs, synced_within}

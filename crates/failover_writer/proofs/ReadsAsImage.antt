@@ -9,7 +9,7 @@ use Rattle.crc_chunk.proofs.Laws.{same_in_whole}
 use Rattle.block_record.specs.Framing.{laid}
 use Rattle.batch_repr.specs.declared.batch.Batch.{Batch}
 use Rattle.disk_face.specs.declared.FilePlace.TheVariants.{Segment, Table}
-use Rattle.disk_face.specs.View.{Place, segment, table, File, Files, DiskView, files}
+use Rattle.disk_face.specs.View.{Place, File, Files, DiskView, files}
 use Rattle.disk_face.specs.Image.{IsImageOf, IsImage, IsChanceFree, IsRestedFile, IsRested, log_of, as_read, dirs_as_read}
 use Rattle.disk_face.specs.Calls.{fresh}
 use Rattle.disk_face.proofs.Laws.{same_place}
@@ -23,7 +23,7 @@ use Rattle.log_writer.proofs.Laws.{bytes_split, bytes_front}
 use Rattle.failover_writer.specs.State.{State, phase_is_broken, is_broken, broken_count}
 use Rattle.failover_writer.specs.Ranges.{AreJoined, StandsFor}
 use Rattle.failover_writer.specs.Keeping.{OthersStay}
-use Rattle.failover_writer.proofs.IsOpening.{reads_sent}
+use Rattle.wal_recovery.proofs.Laws.{reads_sent}
 use Rattle.failover_writer.proofs.PollsAt.{count_head}
 use Rattle.failover_writer.proofs.Segments.{not_theirs}
 

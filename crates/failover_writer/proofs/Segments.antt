@@ -6,7 +6,7 @@ use Rattle.std.proofs.lemmas.List.Elements.{Contains-append_cases, Contains-push
 use Rattle.std.proofs.lemmas.List.Sums.{sum_by-append}
 use Rattle.disk_face.specs.declared.Side.{Side}
 use Rattle.disk_face.specs.declared.FilePlace.TheVariants.{Segment, Table}
-use Rattle.disk_face.specs.View.{Place, segment, table, DiskView}
+use Rattle.disk_face.specs.View.{Place, segment, DiskView}
 use Rattle.batch_repr.specs.declared.batch.Batch.{Batch}
 use Rattle.log_writer.specs.Writer.{Writer}
 use Rattle.log_writer.specs.Fits.{Fits, SameFile, place_of_writer}

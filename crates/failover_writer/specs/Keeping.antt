@@ -1,40 +1,19 @@
 -- What a stop leaves of a journal (docs/formats/journal.md, "What a stop leaves of a journal").
 use Rattle.batch_repr.specs.declared.limits.TheConstants.{NUMBER_FIRST}
-use Rattle.std.specs.Prelude.{◌≡◌, ◌≢◌, ◌↔◌, ℕ, ◌<◌, ◌≤◌, Bool, List, ◌++◌, length, take, map, Contains, Some, None, IsTrue}
+use Rattle.std.specs.Prelude.{◌≡◌, ℕ, ◌<◌, ◌≤◌, Bool, List, ◌++◌, length, take, map, Contains, Some, None, IsTrue}
 use Rattle.crc_chunk.specs.Chunk.{IsChunkOf}
 use Rattle.batch_repr.specs.declared.batch.Batch.{Batch}
 use Rattle.batch_repr.specs.Batches.{end_after}
 use Rattle.disk_face.specs.declared.Side.{Side}
 use Rattle.disk_face.specs.declared.SegName.{SegName}
-use Rattle.disk_face.specs.declared.FilePlace.TheVariants.{Segment, Table}
-use Rattle.disk_face.specs.View.{Place, segment, table, File, Files, Dirs, DiskView, files, AtEachMoment}
+use Rattle.disk_face.specs.View.{Place, segment, File, Files, Dirs, DiskView, files, AtEachMoment}
 use Rattle.disk_face.specs.Image.{IsImage, IsChanceFree}
 use Rattle.disk_face.specs.Listing.{IsSegmentName}
-use Rattle.wal_recovery.specs.Listing.{Stored, AreByIndex, StandsIn}
-use Rattle.wal_recovery.specs.Recovering.{WalMerges, Recovers}
+use Rattle.wal_recovery.specs.Further.{IsSameElsewhere, SegmentsMerge}
+use Rattle.wal_recovery.specs.Recovering.{Recovers}
 use Rattle.log_writer.specs.Fits.{place_of_writer}
 use Rattle.failover_writer.specs.State.{State, JournalView, acked}
 use Rattle.failover_writer.specs.Ranges.{StandsFor}
-
--- the place is not of this WAL
-abbrev pub IsElsewhere : ℕ → Place → Type 0
-IsElsewhere wal (Segment side name) = name.wal ≢ wal
-IsElsewhere wal (Table upto) = Unit {0}
-
--- These are the segments of the WAL in the directories, by their indexes.
-pub record AreSegmentsOf (dirs : Dirs) (wal : ℕ) (segments : List Stored) : Type 0 where
-  pub order : AreByIndex 0 segments
-  pub same : (stored : Stored) → Contains segments stored ↔ StandsIn dirs wal stored
-
--- The segments of the WAL, each read out, merge to these batches, from this number on.
-pub record SegmentsMerge (dirs : Dirs) (wal first : ℕ) (batches : List Batch) : Type 0 where
-  pub segments : List Stored
-  pub are : AreSegmentsOf dirs wal segments
-  pub merges : WalMerges first (record { number = wal; segments = segments }) batches
-
--- Every other file is as in these directories.
-abbrev pub IsSameElsewhere : ℕ → Dirs → Dirs → Type 0
-IsSameElsewhere wal dirs others = (p : Place) → IsElsewhere wal p → dirs p ≡ others p
 
 -- The segments of the journal's WAL merge to a prefix of its records, with all that are acked. Every other file is as in an
 -- image of the opening.

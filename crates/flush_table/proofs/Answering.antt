@@ -17,14 +17,15 @@ use Rattle.wal_recovery.specs.Rows.{files_from, IsDiskOrMemory}
 use Rattle.wal_recovery.specs.declared.reports.SegReport.{SegReport}
 use Rattle.wal_recovery.specs.Reports.{AreReports}
 use Rattle.wal_recovery.specs.Resting.{AreSegmentsStable}
-use Rattle.wal_recovery.specs.Base.{BeginsWith, GoesOnFrom}
+use Rattle.wal_recovery.specs.Base.{IsBaseOf, BeginsWith, GoesOnFrom}
+use Rattle.wal_recovery.proofs.Laws.{base_goes_on}
 use Rattle.flush_table.specs.declared.reports.TableSeen.{TableSeen}
 use Rattle.flush_table.specs.declared.tables.UsedTable.{UsedTable}
 use Rattle.flush_table.specs.Stores.{Used, StoreOf, IsStoreRefused, TellsUsed, IsBaseSeen, wal_after, number_after}
 use Rattle.flush_table.specs.Reading.{FindsUsed, IsSomeUsed, start_with, seen_with}
 use Rattle.flush_table.specs.Promises.{FoundOrFailed, RefusedOrFailed}
 use Rattle.flush_table.proofs.OneStore.{used_once}
-use Rattle.flush_table.proofs.Starting.{start_from, found_used, wal_seen, number_seen, base_seen}
+use Rattle.flush_table.proofs.Starting.{start_from, found_used, is_base, wal_seen, number_seen, base_seen}
 
 -- recovery of directories from a start
 abbrev pub RecoversAt : Mode → Dirs → List Batch → Start → Type 0
@@ -94,6 +95,11 @@ module _ (mode : Mode) (old mid : Files) (same : mid ≡ old) (found : Option Us
 
     pub begins_seen : BeginsWith start.base batches → (base : List Batch) × IsBaseSeen seen base × BeginsWith base batches
     begins_seen h = (start.base, base_is, h)
+
+    pub ends_seen : GoesOnFrom start.number start.base batches → (next : ℕ) → next ≡ end_after start.number batches → IsBaseOf next batches
+    ends_seen h next is =
+        let base : IsBaseOf start.number start.base = subst (λ (s : Start). IsBaseOf s.number s.base) (sym start_is) (is_base found some) in
+        subst (λ (n : ℕ). IsBaseOf n batches) (sym is) (base_goes_on start.number start.base batches base h)
 
     pub no_gap_seen : GoesOnFrom start.number start.base batches → (base : List Batch) × IsBaseSeen seen base × GoesOnFrom (number_after seen) base batches
     no_gap_seen h = (start.base, base_is, subst (λ (n : ℕ). GoesOnFrom n start.base batches) number_is h)

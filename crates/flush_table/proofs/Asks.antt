@@ -12,7 +12,7 @@ use Rattle.disk_face.proofs.Laws.{makes_none, makes_further}
 use Rattle.wal_recovery.specs.declared.listing.Sides.{Sides}
 use Rattle.wal_recovery.specs.Asking.{both_listed, OnlyLists}
 use Rattle.wal_recovery.specs.Sides.{ListsBoth, ReadsListed}
-use Rattle.flush_table.specs.Asked.{lists_tables_in, table_listings, table_bytes_in, table_bytes_asked, table_length_in, table_length_among, table_length_listed, puts_in, table_puts, removes_in, removals, AsksOfStore, store_listed, ListsAllInTurn, ReadsTables, ListsThenReads}
+use Rattle.flush_table.specs.Asked.{lists_tables_in, table_listings, table_bytes_in, table_bytes_asked, table_length_in, table_length_among, table_length_listed, puts_in, table_puts, removes_in, removals, AsksOfStore, store_listed, ListsAllInTurn, ReadsNoneBelow, ReadsTablesFrom, ListsThenReads}
 use Rattle.flush_table.proofs.Counting.{none_on_tables, none_of_reads}
 
 -- ---- the listings
@@ -62,13 +62,14 @@ lists_then tables old mid new makes b = record {
     quiet_removals = none_on_tables removes_in (λ s n. refl) (λ s n l. refl) (λ i f. refl) (λ i a. refl) b.made b.tables
 
 -- the listings, and reads of tables after them
-pub begins_by : (tables : List TableListed) (sides : Sides) (old one two new : DiskView) → Makes (tables_were_listed tables ∷ []) old one
-    → ListsBoth sides one two → ReadsTables tables two new → ListsThenReads tables sides.primary sides.secondary old new
-begins_by tables sides old one two new a b c = record {
+pub begins_by : (least : ℕ) (tables : List TableListed) (sides : Sides) (old one two new : DiskView) → Makes (tables_were_listed tables ∷ []) old one
+    → ListsBoth sides one two → ReadsTablesFrom least tables two new → ListsThenReads least tables sides.primary sides.secondary old new
+begins_by least tables sides old one two new a b c = record {
   later = c.made;
   makes = makes_further (store_listed tables sides.primary sides.secondary) c.made old two new
       (makes_further (tables_were_listed tables ∷ []) (both_listed sides.primary sides.secondary) old one two a b) c.makes;
   reads = c.reads;
+  below = c.below;
 }
 
 -- ---- and recovery after them
@@ -113,9 +114,9 @@ module _ (tables : List TableListed) (ones others : List Listed) where
       last : table_length_listed upto (tables_were_listed tables ∷ []) ≡ table_length_among upto tables
       last = let e : 0 + table_length_among upto tables ≡ table_length_among upto tables = omega arith in e
 
-pub begins_then : (tables : List TableListed) (sides : Sides) (old mid new : DiskView) → ListsThenReads tables sides.primary sides.secondary old mid
-    → ReadsListed sides mid new → AsksOfStore old new
-begins_then tables sides old mid new b c = record {
+pub begins_then : (least wal : ℕ) (tables : List TableListed) (sides : Sides) (old mid new : DiskView)
+    → ListsThenReads least tables sides.primary sides.secondary old mid → ReadsListed wal sides mid new → AsksOfStore old new
+begins_then least wal tables sides old mid new b c = record {
   made = c.made ++ (b.later ++ store_listed tables sides.primary sides.secondary);
   makes = makes_further (b.later ++ store_listed tables sides.primary sides.secondary) c.made old mid new b.makes c.makes;
   tables_once = omega (
@@ -174,21 +175,23 @@ begins_then tables sides old mid new b c = record {
 }
 
 -- and nothing after them
-pub begins_only : (tables : List TableListed) (sides : Sides) (old new : DiskView) → ListsThenReads tables sides.primary sides.secondary old new
-    → AsksOfStore old new
-begins_only tables sides old new b = begins_then tables sides old new new b (record {
+pub begins_only : (least : ℕ) (tables : List TableListed) (sides : Sides) (old new : DiskView)
+    → ListsThenReads least tables sides.primary sides.secondary old new → AsksOfStore old new
+begins_only least tables sides old new b = begins_then least 0 tables sides old new new b (record {
   made = [];
   makes = makes_none new;
   lists = λ side. refl;
   listed = λ side name. refl;
   asked = λ side name. omega arith;
+  below = λ side name less. refl;
   creates = refl;
   tables = tt;
 })
 
-pub lists_in_turn : (tables : List TableListed) (sides : Sides) (old mid new : DiskView) → ListsThenReads tables sides.primary sides.secondary old mid
-    → ReadsListed sides mid new → ListsAllInTurn tables sides.primary sides.secondary old new
-lists_in_turn tables sides old mid new b c = record {
+pub lists_in_turn : (least wal : ℕ) (tables : List TableListed) (sides : Sides) (old mid new : DiskView)
+    → ListsThenReads least tables sides.primary sides.secondary old mid → ReadsListed wal sides mid new
+    → ListsAllInTurn tables sides.primary sides.secondary old new
+lists_in_turn least wal tables sides old mid new b c = record {
   later = c.made ++ b.later;
   makes = subst (λ (l : List Call). Makes l old new) (sym (append_assoc c.made b.later (store_listed tables sides.primary sides.secondary)))
       (makes_further (b.later ++ store_listed tables sides.primary sides.secondary) c.made old mid new b.makes c.makes);
@@ -203,5 +206,27 @@ lists_in_turn tables sides old mid new b c = record {
     sum_by-append (lists_in side) c.made b.later,
     c.lists side,
     none_of_reads (lists_in side) (λ u l. refl) b.later b.reads.only,
+  );
+}
+
+-- of what lies below the table that was found nothing is asked
+pub reads_none_below : (least wal : ℕ) (tables : List TableListed) (sides : Sides) (old mid new : DiskView)
+    → ListsThenReads least tables sides.primary sides.secondary old mid → ReadsListed wal sides mid new → ReadsNoneBelow wal least old new
+reads_none_below least wal tables sides old mid new b c = record {
+  made = c.made ++ (b.later ++ store_listed tables sides.primary sides.secondary);
+  makes = makes_further (b.later ++ store_listed tables sides.primary sides.secondary) c.made old mid new b.makes c.makes;
+  segments = λ side name less. omega (
+    arith,
+    sum_of_three (bytes_in side name) c.made b.later (store_listed tables sides.primary sides.secondary),
+    none_asked tables sides.primary sides.secondary side name,
+    c.below side name less,
+    none_of_reads (bytes_in side name) (λ u l. refl) b.later b.reads.only,
+  );
+  tables = λ upto less. omega (
+    arith,
+    sum_of_three (table_bytes_in upto) c.made b.later (store_listed tables sides.primary sides.secondary),
+    no_table_asked tables sides.primary sides.secondary upto,
+    none_on_tables (table_bytes_in upto) (λ s n. refl) (λ s n l. refl) (λ i f. refl) (λ i a. refl) c.made c.tables,
+    b.below upto less,
   );
 }

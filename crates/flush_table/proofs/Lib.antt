@@ -1,3 +1,4 @@
+pub mod Laws
 mod Tools
 mod OneStore
 mod Counting
@@ -7,3 +8,4 @@ mod Whole
 mod NextWal
 mod Starting
 mod Answering
+mod RunOverStore

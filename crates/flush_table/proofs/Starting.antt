@@ -1,17 +1,19 @@
 -- Where recovery begins, by the table that was found: behind its batches, which end at its `next`.
-use Rattle.std.proofs.Common.{◌≡◌, ◌+◌, ◌-◌, ◌≤◌, ℕ, List, [], length, Option, Some, None, sym, subst, refl, arith, lit≤}
+use Rattle.std.proofs.Common.{◌≡◌, ◌+◌, ◌-◌, ◌≤◌, ℕ, List, [], length, Option, Some, None, sym, subst, ap, ◌∙◌, refl, arith, lit≤}
 use Rattle.std.specs.Prelude.{IfSome}
 use Rattle.batch_repr.specs.declared.limits.TheConstants.{NUMBER_FIRST, NUMBER_MAX}
 use Rattle.batch_repr.specs.declared.batch.Batch.{Batch}
-use Rattle.disk_face.specs.View.{Dirs}
+use Rattle.disk_face.specs.View.{Dirs, DiskView}
 use Rattle.table_text.specs.Tables.{Table, IsTable, batches_of}
 use Rattle.table_text.proofs.Laws.{ends_at_next}
 use Rattle.wal_recovery.specs.declared.reports.Start.{Start}
 use Rattle.wal_recovery.specs.Base.{IsBaseOf}
 use Rattle.wal_recovery.proofs.Laws.{no_base}
 use Rattle.flush_table.specs.declared.tables.UsedTable.{UsedTable}
-use Rattle.flush_table.specs.Stores.{Used, IsUsed, TellsUsed, IsBaseSeen, wal_from, first_from, base_of, wal_after, number_after}
-use Rattle.flush_table.specs.Reading.{FindsUsed, IsSomeUsed, start_with, seen_with}
+use Rattle.flush_table.specs.declared.reports.TableSeen.{TableSeen}
+use Rattle.flush_table.specs.Stores.{Used, IsUsed, TellsUsed, IsBaseSeen, wal_from, first_from, base_of, wal_after, table_from, number_after}
+use Rattle.flush_table.specs.Asked.{ReadsNoneBelow}
+use Rattle.flush_table.specs.Reading.{FindsUsed, IsSomeUsed, least_read, start_with, seen_with}
 
 -- the start above a used table
 abbrev pub start_from : Option Used → Start
@@ -30,7 +32,7 @@ number_within None is = lit≤ tt
 number_within (Some found) (named, (table, is, tells)) = omega (arith, tells.next_is, is.most)
 
 -- the batches of a table are numbered, and end at its `next`
-table_base : (table : Table) → IsTable table → IsBaseOf table.next (batches_of table)
+pub table_base : (table : Table) → IsTable table → IsBaseOf table.next (batches_of table)
 table_base table is =
     let ends = ends_at_next table is in
     record { from = table.next - length table.live; contiguous = ends.0; ends = ends.1 }
@@ -59,3 +61,29 @@ found_used dirs (Some found) is = (
   where
     begins : start_with (Some found) ≡ start_from (Some (record { upto = found.upto; table = is.table }))
     begins i = record { wal = found.upto + 1; number = is.tells.next_is i; base = is.tells.batches_are i }
+
+-- what was seen of the used table tells the number that the segments go on from
+pub number_used : (used : Option Used) (seen : Option TableSeen) → TellsUsed used seen → number_after seen ≡ first_from used
+number_used None None tells = refl
+number_used None (Some seen) tells = absurd tells
+number_used (Some used) None tells = absurd tells
+number_used (Some used) (Some seen) tells = tells.1.next_is
+
+-- and the WAL from which on they are read
+pub wal_used : (used : Option Used) (seen : Option TableSeen) → TellsUsed used seen → wal_after seen ≡ wal_from used
+wal_used None None tells = refl
+wal_used None (Some seen) tells = absurd tells
+wal_used (Some used) None tells = absurd tells
+wal_used (Some used) (Some seen) tells = ap (λ (n : ℕ). n + 1) tells.0
+
+-- what is not read below the table that was found is not read below what was seen of it
+pub spares_seen : (found : Option UsedTable) (start : Start) → start ≡ start_with found → (seen : Option TableSeen) → seen ≡ seen_with found
+    → (old new : DiskView) → ReadsNoneBelow start.wal (least_read found) old new → ReadsNoneBelow (wal_after seen) (table_from seen) old new
+spares_seen found start is seen tells old new h =
+    subst (λ (s : Option TableSeen). ReadsNoneBelow (wal_after s) (table_from s) old new) (sym tells)
+    (subst (λ (n : ℕ). ReadsNoneBelow n (table_from (seen_with found)) old new) (ap (λ (s : Start). s.wal) is ∙ wal_seen found)
+    (subst (λ (n : ℕ). ReadsNoneBelow start.wal n old new) (least_seen found) h))
+  where
+    least_seen : (f : Option UsedTable) → least_read f ≡ table_from (seen_with f)
+    least_seen None = refl
+    least_seen (Some f) = refl

@@ -1,11 +1,12 @@
 -- What a row of calls asks of the tables of a disk in all (docs/formats/disk.md, "Tables").
-use Rattle.std.specs.Prelude.{◌≡◌, ℕ, ◌≤◌, ◌==◌, if◌then◌else◌, List, [], ◌∷◌, ◌++◌, sum_by}
+use Rattle.std.specs.Prelude.{◌≡◌, ℕ, ◌≤◌, ◌<◌, ◌==◌, if◌then◌else◌, List, [], ◌∷◌, ◌++◌, sum_by}
 use Rattle.std.specs.List.{AllByRecursion}
 use Rattle.disk_face.specs.declared.Side.{Side}
+use Rattle.disk_face.specs.declared.SegName.{SegName}
 use Rattle.disk_face.specs.declared.Listed.{Listed}
 use Rattle.disk_face.specs.declared.TableListed.{TableListed}
 use Rattle.disk_face.specs.View.{Call, was_listed, was_read, tables_were_listed, table_was_read, table_was_put, was_removed, was_started, was_polled, DiskView, Makes}
-use Rattle.disk_face.specs.Asked.{listings, ListsOnce, ReadsAtMostListed, creations}
+use Rattle.disk_face.specs.Asked.{listings, bytes_asked, ListsOnce, ReadsAtMostListed, creations}
 use Rattle.wal_recovery.specs.Asking.{both_listed}
 
 -- 1 for a listing of the tables
@@ -120,6 +121,13 @@ pub record ListsAllInTurn (tables : List TableListed) (ones others : List Listed
   pub no_more_tables : table_listings later ≡ 0
   pub no_more_sides : (side : Side) → listings side later ≡ 0
 
+-- In the calls made since, no byte is asked for of a segment below this WAL, nor of a table below this number.
+pub record ReadsNoneBelow (wal upto : ℕ) (old new : DiskView) : Type 0 where
+  pub made : List Call
+  pub makes : Makes made old new
+  pub segments : (side : Side) (name : SegName) → name.wal < wal → bytes_asked side name made ≡ 0
+  pub tables : (other : ℕ) → other < upto → table_bytes_asked other made ≡ 0
+
 -- ---- on the way
 
 -- the call reads a table
@@ -144,8 +152,16 @@ pub record ReadsTables (tables : List TableListed) (old new : DiskView) : Type 0
   pub makes : Makes made old new
   pub reads : AreReadsOf tables made
 
+-- They are, and no byte is asked for of a table below this number.
+pub record ReadsTablesFrom (least : ℕ) (tables : List TableListed) (old new : DiskView) : Type 0 where
+  pub made : List Call
+  pub makes : Makes made old new
+  pub reads : AreReadsOf tables made
+  pub below : (upto : ℕ) → upto < least → table_bytes_asked upto made ≡ 0
+
 -- The calls made since are the listings with these answers, and then such reads.
-pub record ListsThenReads (tables : List TableListed) (ones others : List Listed) (old new : DiskView) : Type 0 where
+pub record ListsThenReads (least : ℕ) (tables : List TableListed) (ones others : List Listed) (old new : DiskView) : Type 0 where
   pub later : List Call
   pub makes : Makes (later ++ store_listed tables ones others) old new
   pub reads : AreReadsOf tables later
+  pub below : (upto : ℕ) → upto < least → table_bytes_asked upto later ≡ 0

@@ -4,3 +4,4 @@ pub mod Reading
 pub mod Begun
 pub mod Promises
 pub mod Theorems
+pub mod Kept

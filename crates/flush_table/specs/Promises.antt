@@ -11,15 +11,15 @@ use Rattle.wal_recovery.specs.declared.listing.Sides.{Sides}
 use Rattle.wal_recovery.specs.declared.reports.Mode.{Mode}
 use Rattle.wal_recovery.specs.declared.reports.Mode.TheVariants.{Strict}
 use Rattle.wal_recovery.specs.Listing.{from_wal}
-use Rattle.wal_recovery.specs.Base.{BeginsWith, GoesOnFrom}
+use Rattle.wal_recovery.specs.Base.{IsBaseOf, BeginsWith, GoesOnFrom}
 use Rattle.wal_recovery.specs.Reports.{AreReports}
 use Rattle.wal_recovery.specs.Resting.{AreSegmentsStable}
 use Rattle.wal_recovery.specs.Answers.{DiskMemoryOr}
 use Rattle.wal_recovery.specs.Rows.{files_from}
 use Rattle.wal_recovery.specs.Sides.{AreSideNames, AreListings}
 use Rattle.flush_table.specs.declared.reports.StoreRead.{StoreRead}
-use Rattle.flush_table.specs.Stores.{Used, StoreOf, IsStoreRefused, IsNextWalOfStore, TellsUsed, wal_after, number_after, IsBaseSeen}
-use Rattle.flush_table.specs.Asked.{ListsAllInTurn}
+use Rattle.flush_table.specs.Stores.{Used, StoreOf, IsStoreRefused, IsNextWalOfStore, TellsUsed, wal_after, table_from, number_after, IsBaseSeen}
+use Rattle.flush_table.specs.Asked.{ListsAllInTurn, ReadsNoneBelow}
 
 -- ---- what is answered
 
@@ -78,6 +78,10 @@ BeginsWithSeen found = (base : List Batch) × IsBaseSeen found.table base × Beg
 abbrev pub HasNoGapBehindSeen : StoreRead → Type 0
 HasNoGapBehindSeen found = (base : List Batch) × IsBaseSeen found.table base × GoesOnFrom (number_after found.table) base found.batches
 
+-- They are numbered one after another, and end before the number that comes next.
+abbrev pub EndsAtNext : StoreRead → Type 0
+EndsAtNext found = IsBaseOf found.next found.batches
+
 -- ---- listings
 
 -- the listings of both sides
@@ -98,6 +102,10 @@ pub record AreStoreListings (tells : Bool) (v : DiskView) (found : StoreRead) : 
 -- They are what the disk answered when it was asked first, the tables before both sides, and it is asked for no listing later.
 abbrev pub ListsStore : DiskView → DiskView → StoreRead → Type 0
 ListsStore old new found = ListsAllInTurn found.tables found.primary found.secondary old new
+
+-- Of a segment or a table that the used table makes needless, no byte is asked for: of a WAL up to it, and of a number below it.
+abbrev pub ReadsNoneCovered : DiskView → DiskView → StoreRead → Type 0
+ReadsNoneCovered old new found = ReadsNoneBelow (wal_after found.table) (table_from found.table) old new
 
 -- ---- what happens to the files
 

@@ -88,6 +88,15 @@ FindsUsed dirs (Some found) = UsesRead dirs found
 abbrev pub IsUsedOf : Bool → DiskView → List TableListed → Option UsedTable → Type 0
 IsUsedOf tells v tables found = IsTrue tells → IsTableListing (files v) tables → FindsUsed (directories v) found
 
+-- the least number that is read: of the table that was found
+abbrev pub least_read : Option UsedTable → ℕ
+least_read None = 0
+least_read (Some found) = found.upto
+
+abbrev pub least_read_of : Result (Option UsedTable) RecoverFault → ℕ
+least_read_of (Ok found) = least_read found
+least_read_of (Err fault) = 0
+
 -- It has the number of a table, and tells of one.
 abbrev pub IsSomeUsed : UsedTable → Type 0
 IsSomeUsed found = IsTableNumber found.upto × TellsOfSome found.read

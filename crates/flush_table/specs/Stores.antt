@@ -2,6 +2,7 @@
 use Rattle.batch_repr.specs.declared.limits.TheConstants.{NUMBER_FIRST}
 use Rattle.std.specs.Prelude.{◌≡◌, ◌⊎◌, ℕ, suc, ◌+◌, ◌<◌, ◌≤◌, List, [], length, Option, Some, None}
 use Rattle.batch_repr.specs.declared.batch.Batch.{Batch}
+use Rattle.batch_repr.specs.Batches.{end_after}
 use Rattle.disk_face.specs.View.{Dirs, table}
 use Rattle.disk_face.specs.Listing.{IsTableNumber}
 use Rattle.table_text.specs.Tables.{Table, IsTable, IsWhole, ReadsTable, batches_of}
@@ -53,6 +54,10 @@ pub record StoreOf (mode : Mode) (dirs : Dirs) (used : Option Used) (batches : L
   pub is_used : IsUsed dirs used
   pub recovers : RecoversByFrom mode (first_from used) (base_of used) (from_wal (wal_from used) dirs) batches
 
+-- the number that comes next in a store
+abbrev pub next_in : Option Used → List Batch → ℕ
+next_in used batches = end_after (first_from used) batches
+
 -- The directories have no store, for this fault: the segments above the used table are refused.
 pub record IsStoreRefused (mode : Mode) (dirs : Dirs) (fault : RecoverFault) : Type 0 where
   pub used : Option Used
@@ -87,6 +92,11 @@ TellsUsed (Some used) (Some seen) = (seen.upto ≡ used.upto) × IsSeenOf used.t
 abbrev pub wal_after : Option TableSeen → ℕ
 wal_after None = 0
 wal_after (Some seen) = seen.upto + 1
+
+-- the number below which tables are not read
+abbrev pub table_from : Option TableSeen → ℕ
+table_from None = 0
+table_from (Some seen) = seen.upto
 
 -- the number that they go on from
 abbrev pub number_after : Option TableSeen → ℕ

@@ -12,8 +12,9 @@ ghost use Rattle.flush_table.specs.Reading.{IsSomeUsed, start_with, seen_with};
 ghost use Rattle.flush_table.specs.Promises.{IsStoreRead, FindsStore};
 ghost use Rattle.flush_table.specs.Promises.{IsReasonToRefuseStore, AnswersStoreRefusal};
 ghost use Rattle.flush_table.specs.Promises.{ReportsOnStore, HasNext, HasNextWalOfStore};
-ghost use Rattle.flush_table.specs.Promises.{BeginsWithSeen, HasNoGapBehindSeen};
-ghost use Rattle.flush_table.specs.Promises.{AreStoreNames, AreStoreListings, ListsStore};
+ghost use Rattle.flush_table.specs.Promises.{BeginsWithSeen, HasNoGapBehindSeen, EndsAtNext};
+ghost use Rattle.flush_table.specs.Promises.{AreStoreNames, AreStoreListings};
+ghost use Rattle.flush_table.specs.Promises.{ListsStore, ReadsNoneCovered};
 ghost use Rattle.flush_table.specs.Promises.{StabilizesStoreIfStrict};
 
 use crate::beginning::begin;
@@ -89,12 +90,15 @@ pub fn recover_store<D: TableDisk>(
     // The batches, the numbers and the names, also where the disk does not tell its files.
     ensures begins { IfOk result BeginsWithSeen }
     ensures contiguous { mode ≡ Strict → IfOk result HasNoGapBehindSeen }
+    ensures numbered { mode ≡ Strict → IfOk result EndsAtNext }
     ensures within { IfOk result (λ found. found.next ≤ NUMBER_MAX) }
     ensures names { IfOk result AreStoreNames }
 
-    // The calls, of any disk: of each file no more bytes are asked for than it was listed with.
+    // The calls, of any disk: of each file no more bytes are asked for than it was listed with, and none of a file that
+    // the used table makes needless.
     ensures asks { AsksOfStore (D.view disk.old) (D.view disk.new) }
     ensures lists { IfOk result (ListsStore (D.view disk.old) (D.view disk.new)) }
+    ensures spares { IfOk result (ReadsNoneCovered (D.view disk.old) (D.view disk.new)) }
 
     // The files: nothing happens to any but a sync, so a crash may leave nothing new; refused directories are not
     // touched, and what was read is stable where no gap is accepted.

@@ -5,9 +5,10 @@ ghost use Rattle.disk_face.specs.Calls.{GoesOn, SameDisk};
 ghost use Rattle.disk_face.specs.Listing.{IsTableNumber, AreTablesAscending, AreTableNumbers};
 ghost use Rattle.wal_recovery.specs.Answers.{FaultRose, NoFaultRose};
 ghost use Rattle.wal_recovery.specs.Rows.{IsDiskOrMemory};
-ghost use Rattle.flush_table.specs.Asked.{ReadsTables};
+ghost use Rattle.flush_table.specs.Asked.{ReadsTables, ReadsTablesFrom};
 ghost use Rattle.flush_table.specs.Reading.{ReadsTableIfWithin, PrimaryRose, AreTableBytes, FillsByTable};
 ghost use Rattle.flush_table.specs.Reading.{TellsListed, TellsOfSome, IsUsedOf, IsSomeUsed, IsAfterTables};
+ghost use Rattle.flush_table.specs.Reading.{least_read_of};
 
 use disk_face::{DiskErr, Side, TableDisk, TableListed};
 use std::alloc::{AllocError, Global};
@@ -115,7 +116,8 @@ pub(crate) fn used_table<D: TableDisk>(
     requires ascending { AreTablesAscending tables.now }
     requires numbers { AreTableNumbers tables.now }
     ensures goes_on { GoesOn (D.view disk.old) (D.view disk.new) }
-    ensures asks { ReadsTables tables.now (D.view disk.old) (D.view disk.new) }
+    ensures asks { ReadsTablesFrom (least_read_of result) tables.now
+        (D.view disk.old) (D.view disk.new) }
     ensures same { SameDisk (D.view disk.old) (D.view disk.new) }
     ensures fault { IfErr result IsDiskOrMemory }
     ensures rose { IfErr result (FaultRose (D.view disk.old) (D.view disk.new)) }

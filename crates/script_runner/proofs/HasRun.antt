@@ -15,11 +15,12 @@ use Rattle.failover_writer.specs.declared.fault.DeadMark.{DeadMark}
 use Rattle.failover_writer.specs.State.{State, JournalView, unbegun, acked, most_synced, broken_count}
 use Rattle.failover_writer.specs.Ranges.{AreJoined, StandsFor}
 use Rattle.failover_writer.specs.Answered.{FaultsRose, IsSmooth, IsUnstalled, RoseBy}
-use Rattle.failover_writer.specs.Keeping.{IsElsewhere, OthersStay, IsOpening, KeepsBase, RecoversTo}
+use Rattle.wal_recovery.specs.Further.{IsElsewhere}
+use Rattle.failover_writer.specs.Keeping.{HasNoSegment, KeepsRun, OthersStay}
 use Rattle.failover_writer.specs.Remaining.{polls_left}
 use Rattle.failover_writer.specs.Running.{PollsLeft, OthersSame}
 use Rattle.failover_writer.specs.Sound.{CountsLeaveFew}
-use Rattle.failover_writer.proofs.Laws.{TellCalls, tell_calls, given_up_told, gives_up_told, counts_leave_few, rose_by_less, len_is, synced_within, not_theirs, outcome_recovers, reads_as_image}
+use Rattle.failover_writer.proofs.Laws.{TellCalls, tell_calls, given_up_told, gives_up_told, counts_leave_few, rose_by_less, len_is, synced_within, not_theirs, run_kept_now, reads_as_image}
 use Rattle.session_replies.specs.declared.replies.RunEnd.{RunEnd}
 use Rattle.session_replies.specs.declared.script.Round.{Round}
 use Rattle.failover_writer.specs.Outcome.{JournalStart, IsUnbegun, MayStall, JournalOutcome}
@@ -33,15 +34,13 @@ pub record IsStarted (threshold : ℕ) (tells : Bool) (start : JournalStart) (wa
   pub started_as : start.state ≡ unbegun wal first threshold start.state.queue
   pub empty : IsUnbegun tells start
   pub stay : OthersStay (files start.disk) start.state (files start.disk)
-  pub keeps : (base : List Batch) → IsOpening wal first base (files start.disk) → KeepsBase tells base start.state start.disk
   pub may : IsTrue start.may_stall → StallsSome rounds
 
 pub is_started : {Disk : Type 0} (threshold : ℕ) (tells : Bool) (view : Disk → DiskView) (rounds : List Round)
     (wal first : ℕ) (disk : Disk) (journal : JournalView Disk) → journal ≡ record { disk = disk; state = unbegun wal first threshold journal.state.queue }
     → StandsFor tells [] journal.state (view journal.disk) → OthersStay (files (view disk)) journal.state (files (view journal.disk))
-    → ((b : List Batch) → IsOpening wal first b (files (view disk)) → KeepsBase tells b journal.state (view journal.disk))
     → IsStarted threshold tells (run_start view rounds journal) wal first rounds
-is_started threshold tells view rounds wal first disk journal made stands stay keeps =
+is_started threshold tells view rounds wal first disk journal made stands stay =
     let same : disk ≡ journal.disk = sym (ap (λ (j : JournalView _). j.disk) made) in
     record {
       started_as = ap (λ (j : JournalView _). j.state) made;
@@ -52,7 +51,6 @@ is_started threshold tells view rounds wal first disk journal made stands stay k
         none_left = ap (λ (j : JournalView _). j.state.left_by_stall) made;
       };
       stay = subst (λ (d : _). OthersStay (files (view d)) journal.state (files (view journal.disk))) same stay;
-      keeps = λ b opens. keeps b (subst (λ (d : _). IsOpening wal first b (files (view d))) (sym same) opens);
       may = some_stall rounds;
     }
 
@@ -185,9 +183,19 @@ module _ (threshold : ℕ) (tells : Bool) (start : JournalStart) (wal first : �
       | no none ↦ omega (arith, none)
     ]
 
-    recovers : IsTrue tells → (base : List Batch) → IsOpening wal first base (files start.disk) → RecoversTo base own end.acked (files v)
-    recovers told base opens = subst (λ (n : ℕ). RecoversTo base own n (files v)) (sym told_end.acked_is)
-        (outcome_recovers tells start own state v base told r (started.keeps base opens))
+    base_same : state.base ≡ first
+    base_same = r.base_is ∙ ap (λ (s : State). s.base) started.started_as
+
+    keeps : IsTrue tells → HasNoSegment wal (files start.disk) → KeepsRun wal first own end.acked (files start.disk) (files v)
+    keeps told absent =
+        let kept : KeepsRun state.wal state.base own (acked state) (files start.disk) (files v) =
+        run_kept_now tells own (files start.disk) state v told r.stands (record {
+          absent = subst (λ (n : ℕ). HasNoSegment n (files start.disk)) (sym wal_same) absent;
+          others = r.others told (files start.disk) started.stay;
+        }) in
+        subst (λ (n : ℕ). KeepsRun n first own end.acked (files start.disk) (files v)) wal_same
+        (subst (λ (n : ℕ). KeepsRun state.wal n own end.acked (files start.disk) (files v)) base_same
+        (subst (λ (n : ℕ). KeepsRun state.wal state.base own n (files start.disk) (files v)) (sym told_end.acked_is) kept))
 
     pub has_run : HasRun threshold tells start.disk wal first rounds own end v
     has_run = record {
@@ -195,7 +203,7 @@ module _ (threshold : ℕ) (tells : Bool) (start : JournalStart) (wal first : �
       others = run_others;
       nothing = λ told empty p. r.others told (files start.disk) started.stay p
           (λ has. let none : Contains [] p = subst (λ (ws : List Writer). Contains (map place_of_writer ws) p) (none_begun empty) has in omega (arith, none.1));
-      recovers = recovers;
+      keeps = keeps;
       read = λ told rested calm. reads_as_image tells own (files start.disk) state v told r.stands (not_broken calm) rested
           (r.others told (files start.disk) started.stay);
     }

@@ -1,8 +1,6 @@
 -- What a run over a journal came to, and what the same run came to over the disk within.
-use Rattle.std.proofs.Common.{◌≡◌, ℕ, Bool, List, [], ◌∷◌, ◌∙◌, subst}
+use Rattle.std.proofs.Common.{◌≡◌, ℕ, Bool, List, [], subst}
 use Rattle.batch_repr.specs.declared.batch.Batch.{Batch}
-use Rattle.batch_repr.specs.declared.limits.TheConstants.{NUMBER_FIRST}
-use Rattle.batch_repr.specs.Batches.{IsContiguous, end_after}
 use Rattle.disk_face.specs.View.{DiskView}
 use Rattle.disk_face.specs.Script.{TellsOf, BeginsOver}
 use Rattle.failover_writer.specs.State.{JournalView}
@@ -15,7 +13,7 @@ use Rattle.script_runner.specs.declared.run.Outcome.{Outcome}
 use Rattle.script_runner.specs.declared.performing.Told.{Told}
 use Rattle.script_runner.specs.declared.work.Work.{Work}
 use Rattle.script_runner.specs.Works.{work_rounds, halts, PerformsWork}
-use Rattle.script_runner.specs.Runs.{SaysRun, HasRun, RunsWork, run_start, run_opening, GoesOnKept, EndsJournal, RunsOver}
+use Rattle.script_runner.specs.Runs.{SaysRun, RunsWork, run_start, run_opening, GoesOnKept, EndsJournal, RunsOver}
 use Rattle.script_runner.proofs.HasRun.{IsStarted, has_run}
 use Rattle.script_runner.proofs.SaysRun.{says_run}
 use Rattle.script_runner.proofs.TellsOf.{run_told}
@@ -38,24 +36,17 @@ runs_over tells view base work opening old left new ss readers visible count tol
 
 -- ---- the disk within
 
-first_is : (first next : ℕ) (base : List Batch) → IsContiguous first base → next ≡ end_after first base → first_number next base ≡ first
-unfolding IsContiguous end_after
-first_is first next [] row is = is
-first_is first next (batch ∷ base) row is = row.0
-
 -- The disk of the journal is made over the disk within, and tells at the end what that tells.
 pub runs_work : {Disk : Type 0} (threshold : ℕ) (tells : Bool) (view : Disk → DiskView) (wal next : ℕ) (base : List Batch) (work : Work)
-    (journal left : JournalView Disk) (old new : DiskView) (outcome : Outcome) → IsContiguous NUMBER_FIRST base → next ≡ end_after NUMBER_FIRST base
-    → journal.state.next ≡ next → BeginsOver old (view journal.disk) → TellsOf new (view left.disk)
+    (journal left : JournalView Disk) (old new : DiskView) (outcome : Outcome) → journal.state.next ≡ next → BeginsOver old (view journal.disk) → TellsOf new (view left.disk)
     → IsStarted threshold tells (run_start view (work_rounds work) journal) wal next (work_rounds work)
-    → RunsOver tells view base work journal left outcome → RunsWork base work wal threshold tells old new outcome
-runs_work threshold tells view wal next base work journal left old new outcome row next_is from before after started ran =
+    → RunsOver tells view base work journal left outcome → RunsWork base next work wal threshold tells old new outcome
+runs_work threshold tells view wal next base work journal left old new outcome from before after started ran =
     let start : JournalStart = run_start view (work_rounds work) journal in
     record {
       batches = ran.batches;
-      says = subst (λ (n : ℕ). SaysRun n base work ran.batches outcome) (first_is NUMBER_FIRST journal.state.next base row (from ∙ next_is)) ran.says;
+      says = subst (λ (n : ℕ). SaysRun (first_number n base) base work ran.batches outcome) from ran.says;
       ended =
-          subst (λ (n : ℕ). HasRun threshold tells old wal n (work_rounds work) ran.batches outcome.end new) next_is
-          (run_told old (view journal.disk) (view left.disk) new before.tells before.polls after threshold tells wal next (work_rounds work) ran.batches outcome.end
-          (has_run threshold tells start wal next (work_rounds work) ran.batches left.state (view left.disk) started ran.journal outcome.end ran.tells_end));
+          run_told old (view journal.disk) (view left.disk) new before.tells before.polls after threshold tells wal next (work_rounds work) ran.batches outcome.end
+          (has_run threshold tells start wal next (work_rounds work) ran.batches left.state (view left.disk) started ran.journal outcome.end ran.tells_end);
     }

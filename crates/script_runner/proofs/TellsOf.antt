@@ -11,7 +11,7 @@ use Rattle.disk_face.specs.Asked.{creations}
 use Rattle.disk_face.specs.Script.{TellsOf}
 use Rattle.disk_face.proofs.Laws.{same_creations, failed_within, failed_over}
 use Rattle.failover_writer.specs.Answered.{FaultsRose, RoseBy}
-use Rattle.failover_writer.specs.Keeping.{IsOpening, RecoversTo}
+use Rattle.failover_writer.specs.Keeping.{HasNoSegment, KeepsRun}
 use Rattle.failover_writer.specs.Remaining.{polls_left}
 use Rattle.failover_writer.specs.Running.{PollsLeft, OthersSame, ReadsAsImage}
 use Rattle.session_replies.specs.declared.replies.RunEnd.{RunEnd}
@@ -106,7 +106,9 @@ module _ (old start v new : DiskView) (before : TellsOf old start) (polls : (sid
     nothing = λ told empty p.
         let same : files v p ≡ files start p = e.nothing told empty p in
         ap (λ (fs : Files). fs p) (sym now_files) ∙ same ∙ ap (λ (fs : Files). fs p) was_files;
-    recovers = λ told base opening. subst (RecoversTo base own end.acked) now_files
-        (e.recovers told base (subst (IsOpening wal first base) (sym was_files) opening));
+    keeps = λ told absent.
+        let kept : KeepsRun wal first own end.acked (files start) (files v) = e.keeps told (subst (HasNoSegment wal) (sym was_files) absent) in
+        subst (λ (fs : Files). KeepsRun wal first own end.acked fs (files new)) was_files
+        (subst (KeepsRun wal first own end.acked (files start)) now_files kept);
     read = λ told rested calm. subst ReadsAsImage now_files (e.read told (subst IsRested (sym was_files) rested) (λ rose. calm (rose_told rose)));
   }

@@ -2,7 +2,6 @@
 use Rattle.std.specs.Prelude.{◌≡◌, ◌≢◌, ◌↔◌, ◌⊎◌, ◌++◌, ◌+◌, ◌-◌, ◌*◌, ℕ, ◌<◌, ◌≤◌, Bool, true, false, List, [], ◌∷◌, length, Contains, None, IsTrue, is_some}
 use Rattle.std.specs.List.{AllByRecursion, list_any}
 use Rattle.batch_repr.specs.declared.batch.Batch.{Batch}
-use Rattle.batch_repr.specs.declared.limits.TheConstants.{NUMBER_FIRST}
 use Rattle.batch_repr.specs.Batches.{end_after}
 use Rattle.disk_face.specs.declared.Side.{Side}
 use Rattle.disk_face.specs.View.{Place, DiskView, files, NothingInFlight}
@@ -12,7 +11,7 @@ use Rattle.stall_monitor.specs.declared.verdict.TheConstants.{SEGMENTS_MAX}
 use Rattle.failover_writer.specs.State.{State, JournalView, len, acked}
 use Rattle.failover_writer.specs.Answered.{FaultsRose, RoseBy}
 use Rattle.failover_writer.specs.Remaining.{polls_left}
-use Rattle.failover_writer.specs.Keeping.{RecoversTo, IsOpening}
+use Rattle.failover_writer.specs.Keeping.{HasNoSegment, KeepsRun}
 use Rattle.failover_writer.specs.Sound.{IsSoundJournal}
 use Rattle.failover_writer.specs.Running.{PollsLeft, OthersSame, ReadsAsImage}
 use Rattle.failover_writer.specs.Outcome.{JournalStart, start_on, JournalOutcome}
@@ -23,7 +22,7 @@ use Rattle.made_load.specs.Load.{live_keys}
 use Rattle.session_replies.specs.Legal.{Replied, replies_text, AreLegal}
 use Rattle.session_replies.specs.Lasting.{DeathLasts}
 use Rattle.session_replies.specs.Theorems.{limit_told, IsLimitedExactly}
-use Rattle.commit_pipeline.specs.Openings.{Opening, first_of}
+use Rattle.commit_pipeline.specs.Openings.{Opening, first_number, first_of}
 use Rattle.script_runner.specs.declared.performing.Told.{Told}
 use Rattle.script_runner.specs.declared.run.Outcome.{Outcome}
 use Rattle.script_runner.specs.declared.work.Work.{Work}
@@ -90,7 +89,7 @@ pub record HasRun (threshold : ℕ) (tells : Bool) (start : DiskView) (wal first
   pub ends : EndsRunAs threshold rounds (length own) end start v
   pub others : IsTrue tells → OthersSame wal (files start) (files v)
   pub nothing : IsTrue tells → own ≡ [] → (p : Place) → files v p ≡ files start p
-  pub recovers : IsTrue tells → (base : List Batch) → IsOpening wal first base (files start) → RecoversTo base own end.acked (files v)
+  pub keeps : IsTrue tells → HasNoSegment wal (files start) → KeepsRun wal first own end.acked (files start) (files v)
   pub read : IsTrue tells → IsRested (files start) → (FaultsRose start v → ⊥) → ReadsAsImage (files v)
 
 -- ---- what is said
@@ -119,11 +118,11 @@ pub record SaysRun (from : ℕ) (base : List Batch) (work : Work) (batches : Lis
   pub tells : TellsWork work (base ++ batches) replies outcome.told
   pub halted : outcome.end.halted ≡ halts work
 
--- Some work was run over a base and a disk: what is said of it, and what its journal came to.
-pub record RunsWork (base : List Batch) (work : Work) (wal threshold : ℕ) (tells : Bool) (old new : DiskView) (outcome : Outcome) : Type 0 where
+-- Some work was run over a disk and a base, after which this number comes next: what is said of it, and what its journal came to.
+pub record RunsWork (base : List Batch) (next : ℕ) (work : Work) (wal threshold : ℕ) (tells : Bool) (old new : DiskView) (outcome : Outcome) : Type 0 where
   pub batches : List Batch
-  pub says : SaysRun NUMBER_FIRST base work batches outcome
-  pub ended : HasRun threshold tells old wal (end_after NUMBER_FIRST base) (work_rounds work) batches outcome.end new
+  pub says : SaysRun (first_number next base) base work batches outcome
+  pub ended : HasRun threshold tells old wal next (work_rounds work) batches outcome.end new
 
 -- ---- inside
 

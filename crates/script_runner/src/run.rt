@@ -1,8 +1,7 @@
 //! The whole run of a script or of a load over a disk.
 
 ghost use Rattle.std.specs.Prelude.{◌≡◌, ◌+◌, ◌≤◌, IfOk, OnOk, IsTrue};
-ghost use Rattle.batch_repr.specs.declared.limits.TheConstants.{NUMBER_FIRST, NUMBER_MAX};
-ghost use Rattle.batch_repr.specs.Batches.{end_after, IsContiguous};
+ghost use Rattle.batch_repr.specs.declared.limits.TheConstants.{NUMBER_MAX};
 ghost use Rattle.disk_face.specs.View.{files, NothingInFlight};
 ghost use Rattle.disk_face.specs.Calls.{WentOn};
 ghost use Rattle.disk_face.specs.declared.names.TheConstants.{WAL_MAX};
@@ -212,8 +211,7 @@ pub fn run_work<D: Disk + Send, G: Gate + Sync, R: Threads + Wait + Sync>(
     disk: D,
     gate: &G,
 ) -> Run<D>
-    requires numbered { IsContiguous NUMBER_FIRST base }
-    requires next { next ≡ end_after NUMBER_FIRST base }
+    requires base { EndsBefore base next }
     requires within { next ≤ NUMBER_MAX }
     requires wal { wal ≤ WAL_MAX }
     requires threshold { (1 ≤ threshold) × (threshold ≤ THRESHOLD_MAX) }
@@ -224,7 +222,7 @@ pub fn run_work<D: Disk + Send, G: Gate + Sync, R: Threads + Wait + Sync>(
     ensures polls { StallNone (work_rounds work) → PollsNeverRise (D.view disk) (D.view result.disk) }
     ensures others { IsTrue D.tells → OthersSame wal (files (D.view disk)) (files (D.view result.disk)) }
     ensures ran { IfOk result.outcome
-        (RunsWork base work wal threshold D.tells (D.view disk) (D.view result.disk)) }
+        (RunsWork base next work wal threshold D.tells (D.view disk) (D.view result.disk)) }
 {
     let stalled = ScriptDisk::new(disk);
     let journal = match Journal::start(alloc, stalled, wal, next, threshold) {

@@ -6,7 +6,7 @@ use Rattle.std.proofs.lemmas.List.Elements.{All-cons, All-nil, Contains-get_or}
 use Rattle.batch_repr.specs.declared.batch.Batch.{Batch}
 use Rattle.batch_repr.specs.declared.limits.TheConstants.{NUMBER_FIRST, NUMBER_MAX}
 use Rattle.batch_repr.specs.Batches.{end_of, end_after, IsContiguous}
-use Rattle.batch_repr.proofs.Laws.{place_within, end_append}
+use Rattle.batch_repr.proofs.Laws.{place_within, contiguous_append, end_append}
 use Rattle.segment_merge.specs.Rows.{IsNumbered, IsNumberedSegment}
 use Rattle.segment_merge.specs.Merging.{AscendByNumber}
 use Rattle.segment_merge.specs.Lenient.{MergedLenient, AreMergedOf}
@@ -33,6 +33,18 @@ base_ends number (batch ∷ base) is = is.ends
 -- batches behind it
 pub ends_behind : (number : ℕ) (base merged : List Batch) → IsBaseOf number base → end_after number (base ++ merged) ≡ end_after number merged
 ends_behind number base merged is = end_append number base merged ∙ ap (λ (n : ℕ). end_after n merged) (base_ends number base is)
+
+-- it goes on with batches that are numbered from there on
+pub base_goes_on : (number : ℕ) (base batches : List Batch) → IsBaseOf number base → GoesOnFrom number base batches
+    → IsBaseOf (end_after number batches) batches
+base_goes_on number base batches is goes = record {
+  from = is.from;
+  contiguous = subst (IsContiguous is.from) (sym goes.behind)
+      (contiguous_append is.from base goes.merged is.contiguous (subst (λ (n : ℕ). IsContiguous n goes.merged) (sym is.ends) goes.contiguous));
+  ends =
+      ap (end_after is.from) goes.behind ∙ end_append is.from base goes.merged ∙ ap (λ (n : ℕ). end_after n goes.merged) is.ends
+      ∙ sym (ap (end_after number) goes.behind ∙ ends_behind number base goes.merged is);
+}
 
 -- ---- a merge that accepts gaps
 

@@ -31,3 +31,6 @@ mod AtWal
 mod ByWal
 mod ReadsOnly
 mod Calm
+mod Further
+mod StableImages
+mod ImagesFrom

@@ -1,7 +1,9 @@
 -- Calls that read the segments of a row, and a listing before them.
-use Rattle.std.proofs.Common.{◌≡◌, inl, inr, ◌+◌, ◌≤◌, ◌<◌, ◌&&◌, ℕ, Bool, true, false, List, [], ◌∷◌, ◌++◌, length, take, drop, get_or, sym, subst, ap, ◌∙◌, refl, arith}
+use Rattle.std.proofs.Common.{◌≡◌, inl, inr, ◌+◌, ◌≤◌, ◌<◌, ◌&&◌, ◌==◌, ℕ, Bool, true, false, List, [], ◌∷◌, ◌++◌, length, take, drop, get_or, Contains, sym, subst, ap, ◌∙◌, refl, arith}
 use Rattle.std.specs.Prelude.{if◌then◌else◌}
+use Rattle.std.proofs.lemmas.Bool.{eqb-true}
 use Rattle.std.proofs.lemmas.List.{append-nil, take_more, take-append-drop}
+use Rattle.std.proofs.lemmas.List.Elements.{Contains-append_right}
 use Rattle.std.proofs.lemmas.List.Concat.{flat_map-append}
 use Rattle.std.proofs.lemmas.List.Sums.{sum_by-append, sum_by-cons}
 use Rattle.disk_face.specs.declared.Side.{Side}
@@ -19,7 +21,7 @@ use Rattle.wal_recovery.specs.Rows.{item_of, Takes, Weaves, Groups}
 use Rattle.wal_recovery.proofs.AtWal.{StandsAt}
 use Rattle.wal_recovery.specs.Asking.{AreNotOnTables, AsksOnce, both_listed, ListsInTurn, OnlyLists, length_in_row, ReadsOnly, found_in}
 use Rattle.wal_recovery.specs.declared.listing.Sides.{Sides}
-use Rattle.wal_recovery.specs.Sides.{ListsBoth, IsAsLongAsListed, ReadsListed}
+use Rattle.wal_recovery.specs.Sides.{ListsBoth, IsAsLongAsListed, HasNoByteBelow, ReadsListed}
 
 -- how many bytes of this segment a segment of a row has
 abbrev bytes_here : Side → SegName → Found → ℕ
@@ -185,6 +187,31 @@ as_long_as_listed row sides ones others w less fewer side name =
     shorter Primary = less name
     shorter Secondary = fewer name
 
+-- a segment below all that are listed is not among them
+none_among : (name : SegName) (least : ℕ) (names : List Listed) → ((item : Listed) → Contains names item → least ≤ item.name.wal) → name.wal < least
+    → length_among name names ≡ 0
+none_among name least [] from low = refl
+none_among name least (item ∷ names) from low =
+    among_cons name item names ∙ omega (
+      arith,
+      other (name.wal == item.name.wal) refl,
+      none_among name least names (λ x at. from x (Contains-append_right (item ∷ []) names x at)) low,
+    )
+  where
+    other : (same : Bool) → (name.wal == item.name.wal) ≡ same → (if name_eq name item.name then item.len else 0) ≡ 0
+    other true is = absurd (omega (arith, low, from item (0, omega arith, refl), eqb-true name.wal item.name.wal is))
+    other false is = ap (λ (b : Bool). if b && name.index == item.name.index then item.len else 0) is
+
+-- a row that is woven of listings from a WAL on has nothing below it
+pub none_below : (row : List Found) (least : ℕ) (ones others : List Listed) → Weaves row ones others [] []
+    → ((item : Listed) → Contains ones item → least ≤ item.name.wal) → ((item : Listed) → Contains others item → least ≤ item.name.wal)
+    → HasNoByteBelow least row
+none_below row least ones others w low lower side name less = sym (woven side name row ones others w) ∙ none side
+  where
+    none : (s : Side) → lengths s name ones others ≡ 0
+    none Primary = none_among name least ones low less
+    none Secondary = none_among name least others lower less
+
 -- at most one listing of each side, and no read
 pub lists_two : (ones others : List Listed) (old mid new : DiskView) → Makes (was_listed Primary ones ∷ []) old mid
     → Makes (was_listed Secondary others ∷ []) mid new → AsksOnce old new
@@ -231,30 +258,33 @@ only_one ones old new a = record {
 
 -- ---- the whole recovery
 
-pub reads_listed : (row : List Found) (sides : Sides) (old new : DiskView) → IsAsLongAsListed row sides → ReadsOnly row old new → ReadsListed sides old new
-reads_listed row sides old new long a = record {
+pub reads_listed : (row : List Found) (least : ℕ) (sides : Sides) (old new : DiskView) → IsAsLongAsListed row sides → HasNoByteBelow least row
+    → ReadsOnly row old new → ReadsListed least sides old new
+reads_listed row least sides old new long none a = record {
   made = a.made;
   makes = a.makes;
   lists = a.lists;
   listed = a.listed;
   asked = λ side name. omega (arith, a.asked side name, long side name);
+  below = λ side name less. omega (arith, a.asked side name, none side name less);
   creates = a.creates;
   tables = a.tables;
 }
 
-pub reads_no_listed : (sides : Sides) (v : DiskView) → ReadsListed sides v v
-reads_no_listed sides v = record {
+pub reads_no_listed : (least : ℕ) (sides : Sides) (v : DiskView) → ReadsListed least sides v v
+reads_no_listed least sides v = record {
   made = [];
   makes = makes_none v;
   lists = λ side. refl;
   listed = λ side name. refl;
   asked = λ side name. omega arith;
+  below = λ side name less. refl;
   creates = refl;
   tables = tt;
 }
 
-pub asks_once : (sides : Sides) (old mid new : DiskView) → ListsBoth sides old mid → ReadsListed sides mid new → AsksOnce old new
-asks_once sides old mid new a b = record {
+pub asks_once : (least : ℕ) (sides : Sides) (old mid new : DiskView) → ListsBoth sides old mid → ReadsListed least sides mid new → AsksOnce old new
+asks_once least sides old mid new a b = record {
   made = b.made ++ both_listed sides.primary sides.secondary;
   makes = makes_further (both_listed sides.primary sides.secondary) b.made old mid new a b.makes;
   lists = λ side. omega (
@@ -274,8 +304,8 @@ asks_once sides old mid new a b = record {
   creates = creations_further b.made (both_listed sides.primary sides.secondary) ∙ omega (arith, b.creates);
 }
 
-pub lists_in_turn : (sides : Sides) (old mid new : DiskView) → ListsBoth sides old mid → ReadsListed sides mid new → ListsInTurn old new
-lists_in_turn sides old mid new a b = record {
+pub lists_in_turn : (least : ℕ) (sides : Sides) (old mid new : DiskView) → ListsBoth sides old mid → ReadsListed least sides mid new → ListsInTurn old new
+lists_in_turn least sides old mid new a b = record {
   ones = sides.primary;
   others = sides.secondary;
   later = b.made;

@@ -21,7 +21,7 @@ recovers_by_once Strict first base dirs a b h k =
     h.behind ∙ ap (λ (l : List Batch). base ++ l) (recovers_once_from first dirs h.merged k.merged h.recovers k.recovers) ∙ sym k.behind
 recovers_by_once Lenient first base dirs a b h k = lenient_once_after (front_of base) dirs a b h k
 
-not_both : (mode : Mode) (first : ℕ) (base : List Batch) (dirs : Dirs) (merged : List Batch) (fault : RecoverFault)
+pub not_both : (mode : Mode) (first : ℕ) (base : List Batch) (dirs : Dirs) (merged : List Batch) (fault : RecoverFault)
     → RecoversByFrom mode first base dirs merged → IsRefusedByFrom mode first base dirs fault → ⊥
 not_both Strict first base dirs merged fault h r = recovered_or_refused_from first dirs h.merged fault h.recovers r
 not_both Lenient first base dirs merged fault h r = lenient_or_refused_after (front_of base) dirs merged fault h r

@@ -1,6 +1,7 @@
 pub mod Listing
 pub mod Recovering
 pub mod Base
+pub mod Further
 pub mod Refused
 pub mod Reports
 pub mod Resting

@@ -41,13 +41,19 @@ abbrev pub IsAsLongAsListed : List Found → Sides → Type 0
 IsAsLongAsListed row sides =
     (side : Side) (name : SegName) → length_in_row side name row ≤ length_listed side name (both_listed sides.primary sides.secondary)
 
--- The calls made since list no side, ask for no more bytes of each segment than it is listed with, create none, and are not on tables.
-pub record ReadsListed (sides : Sides) (old new : DiskView) : Type 0 where
+-- The row has no byte of a WAL below this one.
+abbrev pub HasNoByteBelow : ℕ → List Found → Type 0
+HasNoByteBelow least row = (side : Side) (name : SegName) → name.wal < least → length_in_row side name row ≡ 0
+
+-- The calls made since list no side, ask for no more bytes of each segment than it is listed with and for none of a WAL below this
+-- one, create none, and are not on tables.
+pub record ReadsListed (least : ℕ) (sides : Sides) (old new : DiskView) : Type 0 where
   pub made : List Call
   pub makes : Makes made old new
   pub lists : (side : Side) → listings side made ≡ 0
   pub listed : (side : Side) (name : SegName) → length_listed side name made ≡ 0
   pub asked : (side : Side) (name : SegName)
       → bytes_asked side name made ≤ length_listed side name (both_listed sides.primary sides.secondary)
+  pub below : (side : Side) (name : SegName) → name.wal < least → bytes_asked side name made ≡ 0
   pub creates : creations made ≡ 0
   pub tables : AreNotOnTables made

@@ -15,7 +15,8 @@ ghost use Rattle.wal_recovery.specs.Rows.{Ascends, IsRowOf, IsNext, Weaves, Meet
 ghost use Rattle.wal_recovery.specs.Rows.{files_from, RefusesTwice};
 ghost use Rattle.wal_recovery.specs.Gathered.{IsNoDisk};
 ghost use Rattle.wal_recovery.specs.Asking.{AsksOnce, OnlyLists};
-ghost use Rattle.wal_recovery.specs.Sides.{AreSideNames, AreListings, AreSidesOf, ListsBoth, IsAsLongAsListed, IsAfter};
+ghost use Rattle.wal_recovery.specs.Sides.{AreSideNames, AreListings, AreSidesOf, ListsBoth, IsAfter};
+ghost use Rattle.wal_recovery.specs.Sides.{IsAsLongAsListed, HasNoByteBelow};
 ghost use Rattle.wal_recovery.specs.Promises.{ListsSideOnce, IsSideListing};
 
 use crate::fault::RecoverFault;
@@ -185,6 +186,7 @@ pub(crate) fn row_from(alloc: Global, sides: &Sides, least: u64) -> Result<Row, 
     ensures ascends { IfOk result Ascends }
     ensures numbers { IfOk result (All (λ (f : Found). IsSegmentName f.name)) }
     ensures lengths { IfOk result (λ row. IsAsLongAsListed row sides.now) }
+    ensures below { IfOk result (HasNoByteBelow least) }
     ensures no_disk { IfErr result IsNoDisk }
     ensures listed { (files : Files) → AreListings files sides.now
         → IfOk result (λ row. IsRowOf (files_from least files) row) }

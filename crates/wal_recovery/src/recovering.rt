@@ -159,8 +159,8 @@ pub fn recover_listed<D: Disk>(
     ensures contiguous { mode ≡ Strict → IfOk result (HasNoGapFrom start) }
     ensures within { IfOk result (λ found. found.next ≤ NUMBER_MAX) }
 
-    // The calls, of any disk: of each segment no more bytes are asked for than it is listed with.
-    ensures asks { ReadsListed sides.now (D.view disk.old) (D.view disk.new) }
+    // The calls, of any disk: of each segment no more bytes are asked for than it is listed with, and none below the start.
+    ensures asks { ReadsListed start.wal sides.now (D.view disk.old) (D.view disk.new) }
 
     // The files: nothing happens to any but a sync, so a crash may leave nothing new; refused directories are not touched, and what was read is stable where no gap is accepted.
     ensures each_moment { AddsNoImageThroughout D.tells (D.view disk.old) (D.view disk.new) }

@@ -1,36 +1,47 @@
 -- What a run does after a recovery, told of the disk as it was before.
-use Rattle.std.proofs.Common.{◌≡◌, ◌⊎◌, inl, inr, ℕ, suc, ◌+◌, ◌-◌, ◌*◌, ◌≤◌, Bool, true, false, List, [], length, Option, Some, None, IsTrue, refl, sym, ap, ◌∙◌, arith, subst}
+use Rattle.std.proofs.Common.{◌≡◌, ◌⊎◌, inl, inr, ℕ, ◌+◌, ◌-◌, ◌*◌, ◌≤◌, Bool, true, false, List, [], length, Option, Some, None, IsTrue, refl, sym, ap, ◌∙◌, arith, subst}
+use Rattle.std.specs.Prelude.{nat_lt, if◌then◌else◌, take}
 use Rattle.batch_repr.specs.declared.batch.Batch.{Batch}
+use Rattle.batch_repr.specs.Batches.{end_after}
 use Rattle.disk_face.specs.declared.Side.{Side}
 use Rattle.disk_face.specs.declared.Side.TheVariants.{Primary, Secondary}
 use Rattle.stall_monitor.specs.declared.verdict.TheConstants.{SEGMENTS_MAX}
 use Rattle.disk_face.specs.View.{Place, segment, DiskView, File, Files, files}
-use Rattle.disk_face.specs.Image.{IsSound, IsRested, as_read, dirs_as_read, directories}
+use Rattle.disk_face.specs.Image.{IsSound, IsRested, dirs_as_read, directories}
 use Rattle.disk_face.specs.Calls.{GoesOn, WentOn}
 use Rattle.disk_face.specs.Asked.{creations}
 use Rattle.disk_face.proofs.Laws.{goes_went, read_created, rose_later, went_further, creations_further}
 use Rattle.log_writer.specs.Fits.{IsUnsent}
 use Rattle.failover_writer.specs.Ranges.{side_at, AreUnsent}
 use Rattle.failover_writer.specs.Answered.{FaultsRose, RoseBy}
-use Rattle.failover_writer.specs.Keeping.{RecoversTo}
+use Rattle.failover_writer.specs.Keeping.{IsRunOver}
 use Rattle.failover_writer.specs.Remaining.{polls_left}
-use Rattle.failover_writer.proofs.Laws.{read_synced, rested_synced, recovered_opens}
-use Rattle.wal_recovery.specs.Listing.{Stored, StandsIn, name_in, IsNextWal}
-use Rattle.wal_recovery.specs.Asking.{AsksOnce}
-use Rattle.wal_recovery.specs.Recovering.{Recovers}
+use Rattle.wal_recovery.specs.declared.reports.Mode.TheVariants.{Strict}
+use Rattle.wal_recovery.specs.Listing.{Stored, name_in}
+use Rattle.wal_recovery.specs.Base.{IsBaseOf}
+use Rattle.wal_recovery.specs.Further.{SegmentsMerge}
+use Rattle.wal_recovery.specs.Rows.{files_from}
 use Rattle.wal_recovery.specs.Resting.{AreSegmentsStable, IsAsOrSynced, OnlySynced}
+use Rattle.wal_recovery.proofs.Laws.{read_synced, rested_synced}
 use Rattle.disk_face.specs.declared.names.TheConstants.{WAL_MAX}
-use Rattle.failover_writer.specs.Running.{OthersOnlySynced, PollsLeft, LogsBatches, OthersSame}
+use Rattle.flush_table.specs.Asked.{AsksOfStore}
+use Rattle.flush_table.specs.Stores.{IsNextWalOfStore, wal_from, wal_after, next_in}
+use Rattle.flush_table.specs.Kept.{KeepsStore}
+use Rattle.flush_table.proofs.Laws.{none_of_next, number_used, run_over_store, wal_used}
+use Rattle.failover_writer.specs.Running.{OthersOnlySynced, PollsLeft, OthersSame}
+use Rattle.commit_pipeline.specs.Openings.{first_number, EndsBefore}
+use Rattle.commit_pipeline.proofs.Laws.{ends_before}
 use Rattle.script_runner.specs.declared.run.Outcome.{Outcome}
 use Rattle.script_runner.specs.declared.work.Work.{Work}
 use Rattle.script_runner.specs.Works.{work_rounds}
-use Rattle.script_runner.specs.Runs.{PollsNeverRise, StallsSome, HasCauses, EndsRunAs, RunsWork}
-use Rattle.wal_top.specs.Work.{RunsOverDisk}
+use Rattle.script_runner.specs.Runs.{PollsNeverRise, StallsSome, HasCauses, EndsRunAs, SaysRun, RunsWork}
+use Rattle.wal_top.specs.Recovery.{ReadsStore, next_of}
+use Rattle.wal_top.specs.Work.{LogsBatches, RunsOverDisk}
 
 -- ---- nothing was sent to a segment of the next WAL
 
 unsent : (wal index : ℕ) (side : Side) (now : Files) → ((p : Place) (f : File) → now p ≡ Some f → IsSound p f)
-    → IsNextWal (dirs_as_read now) wal → wal ≤ WAL_MAX → index ≤ 999 → IsUnsent (now (segment side (name_in wal index)))
+    → IsNextWalOfStore (dirs_as_read now) wal → wal ≤ WAL_MAX → index ≤ 999 → IsUnsent (now (segment side (name_in wal index)))
 unsent wal index side now sound next within low = go (now place) refl
   where
     place : Place
@@ -53,10 +64,10 @@ unsent wal index side now sound next within low = go (now place) refl
         subst IsUnsent (sym is) (none, λ g here. subst (λ (h : File). h.sent ≡ []) (same_some here) ((sound place f is).1 none))
 
 pub are_unsent : (wal : ℕ) (old now : Files) (v : DiskView) → files v ≡ now → ((p : Place) (f : File) → now p ≡ Some f → IsSound p f)
-    → IsNextWal (dirs_as_read old) wal → wal ≤ WAL_MAX → OnlySynced old now → AreUnsent wal 0 v
+    → IsNextWalOfStore (dirs_as_read old) wal → wal ≤ WAL_MAX → OnlySynced old now → AreUnsent wal 0 v
 are_unsent wal old now v is sound next within only index low high =
     subst (λ (fs : Files). IsUnsent (fs (segment (side_at index) (name_in wal index)))) (sym is)
-    (unsent wal index (side_at index) now sound (subst (λ (d : _). IsNextWal d wal) (sym (read_synced old now only)) next) within high)
+    (unsent wal index (side_at index) now sound (subst (λ (d : _). IsNextWalOfStore d wal) (sym (read_synced old now only)) next) within high)
 
 -- ---- what follows a recovery
 
@@ -71,8 +82,8 @@ module _ (old mid new : DiskView) (wal : ℕ) (tells : Bool) (only : IsTrue tell
   pub others_stay : (IsTrue tells → OthersSame wal (files mid) (files new)) → IsTrue tells → OthersOnlySynced wal (files old) (files new)
   others_stay same told p elsewhere = subst (IsAsOrSynced (files old p)) (sym (same told p elsewhere)) (only told p)
 
-  module _ (threshold : ℕ) (base' : List Batch) (work : Work) (ran : Outcome) (goes : GoesOn old mid) (asks : AsksOnce old mid)
-      (r : RunsWork base' work wal threshold tells mid new ran) where
+  module _ (threshold : ℕ) (base' : List Batch) (next' : ℕ) (work : Work) (ran : Outcome) (goes : GoesOn old mid) (asks : AsksOfStore old mid)
+      (r : RunsWork base' next' work wal threshold tells mid new ran) where
     rose_since : FaultsRose mid new → FaultsRose old new
     rose_since (side, rose) = (side, rose_later (old.faults side) (mid.faults side) (new.faults side) (goes.faults side) rose)
 
@@ -126,48 +137,57 @@ module _ (old mid new : DiskView) (wal : ℕ) (tells : Bool) (only : IsTrue tell
           gave_up = e.gave_up;
         }
 
-    module _ (stable : IsTrue tells → IsRested (files old) → AreSegmentsStable (files mid)) (within : wal ≤ WAL_MAX)
-        (next : IsTrue tells → IsNextWal (directories old) wal) (recovers : IsTrue tells → Recovers (directories old) base') where
-      recovers_since : IsTrue tells → IsRested (files old) → RecoversTo base' r.batches ran.end.acked (files new)
-      recovers_since told rested = r.ended.recovers told base' (recovered_opens wal base' (files old) (files mid) rested (only told)
-          (stable told rested) (recovers told) (next told))
+    module _ (read' : ReadsStore Strict tells (record { before = old; after = new })) (is : base' ≡ read'.batches) (next_is : next' ≡ next_of read')
+        (stable : IsTrue tells → IsRested (files old) → AreSegmentsStable (files_from (wal_after read'.seen) (files mid))) (within : wal ≤ WAL_MAX)
+        (next : IsTrue tells → IsNextWalOfStore (directories old) wal) (numbered' : EndsBefore read'.batches (next_of read')) where
+      next_used : IsTrue tells → next' ≡ next_in read'.used read'.batches
+      next_used told = next_is ∙ ap (λ (n : ℕ). end_after n read'.batches) (number_used read'.used read'.seen (read'.tells_used told))
 
-      logs_since : LogsBatches tells base' r.batches ran.end.acked old new
+      stable_used : IsTrue tells → IsRested (files old) → AreSegmentsStable (files_from (wal_from read'.used) (files mid))
+      stable_used told rested =
+          subst (λ (w : ℕ). AreSegmentsStable (files_from w (files mid))) (wal_used read'.used read'.seen (read'.tells_used told)) (stable told rested)
+
+      keeps_since : IsTrue tells → IsRested (files old) → KeepsStore read'.used read'.batches r.batches ran.end.acked (files new)
+      keeps_since told rested dirs image free =
+          let run : IsRunOver wal next' r.batches ran.end.acked (files mid) dirs =
+          r.ended.keeps told (none_of_next (files old) (files mid) rested (only told) wal (next told)) dirs image free in
+          let merges : SegmentsMerge dirs wal (next_in read'.used read'.batches) (take run.count r.batches) =
+          subst (λ (n : ℕ). SegmentsMerge dirs wal n (take run.count r.batches)) (next_used told) run.merges in (
+            run.count,
+            run.has_acked,
+            run.within,
+            run_over_store wal read'.used read'.batches (take run.count r.batches) (files old) (files mid) rested (only told) (stable_used told rested)
+                (read'.store told) (next told) run.others dirs run.image run.chance_free run.same merges,
+          )
+
+      logs_since : LogsBatches tells (record { before = old; after = new }) read' r.batches ran.end.acked
       logs_since = record {
         wal = wal;
         within = within;
         next = next;
         others = others_stay r.ended.others;
         nothing = λ told empty p. subst (IsAsOrSynced (files old p)) (sym (r.ended.nothing told empty p)) (only told p);
-        recovers = recovers_since;
-        read = λ told rested calm.
+        keeps = keeps_since;
+        reads = λ told rested calm.
             let whole = r.ended.read told (rested_synced (files old) (files mid) rested (only told)) (λ rose. calm (rose_since rose)) in
-            recovers_since told rested (directories new) whole.0 whole.1;
-        stable = λ told rested side name f listed other is. stable told rested side name f listed (sym (r.ended.others told (segment side name) other) ∙ is);
+            keeps_since told rested (directories new) whole.0 whole.1;
+        stable = λ told rested side name f listed other here.
+            let left : Option File → Option File = λ (o : Option File). if nat_lt name.wal (wal_after read'.seen) then None else o in
+            stable told rested side name f listed (ap left (sym (r.ended.others told (segment side name) other)) ∙ here);
       }
 
       -- work that is done over what was recovered is done over the disk as it was
       pub runs_since : RunsOverDisk work threshold tells (record { before = old; after = new }) ran
       runs_since = record {
-        base = base';
-        recovers = recovers;
+        read = read';
+        numbered = numbered';
         batches = r.batches;
-        says = r.says;
+        says = subst (λ (n : ℕ). SaysRun (first_number n read'.batches) read'.batches work r.batches ran) next_is
+            (subst (λ (l : List Batch). SaysRun (first_number next' l) l work r.batches ran) is r.says);
         ends = ends_since;
         logs = logs_since;
       }
 
--- 1 where no segment stands, or 1 more than a segment's WAL
-abbrev IsLeast : DiskView → ℕ → Type 0
-IsLeast view n = ((n ≡ 1) × ((wal : ℕ) (stored : Stored) → StandsIn (directories view) wal stored → ⊥))
-    ⊎ ((wal : ℕ) × (stored : Stored) × StandsIn (directories view) wal stored × (n ≡ suc wal))
-
--- there is one next WAL
-pub one_next_wal : (view : DiskView) (a b : ℕ) → IsNextWal (directories view) a → IsNextWal (directories view) b → a ≡ b
-one_next_wal view a b x y = go x.least y.least
-  where
-    go : IsLeast view a → IsLeast view b → a ≡ b
-    go (inl (e, none)) (inl (f, nothing)) = e ∙ sym f
-    go (inl (e, none)) (inr (n, s, there, f)) = absurd (none n s there)
-    go (inr (n, s, there, e)) (inl (f, none)) = absurd (none n s there)
-    go (inr (n, s, there, e)) (inr (m, t, stands, f)) = omega (arith, e, f, x.above m t stands, y.above n s there)
+-- Batches that are numbered, and end before a number, are what a run may go on from.
+pub numbered_before : (next : ℕ) (batches : List Batch) → IsBaseOf next batches → EndsBefore batches next
+numbered_before next batches is = ends_before is.from next batches is.contiguous (sym is.ends)

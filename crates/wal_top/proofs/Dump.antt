@@ -1,21 +1,18 @@
--- What `dump` says of the segments, and that it says what has to come.
-use Rattle.std.proofs.Common.{◌≡◌, ℕ, Bool, List, ◌++◌, length, IsTrue, refl, ap, ◌∙◌}
-use Rattle.batch_repr.specs.declared.limits.TheConstants.{NUMBER_FIRST}
-use Rattle.batch_repr.specs.declared.batch.Batch.{Batch}
-use Rattle.batch_repr.specs.Batches.{end_after}
+-- What `dump` says of the used table and the segments, and that it says what has to come.
+use Rattle.std.proofs.Common.{◌≡◌, ℕ, Bool, List, ◌++◌, length, IsTrue, ap, ◌∙◌}
 use Rattle.disk_face.specs.View.{DiskView, NothingInFlight}
 use Rattle.disk_face.specs.Image.{directories}
 use Rattle.disk_face.specs.Calls.{SameDisk}
 use Rattle.text_lines.specs.Lines.{recovered_end}
 use Rattle.wal_recovery.specs.declared.reports.Mode.TheVariants.{Lenient}
-use Rattle.wal_recovery.specs.Recovering.{RecoversLenient}
 use Rattle.wal_recovery.specs.declared.reports.SegReport.{SegReport}
+use Rattle.wal_recovery.specs.Listing.{from_wal}
 use Rattle.wal_recovery.specs.Reports.{AreReports}
-use Rattle.wal_recovery.proofs.Laws.{lenient_or_refused}
+use Rattle.flush_table.specs.Stores.{wal_after}
 use Rattle.wal_top.specs.declared.status.Status.{Status}
 use Rattle.wal_top.specs.Call.{Change, Stays}
-use Rattle.wal_top.specs.Recovery.{SaysUnrecovered}
-use Rattle.wal_top.specs.Dump.{segments_text, ShowsSegments, IsToShowSegments, SaysDump, DumpIsDue, LeavesDump}
+use Rattle.wal_top.specs.Recovery.{ReadsStore, next_of, SaysUnrecovered}
+use Rattle.wal_top.specs.Dump.{segments_text, used_text, ShowsSegments, SaysDump, DumpIsDue, LeavesDump}
 use Rattle.wal_top.specs.Rightly.{IsOfCommand, IsTheDue}
 use Rattle.wal_top.proofs.Recovery.{shows_unrecovered, shown_told, shown_due}
 use Rattle.wal_top.proofs.Untouched.{untouched_polls, untouched_journal, untouched_same}
@@ -24,18 +21,17 @@ module _ (tells : Bool) (disk : Change DiskView) (text : List ℕ) where
   -- ---- what is said
 
   -- the segments as recovery answers them and as they are printed
-  pub says_segments : (batches' : List Batch) (next : ℕ) → next ≡ end_after NUMBER_FIRST batches' → (reports' : List SegReport) (count : ℕ) (lines : List ℕ)
-      → count ≡ length batches' → (IsTrue tells → RecoversLenient (directories disk.before) batches')
-      → (IsTrue tells → AreReports (directories disk.before) reports')
-      → SameDisk disk.before disk.after → lines ≡ segments_text reports' → text ≡ lines ++ recovered_end count next → ShowsSegments tells disk text
-  says_segments batches' next ends reports' count lines few recovers' are same' printed whole = record {
-    batches = batches';
-    recovers = recovers';
+  pub says_segments : (read' : ReadsStore Lenient tells disk) (next : ℕ) → next ≡ next_of read' → (reports' : List SegReport) (count : ℕ) (lines : List ℕ)
+      → count ≡ length read'.batches → (IsTrue tells → AreReports (from_wal (wal_after read'.seen) (directories disk.before)) reports')
+      → SameDisk disk.before disk.after → lines ≡ used_text read'.seen ++ segments_text reports' → text ≡ lines ++ recovered_end count next
+      → ShowsSegments tells disk text
+  says_segments read' next ends reports' count lines few are same' printed whole = record {
+    read = read';
     reports = reports';
     reports_are = are;
     text_is = whole ∙ ap (λ (l : List ℕ). l ++ recovered_end count next) printed
-        ∙ ap (λ (n : ℕ). segments_text reports' ++ recovered_end n next) few
-        ∙ ap (λ (n : ℕ). segments_text reports' ++ recovered_end (length batches') n) ends;
+        ∙ ap (λ (n : ℕ). used_text read'.seen ++ segments_text reports' ++ recovered_end n next) few
+        ∙ ap (λ (n : ℕ). used_text read'.seen ++ segments_text reports' ++ recovered_end (length read'.batches) n) ends;
     same = same';
   }
 
@@ -48,9 +44,7 @@ module _ (tells : Bool) (disk : Change DiskView) (text : List ℕ) where
   dump_told = shown_told Lenient tells disk text (ShowsSegments tells disk text)
 
   pub dump_due : (said : Status) → SaysDump tells disk said text → IsTheDue (DumpIsDue tells disk) said
-  dump_due = shown_due Lenient tells disk text (ShowsSegments tells disk text) (IsToShowSegments tells disk) (λ d. d.calm)
-      (λ d r. lenient_or_refused (directories disk.before) d.batches r.fault d.recovers (r.refused d.told))
-      (λ h d. lenient_or_refused (directories disk.before) h.batches d.fault (h.recovers d.told) d.refused)
+  dump_due = shown_due Lenient tells disk text (ShowsSegments tells disk text) (λ h. h.read)
 
 -- ---- what is left where nothing was done
 

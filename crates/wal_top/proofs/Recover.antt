@@ -1,20 +1,18 @@
 -- What `recover` says of a recovered store, and that it says what has to come.
-use Rattle.std.proofs.Common.{◌≡◌, ℕ, Bool, List, ◌++◌, length, IsTrue, refl, ap, ◌∙◌, subst}
-use Rattle.batch_repr.specs.declared.limits.TheConstants.{NUMBER_FIRST}
+use Rattle.std.proofs.Common.{◌≡◌, ℕ, Bool, List, ◌++◌, length, IsTrue, ap, ◌∙◌, subst}
 use Rattle.batch_repr.specs.declared.batch.Batch.{Batch}
-use Rattle.batch_repr.specs.Batches.{end_after}
 use Rattle.disk_face.specs.View.{DiskView, files, NothingInFlight}
-use Rattle.disk_face.specs.Image.{IsRested, directories}
+use Rattle.disk_face.specs.Image.{IsRested}
 use Rattle.text_lines.specs.Store.{IsStoreText}
 use Rattle.text_lines.specs.Lines.{recovered_end}
 use Rattle.wal_recovery.specs.declared.reports.Mode.TheVariants.{Strict}
-use Rattle.wal_recovery.specs.Recovering.{Recovers}
+use Rattle.wal_recovery.specs.Rows.{files_from}
 use Rattle.wal_recovery.specs.Resting.{OnlySynced, AreSegmentsStable}
-use Rattle.wal_recovery.proofs.Laws.{recovered_or_refused}
+use Rattle.flush_table.specs.Stores.{wal_after}
 use Rattle.wal_top.specs.declared.status.Status.{Status}
 use Rattle.wal_top.specs.Call.{Change, Stays}
-use Rattle.wal_top.specs.Recovery.{SaysUnrecovered}
-use Rattle.wal_top.specs.Recover.{ShowsStore, IsToShowStore, SaysRecover, RecoverIsDue, LeavesRecover}
+use Rattle.wal_top.specs.Recovery.{ReadsStore, next_of, SaysUnrecovered}
+use Rattle.wal_top.specs.Recover.{ShowsStore, SaysRecover, RecoverIsDue, LeavesRecover}
 use Rattle.wal_top.specs.Rightly.{IsOfCommand, IsTheDue}
 use Rattle.wal_top.proofs.Recovery.{shows_unrecovered, shown_told, shown_due}
 use Rattle.wal_top.proofs.Untouched.{untouched_polls, untouched_journal}
@@ -23,17 +21,16 @@ module _ (tells : Bool) (disk : Change DiskView) (text : List ℕ) where
   -- ---- what is said
 
   -- the store as recovery answers it and as it is printed
-  pub says_store : (batches' : List Batch) (next : ℕ) → next ≡ end_after NUMBER_FIRST batches' → (shown : List Batch) → shown ≡ batches'
-      → (IsTrue tells → Recovers (directories disk.before) batches')
+  pub says_store : (read' : ReadsStore Strict tells disk) (next : ℕ) → next ≡ next_of read' → (shown : List Batch) → shown ≡ read'.batches
       → (IsTrue tells → OnlySynced (files disk.before) (files disk.after))
-      → (IsTrue tells → IsRested (files disk.before) → AreSegmentsStable (files disk.after)) → (lines : List ℕ)
-      × IsStoreText shown lines × (text ≡ lines ++ recovered_end (length shown) next) → ShowsStore tells disk text
-  says_store batches' next ends shown is recovers' only rested (lines, is_store, printed) = record {
-    batches = batches';
-    recovers = recovers';
+      → (IsTrue tells → IsRested (files disk.before) → AreSegmentsStable (files_from (wal_after read'.seen) (files disk.after)))
+      → (lines : List ℕ) × IsStoreText shown lines × (text ≡ lines ++ recovered_end (length shown) next) → ShowsStore tells disk text
+  says_store read' next ends shown is only rested (lines, is_store, printed) = record {
+    read = read';
     store = lines;
     store_is = subst (λ (bs : List Batch). IsStoreText bs lines) is is_store;
-    text_is = printed ∙ ap (λ (bs : List Batch). lines ++ recovered_end (length bs) next) is ∙ ap (λ (n : ℕ). lines ++ recovered_end (length batches') n) ends;
+    text_is = printed ∙ ap (λ (bs : List Batch). lines ++ recovered_end (length bs) next) is
+        ∙ ap (λ (n : ℕ). lines ++ recovered_end (length read'.batches) n) ends;
     only_synced = only;
     stable = rested;
   }
@@ -47,9 +44,7 @@ module _ (tells : Bool) (disk : Change DiskView) (text : List ℕ) where
   recover_told = shown_told Strict tells disk text (ShowsStore tells disk text)
 
   pub recover_due : (said : Status) → SaysRecover tells disk said text → IsTheDue (RecoverIsDue tells disk) said
-  recover_due = shown_due Strict tells disk text (ShowsStore tells disk text) (IsToShowStore tells disk) (λ d. d.calm)
-      (λ d r. recovered_or_refused (directories disk.before) d.batches r.fault d.recovers (r.refused d.told))
-      (λ h d. recovered_or_refused (directories disk.before) h.batches d.fault (h.recovers d.told) d.refused)
+  recover_due = shown_due Strict tells disk text (ShowsStore tells disk text) (λ h. h.read)
 
 -- ---- what is left where nothing was done
 

@@ -1,5 +1,5 @@
 -- What recovery answers where the directories do not recover, as it is said, and when it has to be.
-use Rattle.std.proofs.Common.{◌≡◌, ℕ, Bool, List, IsTrue, refl, sym, subst}
+use Rattle.std.proofs.Common.{◌≡◌, ℕ, Bool, true, false, List, Option, None, IsTrue, refl, sym, subst}
 use Rattle.disk_face.specs.View.{DiskView, files, NothingInFlight}
 use Rattle.disk_face.specs.Image.{directories}
 use Rattle.disk_face.specs.Calls.{SameDisk}
@@ -7,11 +7,15 @@ use Rattle.wal_recovery.specs.declared.reports.Mode.{Mode}
 use Rattle.wal_recovery.specs.declared.fault.RecoverFault.{RecoverFault}
 use Rattle.wal_recovery.specs.declared.fault.RecoverFault.TheVariants as faults
 use Rattle.wal_recovery.specs.Resting.{OnlySynced}
-use Rattle.wal_recovery.specs.Answers.{IsRefusedBy, IsRefusal, FaultRose, DiskMemoryOr}
+use Rattle.wal_recovery.specs.Answers.{IsRefusal, FaultRose, DiskMemoryOr}
+use Rattle.flush_table.specs.declared.reports.StoreRead.{StoreRead}
+use Rattle.flush_table.specs.Stores.{Used, StoreOf, IsStoreRefused, TellsUsed}
+use Rattle.flush_table.specs.Promises.{IsStoreRead}
+use Rattle.flush_table.proofs.Laws.{store_or_refused}
 use Rattle.wal_top.specs.declared.status.Status.{Status}
 use Rattle.wal_top.specs.declared.status.Status.TheVariants.{Done, Usage, Script, Read, Write, Disk, Refused, NoMemory, Limit}
-use Rattle.wal_top.specs.Call.{Change, IsCalmDisk}
-use Rattle.wal_top.specs.Recovery.{refusal_text, FailsRecovery, RefusesDirectories, SaysUnrecovered, IsToRefuse, SaysShown, ShownIsDue}
+use Rattle.wal_top.specs.Call.{Change}
+use Rattle.wal_top.specs.Recovery.{refusal_text, FailsRecovery, RefusesDirectories, SaysUnrecovered, IsToRefuse, ReadsStore, HasStoreToShow, SaysShown, ShownIsDue}
 use Rattle.wal_top.specs.Faults.{SaysFault}
 use Rattle.wal_top.specs.Rightly.{IsOfCommand, IsTheDue}
 
@@ -38,7 +42,7 @@ module _ (mode : Mode) (tells : Bool) (disk : Change DiskView) (text : List ℕ)
 
   module _ (only : IsTrue tells → OnlySynced (files disk.before) (files disk.after)) (rests : NothingInFlight disk.after) where
     refuses : (why : RecoverFault) (status : Status) → status ≡ Refused → text ≡ refusal_text why → IsRefusal why
-        → (IsTrue tells → IsRefusedBy mode (directories disk.before) why) → SameDisk disk.before disk.after → SaysUnrecovered mode tells disk status text
+        → (IsTrue tells → IsStoreRefused mode (directories disk.before) why) → SameDisk disk.before disk.after → SaysUnrecovered mode tells disk status text
     refuses why status status_is told real_ is same_ = subst (λ (s : Status). SaysUnrecovered mode tells disk s text) (sym status_is) (record {
       fault = why;
       real = real_;
@@ -49,7 +53,7 @@ module _ (mode : Mode) (tells : Bool) (disk : Change DiskView) (text : List ℕ)
 
     -- a fault of recovery is said by its side, or by why the directories are refused
     pub says_unrecovered : (fault : RecoverFault) (status : Status) → SaysFault fault status text → FaultRose disk.before disk.after fault
-        → (IsTrue tells → DiskMemoryOr (IsRefusedBy mode (directories disk.before)) fault)
+        → (IsTrue tells → DiskMemoryOr (IsStoreRefused mode (directories disk.before)) fault)
         → (IsRefusal fault → SameDisk disk.before disk.after) → SaysUnrecovered mode tells disk status text
     says_unrecovered (faults.Disk side') status (s, t) rose is same =
         subst (λ (x : Status). SaysUnrecovered mode tells disk x text) (sym s)
@@ -60,6 +64,26 @@ module _ (mode : Mode) (tells : Bool) (disk : Change DiskView) (text : List ℕ)
     says_unrecovered (faults.Conflict wal index first) status (s, t) rose is same = refuses (faults.Conflict wal index first) status s t tt is (same tt)
     says_unrecovered (faults.Corrupt wal index at shown_at) status (s, t) rose is same = refuses (faults.Corrupt wal index at shown_at) status s t tt is (same tt)
     says_unrecovered faults.NoMemory status says rose is same = absurd says
+
+-- ---- the store
+
+-- the used table, where it is told
+pub told_used : (tells : Bool) (P : Option Used → Type 0) → (IsTrue tells → (used : Option Used) × P used) → (used : Option Used) × (IsTrue tells → P used)
+told_used true P is = let s = is refl in (s.0, λ told. s.1)
+told_used false P is = (None, λ told. absurd cc)
+
+-- what was found, as it is read
+abbrev pub reads_store : (mode : Mode) (tells : Bool) (disk : Change DiskView) (found : StoreRead) → IsStoreRead tells mode disk.before found
+    → ReadsStore mode tells disk
+reads_store mode tells disk found is =
+    let t = told_used tells (λ (used : Option Used). StoreOf mode (directories disk.before) used found.batches × TellsUsed used found.table)
+    (λ told. let s = is told in (s.0, (s.1, s.2))) in
+    record { batches = found.batches; used = t.0; seen = found.table; store = λ told. (t.1 told).0; tells_used = λ told. (t.1 told).1 }
+
+-- directories that are refused were not read as a store
+pub not_read : (mode : Mode) (tells : Bool) (disk : Change DiskView) → ReadsStore mode tells disk → IsToRefuse mode tells disk → ⊥
+not_read mode tells disk read refuse =
+    store_or_refused mode (directories disk.before) read.used read.batches refuse.fault (read.store refuse.told) refuse.refused
 
 -- ---- a command that shows what the directories recover to
 
@@ -83,17 +107,17 @@ module _ (mode : Mode) (tells : Bool) (disk : Change DiskView) (text : List ℕ)
   pub shown_told : (said : Status) → SaysShown mode tells disk Shows said text → IsOfCommand said
   shown_told = each IsOfCommand (λ h. tt) (unrecovered_told mode tells disk text)
 
-  -- What has to be shown is shown and refused directories are refused, since no directories recover and are refused.
-  module _ (IsToShow : Type 0) (calm : IsToShow → IsCalmDisk disk) (not_refused : IsToShow → RefusesDirectories mode tells disk text → ⊥)
-      (not_shown : Shows → IsToRefuse mode tells disk → ⊥) where
-    shown_when_due : IsToShow → (said : Status) → SaysShown mode tells disk Shows said text → Done ≡ said
+  -- What has to be shown is shown and refused directories are refused, since no directories have a store and are refused.
+  module _ (read : Shows → ReadsStore mode tells disk) where
+    shown_when_due : HasStoreToShow mode tells disk → (said : Status) → SaysShown mode tells disk Shows said text → Done ≡ said
     shown_when_due d = each (λ (s : Status). Done ≡ s) (λ h. refl)
-        (unrecovered_in mode tells disk text (λ (s : Status). Done ≡ s) (λ f. absurd (calm d f.side f.failed)) (λ r. absurd (not_refused d r)))
+        (unrecovered_in mode tells disk text (λ (s : Status). Done ≡ s) (λ f. absurd (d.calm f.side f.failed))
+        (λ r. absurd (store_or_refused mode (directories disk.before) d.used d.batches r.fault d.store (r.refused d.told))))
 
     refused_when_due : IsToRefuse mode tells disk → (said : Status) → SaysShown mode tells disk Shows said text → Refused ≡ said
-    refused_when_due d = each (λ (s : Status). Refused ≡ s) (λ h. absurd (not_shown h d)) (refuse_due mode tells disk text d)
+    refused_when_due d = each (λ (s : Status). Refused ≡ s) (λ h. absurd (not_read mode tells disk (read h) d)) (refuse_due mode tells disk text d)
 
-    pub shown_due : (said : Status) → SaysShown mode tells disk Shows said text → IsTheDue (ShownIsDue mode tells disk IsToShow) said
+    pub shown_due : (said : Status) → SaysShown mode tells disk Shows said text → IsTheDue (ShownIsDue mode tells disk) said
     shown_due said h Done d = shown_when_due d said h
     shown_due said h Usage d = absurd d
     shown_due said h Script d = absurd d

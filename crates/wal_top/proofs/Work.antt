@@ -1,14 +1,15 @@
 -- What work says by what it came to, and that it says what has to come.
-use Rattle.std.proofs.Common.{◌≡◌, ◌⊎◌, inl, inr, ℕ, ◌<◌, ◌≤◌, Bool, true, false, List, Result, Ok, Err, IsTrue, refl, sym, ◌∙◌, arith, subst}
+use Rattle.std.proofs.Common.{◌≡◌, ◌⊎◌, inl, inr, ℕ, ◌<◌, ◌≤◌, Bool, true, false, List, Option, Result, Ok, Err, refl, sym, ap, ◌∙◌, arith, subst}
 use Rattle.std.specs.Prelude.{IfOk, IsOkAnd}
 use Rattle.batch_repr.specs.declared.batch.Batch.{Batch}
-use Rattle.batch_repr.specs.declared.limits.TheConstants.{NUMBER_FIRST}
+use Rattle.batch_repr.specs.Batches.{end_after}
 use Rattle.disk_face.specs.declared.names.TheConstants.{WAL_MAX}
 use Rattle.disk_face.specs.View.{DiskView}
 use Rattle.disk_face.specs.Image.{directories}
 use Rattle.wal_recovery.specs.declared.reports.Mode.TheVariants.{Strict}
-use Rattle.wal_recovery.specs.Recovering.{Recovers}
-use Rattle.wal_recovery.proofs.Laws.{recovers_once, recovered_or_refused}
+use Rattle.flush_table.specs.Stores.{Used, next_in}
+use Rattle.flush_table.proofs.Laws.{number_used, one_next_wal, store_once, store_or_refused}
+use Rattle.commit_pipeline.specs.Openings.{first_number}
 use Rattle.session_replies.specs.Theorems.{limit_told, AsksTooMuch, IsLimitedExactly}
 use Rattle.script_runner.specs.declared.run.Outcome.{Outcome}
 use Rattle.script_runner.specs.declared.work.Work.{Work}
@@ -19,13 +20,12 @@ use Rattle.wal_top.specs.declared.said.Said.{Said}
 use Rattle.wal_top.specs.declared.working.Worked.{Worked}
 use Rattle.wal_top.specs.declared.working.Worked.TheVariants as comes
 use Rattle.wal_top.specs.Call.{Change, IsCalmDisk}
-use Rattle.wal_top.specs.Recovery.{FailsRecovery, RefusesDirectories, IsToRefuse, SaysUnrecovered}
-use Rattle.wal_top.specs.Work.{RunsOverDisk, status_by, DoesWork, LacksWal, SaysWork, MayBegin, AsksEnough, WorkIsDue}
+use Rattle.wal_top.specs.Recovery.{FailsRecovery, RefusesDirectories, IsToRefuse, SaysUnrecovered, next_of}
+use Rattle.wal_top.specs.Work.{RunsOverDisk, status_by, DoesWork, LacksWal, SaysWork, MayBegin, begins_at, AsksEnough, WorkIsDue}
 use Rattle.wal_top.specs.Worked.{SaysUnbegun, WorkComesTo, TellsWorked}
 use Rattle.wal_top.specs.Rightly.{IsOfCommand, IsTheDue}
 use Rattle.wal_top.proofs.Saying.{ok_map, as_told}
-use Rattle.wal_top.proofs.Recovery.{unrecovered_in}
-use Rattle.wal_top.proofs.Coming.{one_next_wal}
+use Rattle.wal_top.proofs.Recovery.{unrecovered_in, not_read}
 
 -- ---- by which status a journal has died, or a limit was met
 
@@ -103,33 +103,42 @@ module _ (work : Work) (threshold : ℕ) (print : Outcome → List ℕ) (tells :
       let rose = d.done.ends.failed (died_of d.outcome.end.died d.outcome.told.limited d.status_is) in calm rose.0 rose.1
   never_failed calm (inr f) = calm f.side f.failed
 
-  -- directories that recover are not refused
+  -- directories that have a store are not refused
   not_refused : MayBegin tells disk → Refuses → ⊥
-  not_refused b r = recovered_or_refused (directories disk.before) b.base r.fault b.recovers (r.refused b.told)
+  not_refused b r = store_or_refused Strict (directories disk.before) b.used b.base r.fault b.store (r.refused b.told)
 
   module _ (b : MayBegin tells disk) where
-    -- the base of work is the one that the directories recover to
-    asks_told : (status : Status) (d : Does status)
-        → IsLimitedExactly NUMBER_FIRST b.base d.outcome.end.died (work_rounds work) d.done.batches d.done.says.replies
-    asks_told status d =
-        subst (λ (l : List Batch). IsLimitedExactly NUMBER_FIRST l d.outcome.end.died (work_rounds work) d.done.batches d.done.says.replies)
-        (recovers_once (directories disk.before) d.done.base b.base (d.done.recovers b.told) b.recovers) d.done.says.answers.exact
+    abbrev from : ℕ
+    from = begins_at b
 
-    done_within : Does Done → (WAL_MAX < b.next) ⊎ AsksTooMuch NUMBER_FIRST b.base (work_rounds work) → ⊥
+    -- the base of work is the store of the directories, and begins with the same number
+    asks_told : (status : Status) (d : Does status) → IsLimitedExactly from b.base d.outcome.end.died (work_rounds work) d.done.batches d.done.says.replies
+    asks_told status d =
+        let read = d.done.read in
+        let same = store_once Strict (directories disk.before) read.used b.used read.batches b.base (read.store b.told) b.store in
+        let next : next_of read ≡ next_in b.used b.base =
+        ap (λ (n : ℕ). end_after n read.batches) (number_used read.used read.seen (read.tells_used b.told))
+        ∙ ap (λ (u : Option Used). next_in u read.batches) same.0 ∙ ap (next_in b.used) same.1 in
+        subst (λ (l : List Batch). IsLimitedExactly (first_number (next_in b.used b.base) l) l d.outcome.end.died (work_rounds work) d.done.batches d.done.says.replies) same.1
+        (subst (λ (n : ℕ). IsLimitedExactly (first_number n read.batches) read.batches d.outcome.end.died (work_rounds work) d.done.batches d.done.says.replies) next
+        d.done.says.answers.exact)
+
+    done_within : Does Done → (WAL_MAX < b.next) ⊎ AsksTooMuch from b.base (work_rounds work) → ⊥
     done_within d (inl past) =
-        omega (arith, past, d.done.logs.within, one_next_wal disk.before d.done.logs.wal b.next (d.done.logs.next b.told) b.next_is)
+        omega (arith, past, d.done.logs.within, one_next_wal (directories disk.before) d.done.logs.wal b.next (d.done.logs.next b.told) b.next_is)
     done_within d (inr much) =
         let neither = done_of d.outcome.end.died d.outcome.told.limited d.status_is in
         let clash : true ≡ false = sym ((asks_told Done d).some neither.0 much) ∙ sym d.done.says.answers.limited ∙ neither.1 in absurd cc
 
-    limited_past : Does Limit ⊎ LacksWal tells disk text → b.next ≤ WAL_MAX → AsksEnough work b.base → ⊥
+    limited_past : Does Limit ⊎ LacksWal tells disk text → b.next ≤ WAL_MAX → AsksEnough work from b.base → ⊥
     limited_past (inl d) within enough =
         let some = limited_of d.outcome.end.died d.outcome.told.limited d.status_is in
         let none : limit_told d.done.says.replies ≡ false = (asks_told Limit d).none enough.numbers enough.batches in
         let clash : true ≡ false = sym some ∙ d.done.says.answers.limited ∙ none in absurd cc
-    limited_past (inr l) within enough = omega (arith, l.past, within, one_next_wal disk.before l.next b.next (l.next_is b.told) b.next_is)
+    limited_past (inr l) within enough =
+        omega (arith, l.past, within, one_next_wal (directories disk.before) l.next b.next (l.next_is b.told) b.next_is)
 
-    done_due : b.next ≤ WAL_MAX → AsksEnough work b.base → (said : Status) → SaysWork work threshold print tells disk said text → Done ≡ said
+    done_due : b.next ≤ WAL_MAX → AsksEnough work from b.base → (said : Status) → SaysWork work threshold print tells disk said text → Done ≡ said
     done_due within enough Done h = refl
     done_due within enough Usage h = absurd h
     done_due within enough Script h = absurd h
@@ -140,7 +149,7 @@ module _ (work : Work) (threshold : ℕ) (print : Outcome → List ℕ) (tells :
     done_due within enough NoMemory h = absurd h
     done_due within enough Limit h = absurd (limited_past h within enough)
 
-    limit_due : (WAL_MAX < b.next) ⊎ AsksTooMuch NUMBER_FIRST b.base (work_rounds work) → (said : Status)
+    limit_due : (WAL_MAX < b.next) ⊎ AsksTooMuch from b.base (work_rounds work) → (said : Status)
         → SaysWork work threshold print tells disk said text → Limit ≡ said
     limit_due past Done h = absurd (done_within h past)
     limit_due past Usage h = absurd h
@@ -152,12 +161,8 @@ module _ (work : Work) (threshold : ℕ) (print : Outcome → List ℕ) (tells :
     limit_due past NoMemory h = absurd h
     limit_due past Limit h = refl
 
-  -- directories that are refused were worked over by none
-  unworked : IsToRefuse Strict tells disk → (base : List Batch) → (IsTrue tells → Recovers (directories disk.before) base) → ⊥
-  unworked r base recovers = recovered_or_refused (directories disk.before) base r.fault (recovers r.told) r.refused
-
   refused_due : IsToRefuse Strict tells disk → (said : Status) → SaysWork work threshold print tells disk said text → Refused ≡ said
-  refused_due r Done h = absurd (unworked r h.done.base h.done.recovers)
+  refused_due r Done h = absurd (not_read Strict tells disk h.done.read r)
   refused_due r Usage h = absurd h
   refused_due r Script h = absurd h
   refused_due r Read h = absurd h
@@ -165,8 +170,8 @@ module _ (work : Work) (threshold : ℕ) (print : Outcome → List ℕ) (tells :
   refused_due r Disk h = absurd (never_failed r.calm h)
   refused_due r Refused h = refl
   refused_due r NoMemory h = absurd h
-  refused_due r Limit (inl d) = absurd (unworked r d.done.base d.done.recovers)
-  refused_due r Limit (inr l) = absurd (unworked r l.base l.recovers)
+  refused_due r Limit (inl d) = absurd (not_read Strict tells disk d.done.read r)
+  refused_due r Limit (inr l) = absurd (not_read Strict tells disk l.read r)
 
   pub work_due : (said : Status) → SaysWork work threshold print tells disk said text → IsTheDue (WorkIsDue work tells disk) said
   work_due said h Done (b, within, enough) = done_due b within enough said h

@@ -1,21 +1,20 @@
--- The command `dump`: the segments are shown (docs/formats/program.md, "The text of a dump").
-use Rattle.std.specs.Prelude.{◌≡◌, ℕ, Bool, IsTrue, List, ◌++◌, length}
+-- The command `dump`: the used table and the segments are shown (docs/formats/program.md, "The text of a dump").
+use Rattle.std.specs.Prelude.{◌≡◌, ℕ, Bool, IsTrue, List, [], ◌++◌, length, Option, Some, None}
 use Rattle.std.specs.List.{flat_map}
-use Rattle.batch_repr.specs.declared.batch.Batch.{Batch}
-use Rattle.batch_repr.specs.declared.limits.TheConstants.{NUMBER_FIRST}
-use Rattle.batch_repr.specs.Batches.{end_after}
 use Rattle.disk_face.specs.View.{DiskView}
 use Rattle.disk_face.specs.Image.{directories}
 use Rattle.disk_face.specs.Calls.{SameDisk}
-use Rattle.text_lines.specs.Lines.{segment_line, batch_lines, recovered_end}
+use Rattle.text_lines.specs.Lines.{segment_line, table_line, batch_lines, recovered_end}
 use Rattle.wal_recovery.specs.declared.reports.Mode.TheVariants.{Lenient}
 use Rattle.wal_recovery.specs.declared.reports.SegReport.{SegReport}
-use Rattle.wal_recovery.specs.Recovering.{RecoversLenient}
+use Rattle.wal_recovery.specs.Listing.{from_wal}
 use Rattle.wal_recovery.specs.Reports.{AreReports}
+use Rattle.flush_table.specs.declared.reports.TableSeen.{TableSeen}
+use Rattle.flush_table.specs.Stores.{wal_after}
 use Rattle.script_runner.specs.Runs.{PollsNeverRise}
 use Rattle.wal_top.specs.declared.status.Status.{Status}
-use Rattle.wal_top.specs.Call.{Change, IsCalmDisk}
-use Rattle.wal_top.specs.Recovery.{SaysShown, ShownIsDue, WritesNoJournal}
+use Rattle.wal_top.specs.Call.{Change}
+use Rattle.wal_top.specs.Recovery.{ReadsStore, next_of, SaysShown, ShownIsDue, WritesNoJournal}
 
 -- what is said of a segment and its batches
 abbrev pub report_lines : SegReport → List ℕ
@@ -27,21 +26,18 @@ report_lines report =
 abbrev pub segments_text : List SegReport → List ℕ
 segments_text reports = flat_map report_lines reports
 
--- The segments of the directories were shown, and what their batches are merged to.
-pub record ShowsSegments (tells : Bool) (disk : Change DiskView) (text : List ℕ) : Type 0 where
-  pub batches : List Batch
-  pub recovers : IsTrue tells → RecoversLenient (directories disk.before) batches
-  pub reports : List SegReport
-  pub reports_are : IsTrue tells → AreReports (directories disk.before) reports
-  pub text_is : text ≡ segments_text reports ++ recovered_end (length batches) (end_after NUMBER_FIRST batches)
-  pub same : SameDisk disk.before disk.after
+-- what is said of the table that is used
+abbrev pub used_text : Option TableSeen → List ℕ
+used_text None = []
+used_text (Some seen) = table_line (record { name = record { upto = seen.upto }; keys = seen.keys; next = seen.next })
 
--- The disk tells directories that recover with gaps, and counts no fault.
-pub record IsToShowSegments (tells : Bool) (disk : Change DiskView) : Type 0 where
-  pub told : IsTrue tells
-  pub batches : List Batch
-  pub recovers : RecoversLenient (directories disk.before) batches
-  pub calm : IsCalmDisk disk
+-- The used table and the segments above it were shown, and what their batches are merged to.
+pub record ShowsSegments (tells : Bool) (disk : Change DiskView) (text : List ℕ) : Type 0 where
+  pub read : ReadsStore Lenient tells disk
+  pub reports : List SegReport
+  pub reports_are : IsTrue tells → AreReports (from_wal (wal_after read.seen) (directories disk.before)) reports
+  pub text_is : text ≡ used_text read.seen ++ segments_text reports ++ recovered_end (length read.batches) (next_of read)
+  pub same : SameDisk disk.before disk.after
 
 -- ---- what it says, when that has to come, and what it leaves
 
@@ -49,7 +45,7 @@ abbrev pub SaysDump : Bool → Change DiskView → Status → List ℕ → Type 
 SaysDump tells disk status text = SaysShown Lenient tells disk (ShowsSegments tells disk text) status text
 
 abbrev pub DumpIsDue : Bool → Change DiskView → Status → Type 0
-DumpIsDue tells disk status = ShownIsDue Lenient tells disk (IsToShowSegments tells disk) status
+DumpIsDue tells disk status = ShownIsDue Lenient tells disk status
 
 pub record LeavesDump (tells : Bool) (disk : Change DiskView) : Type 0 where
   pub polls : PollsNeverRise disk.before disk.after

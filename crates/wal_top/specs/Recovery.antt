@@ -1,7 +1,9 @@
 -- What is said where the directories do not recover, and what recovery leaves (docs/formats/program.md, "Statuses" and "Refused directories").
-use Rattle.std.specs.Prelude.{◌≡◌, ℕ, Bool, IsTrue, List, []}
+use Rattle.std.specs.Prelude.{◌≡◌, ℕ, Bool, IsTrue, List, [], Option}
 use Rattle.std.specs.Prelude.{codes}
 use Rattle.wal_base.specs.Faults.{Rose}
+use Rattle.batch_repr.specs.declared.batch.Batch.{Batch}
+use Rattle.batch_repr.specs.Batches.{end_after}
 use Rattle.disk_face.specs.declared.Side.{Side}
 use Rattle.disk_face.specs.declared.Side.TheVariants.{Primary, Secondary}
 use Rattle.disk_face.specs.View.{DiskView, files, NothingInFlight, AtEachMoment}
@@ -13,7 +15,9 @@ use Rattle.wal_recovery.specs.declared.fault.RecoverFault.{RecoverFault}
 use Rattle.wal_recovery.specs.declared.fault.RecoverFault.TheVariants as faults
 use Rattle.wal_recovery.specs.Listing.{name_in}
 use Rattle.wal_recovery.specs.Resting.{OnlySynced, AddsNoImage}
-use Rattle.wal_recovery.specs.Answers.{IsRefusedBy, IsRefusal}
+use Rattle.wal_recovery.specs.Answers.{IsRefusal}
+use Rattle.flush_table.specs.declared.reports.TableSeen.{TableSeen}
+use Rattle.flush_table.specs.Stores.{Used, StoreOf, IsStoreRefused, TellsUsed, number_after}
 use Rattle.wal_top.specs.declared.status.Status.{Status}
 use Rattle.wal_top.specs.declared.status.Status.TheVariants.{Done, Disk, Refused}
 use Rattle.wal_top.specs.Call.{Change, IsCalmDisk}
@@ -45,7 +49,7 @@ pub record FailsRecovery (tells : Bool) (disk : Change DiskView) (text : List �
 pub record RefusesDirectories (mode : Mode) (tells : Bool) (disk : Change DiskView) (text : List ℕ) : Type 0 where
   pub fault : RecoverFault
   pub real : IsRefusal fault
-  pub refused : IsTrue tells → IsRefusedBy mode (directories disk.before) fault
+  pub refused : IsTrue tells → IsStoreRefused mode (directories disk.before) fault
   pub text_is : text ≡ refusal_text fault
   pub same : SameDisk disk.before disk.after
 
@@ -59,7 +63,29 @@ SaysUnrecovered mode tells disk status text = ⊥
 pub record IsToRefuse (mode : Mode) (tells : Bool) (disk : Change DiskView) : Type 0 where
   pub told : IsTrue tells
   pub fault : RecoverFault
-  pub refused : IsRefusedBy mode (directories disk.before) fault
+  pub refused : IsStoreRefused mode (directories disk.before) fault
+  pub calm : IsCalmDisk disk
+
+-- ---- the store
+
+-- The directories were read as a store: its batches, the table that it begins with, and what was seen of that.
+pub record ReadsStore (mode : Mode) (tells : Bool) (disk : Change DiskView) : Type 0 where
+  pub batches : List Batch
+  pub used : Option Used
+  pub seen : Option TableSeen
+  pub store : IsTrue tells → StoreOf mode (directories disk.before) used batches
+  pub tells_used : IsTrue tells → TellsUsed used seen
+
+-- the number that comes next in it
+abbrev pub next_of : {mode : Mode} → {tells : Bool} → {disk : Change DiskView} → ReadsStore mode tells disk → ℕ
+next_of read = end_after (number_after read.seen) read.batches
+
+-- The disk tells directories that have a store, and counts no fault: so it has to be shown.
+pub record HasStoreToShow (mode : Mode) (tells : Bool) (disk : Change DiskView) : Type 0 where
+  pub told : IsTrue tells
+  pub used : Option Used
+  pub batches : List Batch
+  pub store : StoreOf mode (directories disk.before) used batches
   pub calm : IsCalmDisk disk
 
 -- ---- of a command that shows what the directories recover to
@@ -69,10 +95,10 @@ abbrev pub SaysShown : Mode → Bool → Change DiskView → Type 0 → Status �
 SaysShown mode tells disk Shows Done text = Shows
 SaysShown mode tells disk Shows status text = SaysUnrecovered mode tells disk status text
 
-abbrev pub ShownIsDue : Mode → Bool → Change DiskView → Type 0 → Status → Type 0
-ShownIsDue mode tells disk IsToShow Done = IsToShow
-ShownIsDue mode tells disk IsToShow Refused = IsToRefuse mode tells disk
-ShownIsDue mode tells disk IsToShow status = ⊥
+abbrev pub ShownIsDue : Mode → Bool → Change DiskView → Status → Type 0
+ShownIsDue mode tells disk Done = HasStoreToShow mode tells disk
+ShownIsDue mode tells disk Refused = IsToRefuse mode tells disk
+ShownIsDue mode tells disk status = ⊥
 
 -- Without a journal nothing happens to a file but a sync, a crash at any moment leaves what one before the run might have left, and
 -- nothing is left in flight.

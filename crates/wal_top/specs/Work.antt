@@ -1,19 +1,22 @@
--- What work says that writes a journal, over what the directories recover to (docs/formats/program.md, "Statuses").
-use Rattle.std.specs.Prelude.{◌≡◌, ◌⊎◌, ℕ, ◌+◌, ◌<◌, ◌≤◌, Bool, true, false, IsTrue, List, length}
+-- What work says that writes a journal, over the store of the directories (docs/formats/program.md, "Statuses").
+use Rattle.std.specs.Prelude.{◌≡◌, ◌⊎◌, ℕ, ◌+◌, ◌<◌, ◌≤◌, Bool, true, false, IsTrue, List, [], length, Option}
 use Rattle.std.specs.Prelude.{codes}
 use Rattle.batch_repr.specs.declared.batch.Batch.{Batch}
-use Rattle.batch_repr.specs.declared.limits.TheConstants.{NUMBER_FIRST, NUMBER_MAX, BATCHES_MAX}
+use Rattle.batch_repr.specs.declared.limits.TheConstants.{NUMBER_MAX, BATCHES_MAX}
 use Rattle.batch_repr.specs.Batches.{end_after}
 use Rattle.disk_face.specs.declared.names.TheConstants.{WAL_MAX}
 use Rattle.disk_face.specs.View.{DiskView, files, NothingInFlight}
-use Rattle.disk_face.specs.Image.{directories}
+use Rattle.disk_face.specs.Image.{IsRested, directories}
 use Rattle.wal_recovery.specs.declared.reports.Mode.TheVariants.{Strict}
-use Rattle.wal_recovery.specs.Listing.{IsNextWal}
-use Rattle.wal_recovery.specs.Recovering.{Recovers}
+use Rattle.wal_recovery.specs.Rows.{files_from}
 use Rattle.wal_recovery.specs.Resting.{OnlySynced}
+use Rattle.flush_table.specs.Stores.{Used, StoreOf, IsNextWalOfStore, wal_after, next_in}
+use Rattle.flush_table.specs.Kept.{HasStoreWith, KeepsStore}
 use Rattle.session_replies.specs.Rounds.{rounds_numbers, rounds_commits}
 use Rattle.session_replies.specs.Theorems.{AsksTooMuch}
-use Rattle.failover_writer.specs.Running.{LogsBatches, OthersOnlySynced}
+use Rattle.failover_writer.specs.Answered.{FaultsRose}
+use Rattle.failover_writer.specs.Running.{OthersOnlySynced, AreOthersStable}
+use Rattle.commit_pipeline.specs.Openings.{first_number, EndsBefore}
 use Rattle.script_runner.specs.declared.run.Outcome.{Outcome}
 use Rattle.script_runner.specs.declared.work.Work.{Work}
 use Rattle.script_runner.specs.Works.{work_rounds}
@@ -21,7 +24,7 @@ use Rattle.script_runner.specs.Runs.{EndsRunAs, SaysRun}
 use Rattle.wal_top.specs.declared.status.Status.{Status}
 use Rattle.wal_top.specs.declared.status.Status.TheVariants.{Done, Disk, Refused, Limit}
 use Rattle.wal_top.specs.Call.{Change, IsCalmDisk}
-use Rattle.wal_top.specs.Recovery.{FailsRecovery, SaysUnrecovered, IsToRefuse}
+use Rattle.wal_top.specs.Recovery.{FailsRecovery, SaysUnrecovered, IsToRefuse, ReadsStore, next_of}
 
 -- ---- what is said
 
@@ -29,15 +32,34 @@ use Rattle.wal_top.specs.Recovery.{FailsRecovery, SaysUnrecovered, IsToRefuse}
 abbrev pub limit_wal_text : List ℕ
 limit_wal_text = codes "limit wal\n"
 
--- The work was done over what the directories recover to: these are its batches, this is what is said of it, and this is what its
--- journal left.
+-- The journal of the batches stands in the next WAL of the directories, where the disk tells its files. No other file changed but
+-- by a sync, and no file at all where there is no batch. Where the files were at rest, the store of whatever a crash leaves is the
+-- one that was read, followed by a prefix of the batches, with all that are acked; and so is that of the directories as they read,
+-- where no fault rose.
+pub record LogsBatches (tells : Bool) (disk : Change DiskView) (read : ReadsStore Strict tells disk) (batches : List Batch) (acked : ℕ) : Type 0 where
+  pub wal : ℕ
+  pub within : wal ≤ WAL_MAX
+  pub next : IsTrue tells → IsNextWalOfStore (directories disk.before) wal
+  pub others : IsTrue tells → OthersOnlySynced wal (files disk.before) (files disk.after)
+  pub nothing : IsTrue tells → batches ≡ [] → OnlySynced (files disk.before) (files disk.after)
+  pub keeps : IsTrue tells → IsRested (files disk.before) → KeepsStore read.used read.batches batches acked (files disk.after)
+  pub reads : IsTrue tells → IsRested (files disk.before) → (FaultsRose disk.before disk.after → ⊥)
+      → HasStoreWith read.used read.batches batches acked (directories disk.after)
+  pub stable : IsTrue tells → IsRested (files disk.before) → AreOthersStable wal (files_from (wal_after read.seen) (files disk.after))
+
+-- the number of the first batch that was read, or the one that comes next where there is none
+abbrev pub first_in : {tells : Bool} → {disk : Change DiskView} → ReadsStore Strict tells disk → ℕ
+first_in read = first_number (next_of read) read.batches
+
+-- The work was done over the store of the directories, whose batches are numbered one after another: this is what is said of it, and
+-- this is what its journal left.
 pub record RunsOverDisk (work : Work) (threshold : ℕ) (tells : Bool) (disk : Change DiskView) (outcome : Outcome) : Type 0 where
-  pub base : List Batch
-  pub recovers : IsTrue tells → Recovers (directories disk.before) base
+  pub read : ReadsStore Strict tells disk
+  pub numbered : EndsBefore read.batches (next_of read)
   pub batches : List Batch
-  pub says : SaysRun NUMBER_FIRST base work batches outcome
+  pub says : SaysRun (first_in read) read.batches work batches outcome
   pub ends : EndsRunAs threshold (work_rounds work) (length batches) outcome.end disk.before disk.after
-  pub logs : LogsBatches tells base batches outcome.end.acked disk.before disk.after
+  pub logs : LogsBatches tells disk read batches outcome.end.acked
 
 -- by a journal that died, by a limit that a commit met, or by neither
 abbrev pub status_by : Bool → Bool → Status
@@ -56,12 +78,11 @@ pub record DoesWork (work : Work) (threshold : ℕ) (print : Outcome → List �
   pub status_is : status ≡ status_after outcome
   pub text_is : text ≡ print outcome
 
--- The last WAL is taken: the directories recover, but no WAL is next. No file was begun.
+-- The last WAL is taken, by a segment or a table: the directories have a store, but no WAL is next. No file was begun.
 pub record LacksWal (tells : Bool) (disk : Change DiskView) (text : List ℕ) : Type 0 where
-  pub base : List Batch
-  pub recovers : IsTrue tells → Recovers (directories disk.before) base
+  pub read : ReadsStore Strict tells disk
   pub next : ℕ
-  pub next_is : IsTrue tells → IsNextWal (directories disk.before) next
+  pub next_is : IsTrue tells → IsNextWalOfStore (directories disk.before) next
   pub past : WAL_MAX < next
   pub only_synced : IsTrue tells → OnlySynced (files disk.before) (files disk.after)
   pub idle : NothingInFlight disk.after
@@ -77,25 +98,31 @@ SaysWork work threshold print tells disk status text = SaysUnrecovered Strict te
 
 -- ---- when it has to be said
 
--- Work may begin: the disk tells files that recover to this base, with this WAL next, and counts no fault.
+-- Work may begin: the disk tells files that have this store, with this WAL next, and counts no fault.
 pub record MayBegin (tells : Bool) (disk : Change DiskView) : Type 0 where
   pub told : IsTrue tells
+  pub used : Option Used
   pub base : List Batch
-  pub recovers : Recovers (directories disk.before) base
+  pub store : StoreOf Strict (directories disk.before) used base
   pub next : ℕ
-  pub next_is : IsNextWal (directories disk.before) next
+  pub next_is : IsNextWalOfStore (directories disk.before) next
   pub calm : IsCalmDisk disk
 
+-- the first number of what it begins with
+abbrev pub begins_at : {tells : Bool} → {disk : Change DiskView} → MayBegin tells disk → ℕ
+begins_at begin = first_number (next_in begin.used begin.base) begin.base
+
 -- It asks for no more numbers than are left after the base, and for no more batches than a run may commit.
-pub record AsksEnough (work : Work) (base : List Batch) : Type 0 where
-  pub numbers : end_after NUMBER_FIRST base + rounds_numbers (work_rounds work) ≤ NUMBER_MAX
+pub record AsksEnough (work : Work) (from : ℕ) (base : List Batch) : Type 0 where
+  pub numbers : end_after from base + rounds_numbers (work_rounds work) ≤ NUMBER_MAX
   pub batches : rounds_commits (work_rounds work) ≤ BATCHES_MAX
 
 -- When a status has to come of work.
 abbrev pub WorkIsDue : Work → Bool → Change DiskView → Status → Type 0
-WorkIsDue work tells disk Done = (begin : MayBegin tells disk) × (begin.next ≤ WAL_MAX) × AsksEnough work begin.base
+WorkIsDue work tells disk Done = (begin : MayBegin tells disk) × (begin.next ≤ WAL_MAX)
+    × AsksEnough work (begins_at begin) begin.base
 WorkIsDue work tells disk Limit = (begin : MayBegin tells disk)
-    × ((WAL_MAX < begin.next) ⊎ AsksTooMuch NUMBER_FIRST begin.base (work_rounds work))
+    × ((WAL_MAX < begin.next) ⊎ AsksTooMuch (begins_at begin) begin.base (work_rounds work))
 WorkIsDue work tells disk Refused = IsToRefuse Strict tells disk
 WorkIsDue work tells disk status = ⊥
 
@@ -103,5 +130,5 @@ WorkIsDue work tells disk status = ⊥
 
 -- Whatever the status, no file but segments of the next WAL changes unless by a sync.
 abbrev pub ChangesNextWal : Bool → Change DiskView → Type 0
-ChangesNextWal tells disk = IsTrue tells → (wal : ℕ) → IsNextWal (directories disk.before) wal
+ChangesNextWal tells disk = IsTrue tells → (wal : ℕ) → IsNextWalOfStore (directories disk.before) wal
     → OthersOnlySynced wal (files disk.before) (files disk.after)

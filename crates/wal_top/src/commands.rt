@@ -21,7 +21,7 @@ use crate::said::{Answered, saying};
 use crate::status::Status;
 use command_line::{Command, WordsFault, read_command};
 use commit_pipeline::Gate;
-use disk_face::Disk;
+use disk_face::TableDisk;
 use std::alloc::Global;
 use std::sync::Wait;
 use std::thread::Threads;
@@ -31,7 +31,7 @@ const USAGE: &str = "usage: replay [--threshold N] | recover | dump | load SEED 
 
 /// Everything of a run before its first byte is written. The sessions of a round run beside one another, and have met
 /// before it answers.
-pub(crate) fn answered<S: Source, D: Disk + Send, G: Gate + Sync, R: Threads + Wait + Sync>(
+pub(crate) fn answered<S: Source, D: TableDisk + Send, G: Gate + Sync, R: Threads + Wait + Sync>(
     rt: &R,
     alloc: Global,
     words: &[String],

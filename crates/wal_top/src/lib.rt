@@ -1,6 +1,7 @@
 //! The top call: `run` does all that the program does, over streams, a disk and a gate that are handed in.
 //!
-//! Stands on `command_line` for what the words ask for, on `wal_recovery` for what the directories hold, on
+//! Stands on `command_line` for what the words ask for, on `flush_table` for the store of the
+//! directories, on `wal_recovery` for how they are refused, on
 //! `session_script` for what a script says, on `made_load` for what a load is, on `script_runner` for their run over a
 //! journal, on `session_replies` for the last line of a replay, on `text_lines` for how a store and segments are printed, on
 //! `disk_face` for what a disk is, and on `wal_base` for bytes and streams. The program above uses one contract, that of `run`: which text is written, with

@@ -1,4 +1,5 @@
 ghost use Rattle.std.specs.Prelude.{◌≤◌, length};
+ghost use Rattle.disk_face.specs.declared.names.TheConstants.{WAL_MAX};
 
 mod commands;
 mod deaths;
@@ -12,6 +13,7 @@ mod scripts;
 mod shortages;
 mod stalls;
 mod statuses;
+mod tables;
 
 use crate::{NoGate, Ran, Status, run};
 use crc_chunk::{ChunkKind, put_chunk, put_sync_chunk};
@@ -60,6 +62,17 @@ impl Rig {
     fn put(&mut self, rt: &impl Abort, side: Side, name: SegName, bytes: &[u8]) {
         assert!(rt; self.disk.sent(side, name).is_none());
         self.disk.put_file(side, name, bytes).expect(rt, "memory");
+    }
+
+    /// Puts a table.
+    fn put_table(&mut self, rt: &impl Abort, upto: u64, bytes: &[u8])
+        requires { upto ≤ WAL_MAX }
+    {
+        self.disk.place_table(upto, bytes).expect(rt, "memory");
+    }
+
+    fn fail_table_call(&mut self, rt: &impl Abort, number: u64) {
+        self.disk.fail_table_call(number).expect(rt, "memory");
     }
 
     fn fail_call(&mut self, rt: &impl Abort, number: u64) {

@@ -13,7 +13,7 @@ use crate::said::{Answered, Said};
 use crate::status::{Ran, Status};
 use crate::writing::write_all;
 use commit_pipeline::Gate;
-use disk_face::Disk;
+use disk_face::TableDisk;
 use std::alloc::Global;
 use std::sync::Wait;
 use std::thread::Threads;
@@ -35,7 +35,7 @@ fn ended<K: Sink>(out: &mut K, said: &Said) -> Status
 
 /// Does all that the program does. `words` are those after the program's name. Nothing is in flight on the
 /// disk, which is handed back as it stands at the end.
-pub fn run<S: Source, K: Sink, D: Disk + Send, G: Gate + Sync, R: Threads + Wait + Sync>(
+pub fn run<S: Source, K: Sink, D: TableDisk + Send, G: Gate + Sync, R: Threads + Wait + Sync>(
     rt: &R,
     alloc: Global,
     words: &[String],

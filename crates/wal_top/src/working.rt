@@ -1,4 +1,4 @@
-//! The work of a command that writes a journal, done over what the directories recover to.
+//! The work of a command that writes a journal, done over the store of the directories.
 
 ghost use Rattle.std.specs.Prelude.{◌≡◌, ◌≤◌, IfOk, IsOkAnd};
 ghost use Rattle.disk_face.specs.View.{NothingInFlight};
@@ -14,13 +14,14 @@ ghost use Rattle.wal_top.specs.Worked.{WorkComesTo};
 use crate::said::{Said, saying, unrecovered};
 use crate::status::Status;
 use commit_pipeline::Gate;
-use disk_face::{Disk, WAL_MAX};
+use disk_face::{TableDisk, WAL_MAX};
+use flush_table::recover_store;
 use script_runner::{Outcome, Run, Work, run_work};
 use std::alloc::Global;
 use std::sync::Wait;
 use std::thread::Threads;
 use wal_base::NoMemory;
-use wal_recovery::{Mode, recover};
+use wal_recovery::Mode;
 
 /// The status of a run whose work was done.
 pub(crate) fn status_of(outcome: &Outcome) -> Status
@@ -63,8 +64,8 @@ fn unbegun(said: Result<Said, NoMemory>) -> Result<Worked, NoMemory>
     Ok(Worked::Unbegun(said?))
 }
 
-/// The work that is done over what the directories recover to. A segment hangs from `threshold` pending polls on.
-pub(crate) fn work_over<D: Disk + Send, G: Gate + Sync, R: Threads + Wait + Sync>(
+/// The work that is done over the store of the directories. A segment hangs from `threshold` pending polls on.
+pub(crate) fn work_over<D: TableDisk + Send, G: Gate + Sync, R: Threads + Wait + Sync>(
     rt: &R,
     alloc: Global,
     work: Work,
@@ -81,7 +82,7 @@ pub(crate) fn work_over<D: Disk + Send, G: Gate + Sync, R: Threads + Wait + Sync
     ensures comes_to { let over = change_in D.view disk result.disk in
         IfOk result.worked (WorkComesTo work threshold D.tells over) }
 {
-    match recover(alloc, &mut disk, Mode::Strict) {
+    match recover_store(alloc, &mut disk, Mode::Strict) {
         Ok(found) => {
             if found.next_wal > WAL_MAX {
                 return WorkedOver {

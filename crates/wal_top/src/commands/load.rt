@@ -1,4 +1,4 @@
-//! `load`: the generated load is run over what the directories recover to.
+//! `load`: the generated load is run over the store of the directories.
 
 ghost use Rattle.std.specs.Prelude.{◌≡◌, IfOk, IsOkAnd};
 ghost use Rattle.disk_face.specs.View.{NothingInFlight};
@@ -11,7 +11,7 @@ use crate::said::{Answered, Said};
 use crate::working::{Worked, WorkedOver, status_of, work_over};
 use command_line::THRESHOLD_DEFAULT;
 use commit_pipeline::Gate;
-use disk_face::Disk;
+use disk_face::TableDisk;
 use made_load::{Load, LoadEnd, load_number, put_load_end};
 use script_runner::{Outcome, Work};
 use std::alloc::Global;
@@ -70,7 +70,7 @@ fn work_said(
 }
 
 /// What a load of this seed and so many batches has to say.
-pub(crate) fn loaded<D: Disk + Send, G: Gate + Sync, R: Threads + Wait + Sync>(
+pub(crate) fn loaded<D: TableDisk + Send, G: Gate + Sync, R: Threads + Wait + Sync>(
     rt: &R,
     alloc: Global,
     seed: u64,

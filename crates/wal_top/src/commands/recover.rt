@@ -1,4 +1,4 @@
-//! `recover`: the store that the directories recover to is shown.
+//! `recover`: the store of the directories is shown.
 
 ghost use Rattle.std.specs.Prelude.{◌≡◌, ◌++◌, length, IfOk};
 ghost use Rattle.disk_face.specs.View.{NothingInFlight};
@@ -11,11 +11,12 @@ ghost use Rattle.wal_top.specs.Recover.{SaysRecover, LeavesRecover};
 use crate::said::{Said, unrecovered};
 use crate::status::Status;
 use batch_repr::Batch;
-use disk_face::Disk;
+use disk_face::TableDisk;
+use flush_table::{StoreRead, recover_store};
 use std::alloc::Global;
 use text_lines::{put_recovered_end, put_store};
 use wal_base::{Buf, NoMemory};
-use wal_recovery::{Mode, Recovered, recover};
+use wal_recovery::Mode;
 
 /// The text of a store.
 fn store_text(alloc: Global, batches: &[Batch], next: u64) -> Result<Buf, NoMemory>
@@ -29,16 +30,16 @@ fn store_text(alloc: Global, batches: &[Batch], next: u64) -> Result<Buf, NoMemo
 }
 
 /// Recovers with no gap, and says which keys have a value.
-pub(crate) fn store_said<D: Disk>(alloc: Global, disk: &mut D) -> Result<Said, NoMemory>
+pub(crate) fn store_said<D: TableDisk>(alloc: Global, disk: &mut D) -> Result<Said, NoMemory>
     requires { NothingInFlight (D.view disk.old) }
     ensures went_on { WentOn (D.view disk.old) (D.view disk.new) }
     ensures says { let over = change_in D.view disk.old disk.new in
         IfOk result (λ said. SaysRecover D.tells over said.status said.text) }
     ensures leaves { LeavesRecover D.tells (change_in D.view disk.old disk.new) }
 {
-    match recover(alloc, disk, Mode::Strict) {
+    match recover_store(alloc, disk, Mode::Strict) {
         Ok(found) => {
-            let Recovered {
+            let StoreRead {
                 batches,
                 next,
                 segments,

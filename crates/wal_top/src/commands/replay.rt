@@ -1,4 +1,4 @@
-//! `replay`: the script of the source is run over what the directories recover to.
+//! `replay`: the script of the source is run over the store of the directories.
 
 ghost use Rattle.std.specs.Prelude.{◌≡◌, ◌+◌, ◌≤◌, ℕ, Err, IfOk, IsOkAnd};
 ghost use Rattle.disk_face.specs.View.{NothingInFlight};
@@ -20,7 +20,7 @@ use crate::said::{Answered, Said, saying};
 use crate::status::Status;
 use crate::working::{Worked, WorkedOver, status_of, work_over};
 use commit_pipeline::Gate;
-use disk_face::Disk;
+use disk_face::TableDisk;
 use script_runner::Work;
 use session_replies::{Script, put_run_end};
 use session_script::{ScriptFault, read_script};
@@ -94,7 +94,7 @@ fn work_said(worked: Result<Worked, NoMemory>) -> Result<Said, NoMemory>
 }
 
 /// What a replay has to say. A segment hangs from `threshold` pending polls on.
-pub(crate) fn replayed<S: Source, D: Disk + Send, G: Gate + Sync, R: Threads + Wait + Sync>(
+pub(crate) fn replayed<S: Source, D: TableDisk + Send, G: Gate + Sync, R: Threads + Wait + Sync>(
     rt: &R,
     alloc: Global,
     threshold: u32,

@@ -6,8 +6,8 @@ use Rattle.disk_face.specs.Image.{dirs_as_read}
 use Rattle.disk_face.specs.Listing.{IsTableListing}
 use Rattle.disk_face.proofs.Laws.{same_files}
 use Rattle.wal_recovery.specs.Sides.{AreListings}
-use Rattle.flush_table.specs.Asked.{AsksOfStore, ReadsTables}
-use Rattle.flush_table.specs.Reading.{tables_given, FindsUsed}
+use Rattle.flush_table.specs.Asked.{AsksOfStore, ReadsTablesFrom}
+use Rattle.flush_table.specs.Reading.{tables_given, FindsUsed, least_read}
 use Rattle.flush_table.proofs.Tools.{always_err}
 use Rattle.flush_table.proofs.Asks.{lists_tables, lists_then, begins_by, begins_only}
 use Rattle.flush_table.proofs.beginning.begin.Goals as goal
@@ -32,18 +32,18 @@ returns-in_err-used-clause-asks g c =
     let two = g.D.Disk.view c.list_sides.new.disk in
     let new = g.D.Disk.view c.used_table.new.disk in
     always_err (AsksOfStore old new) c.from_residual-in_err-used.result
-    (begins_only c.in_ok-tables.tables c.in_ok-sides.sides old new
-    (begins_by c.in_ok-tables.tables c.in_ok-sides.sides old (g.D.Disk.view c.list_tables.new.disk) two new
+    (begins_only 0 c.in_ok-tables.tables c.in_ok-sides.sides old new
+    (begins_by 0 c.in_ok-tables.tables c.in_ok-sides.sides old (g.D.Disk.view c.list_tables.new.disk) two new
     c.in_ok-tables.ensures.asks c.in_ok-sides.ensures.lists
-    (subst (λ (l : List TableListed). ReadsTables l two new) c.as_slice.ensures c.in_err-used.ensures.asks)))
+    (subst (λ (l : List TableListed). ReadsTablesFrom 0 l two new) c.as_slice.ensures c.in_err-used.ensures.asks)))
 
 pub returns-clause-begun : goal.returns-clause-begun
 returns-clause-begun g c =
     let two = g.D.Disk.view c.list_sides.new.disk in
     let new = g.D.Disk.view c.used_table.new.disk in
-    begins_by c.in_ok-tables.tables c.in_ok-sides.sides (g.D.Disk.view c.args.disk.now) (g.D.Disk.view c.list_tables.new.disk) two new
+    begins_by (least_read c.in_ok-used.used) c.in_ok-tables.tables c.in_ok-sides.sides (g.D.Disk.view c.args.disk.now) (g.D.Disk.view c.list_tables.new.disk) two new
     c.in_ok-tables.ensures.asks c.in_ok-sides.ensures.lists
-    (subst (λ (l : List TableListed). ReadsTables l two new) c.as_slice.ensures c.in_ok-used.ensures.asks)
+    (subst (λ (l : List TableListed). ReadsTablesFrom (least_read c.in_ok-used.used) l two new) c.as_slice.ensures c.in_ok-used.ensures.asks)
 
 pub returns-clause-sides : goal.returns-clause-sides
 returns-clause-sides g c = λ told.

@@ -18,12 +18,12 @@ use Rattle.wal_recovery.specs.Sides.{AreListings}
 use Rattle.wal_recovery.proofs.Laws.{same_then}
 use Rattle.flush_table.specs.declared.reports.StoreRead.{StoreRead}
 use Rattle.flush_table.specs.Stores.{IsStoreRefused}
-use Rattle.flush_table.specs.Reading.{IsAfterTables}
+use Rattle.flush_table.specs.Reading.{IsAfterTables, least_read}
 use Rattle.flush_table.specs.Promises.{FoundOrFailed, RefusedOrFailed}
-use Rattle.flush_table.proofs.Asks.{begins_then, lists_in_turn}
+use Rattle.flush_table.proofs.Asks.{begins_then, lists_in_turn, reads_none_below}
 use Rattle.flush_table.proofs.NextWal.{next_is}
-use Rattle.flush_table.proofs.Starting.{is_base, number_within}
-use Rattle.flush_table.proofs.Answering.{IsRefusedAt, reports_from, next_from, stable_from, begins_seen, no_gap_seen}
+use Rattle.flush_table.proofs.Starting.{is_base, number_within, spares_seen}
+use Rattle.flush_table.proofs.Answering.{IsRefusedAt, reports_from, next_from, stable_from, begins_seen, ends_seen, no_gap_seen}
 use Rattle.flush_table.proofs.Answering.{recovered_store, store_recovered, refused_store, store_refused}
 use Rattle.flush_table.proofs.Answering.{failed_or, failed_found, failed_refused, or_for, fault_found, fault_refused, rose_since}
 use Rattle.flush_table.proofs.recovering.recover_store.Goals as goal
@@ -114,7 +114,7 @@ returns-in_err-found-clause-refusal g c = λ told refusal refused.
 
 pub returns-in_err-found-clause-asks : goal.returns-in_err-found-clause-asks
 returns-in_err-found-clause-asks g c =
-    begins_then c.in_ok-begun.begun.tables c.in_ok-begun.begun.sides (g.D.Disk.view c.args.disk.now) (g.D.Disk.view c.begin.new.disk)
+    begins_then (least_read c.in_ok-begun.begun.used) c.start_of-start.result.wal c.in_ok-begun.begun.tables c.in_ok-begun.begun.sides (g.D.Disk.view c.args.disk.now) (g.D.Disk.view c.begin.new.disk)
     (g.D.Disk.view c.recover_listed.new.disk) c.in_ok-begun.ensures.begun c.recover_listed.ensures.asks
 
 pub returns-in_err-found-clause-each_moment : goal.returns-in_err-found-clause-each_moment
@@ -225,6 +225,14 @@ returns-clause-contiguous g c = λ strict.
     c.start_of-start.result c.start_of-start.ensures c.seen_of-seen.result c.seen_of-seen.ensures c.in_ok-begun.ensures.some
     c.in_ok-found.found.batches (c.in_ok-found.ensures.contiguous strict)
 
+pub returns-clause-numbered : goal.returns-clause-numbered
+returns-clause-numbered g c = λ strict.
+    let old = g.D.Disk.view c.args.disk.now in
+    let mid = g.D.Disk.view c.begin.new.disk in
+    ends_seen c.args.mode (files old) (files mid) (same_files old mid c.in_ok-begun.ensures.same) c.in_ok-begun.begun.used
+    c.start_of-start.result c.start_of-start.ensures c.seen_of-seen.result c.seen_of-seen.ensures c.in_ok-begun.ensures.some
+    c.in_ok-found.found.batches (c.in_ok-found.ensures.contiguous strict) c.in_ok-found.found.next c.in_ok-found.ensures.next
+
 pub returns-clause-within : goal.returns-clause-within
 returns-clause-within g c = c.in_ok-found.ensures.within
 
@@ -237,13 +245,21 @@ returns-clause-names g c = record {
 
 pub returns-clause-asks : goal.returns-clause-asks
 returns-clause-asks g c =
-    begins_then c.in_ok-begun.begun.tables c.in_ok-begun.begun.sides (g.D.Disk.view c.args.disk.now) (g.D.Disk.view c.begin.new.disk)
+    begins_then (least_read c.in_ok-begun.begun.used) c.start_of-start.result.wal c.in_ok-begun.begun.tables c.in_ok-begun.begun.sides (g.D.Disk.view c.args.disk.now) (g.D.Disk.view c.begin.new.disk)
     (g.D.Disk.view c.recover_listed.new.disk) c.in_ok-begun.ensures.begun c.recover_listed.ensures.asks
 
 pub returns-clause-lists : goal.returns-clause-lists
 returns-clause-lists g c =
-    lists_in_turn c.in_ok-begun.begun.tables c.in_ok-begun.begun.sides (g.D.Disk.view c.args.disk.now) (g.D.Disk.view c.begin.new.disk)
+    lists_in_turn (least_read c.in_ok-begun.begun.used) c.start_of-start.result.wal c.in_ok-begun.begun.tables c.in_ok-begun.begun.sides (g.D.Disk.view c.args.disk.now) (g.D.Disk.view c.begin.new.disk)
     (g.D.Disk.view c.recover_listed.new.disk) c.in_ok-begun.ensures.begun c.recover_listed.ensures.asks
+
+pub returns-clause-spares : goal.returns-clause-spares
+returns-clause-spares g c =
+    let old = g.D.Disk.view c.args.disk.now in
+    let new = g.D.Disk.view c.recover_listed.new.disk in
+    spares_seen c.in_ok-begun.begun.used c.start_of-start.result c.start_of-start.ensures c.seen_of-seen.result c.seen_of-seen.ensures old new
+    (reads_none_below (least_read c.in_ok-begun.begun.used) c.start_of-start.result.wal c.in_ok-begun.begun.tables c.in_ok-begun.begun.sides old
+    (g.D.Disk.view c.begin.new.disk) new c.in_ok-begun.ensures.begun c.recover_listed.ensures.asks)
 
 pub returns-clause-each_moment : goal.returns-clause-each_moment
 returns-clause-each_moment g c = λ told.

@@ -1,12 +1,11 @@
 -- What the journal tells of the disk that the script stalls is told of the disk within.
-use Rattle.std.proofs.Common.{◌≡◌, sym, ap, ◌∙◌, subst}
+use Rattle.std.proofs.Common.{◌≡◌, sym, ap, subst}
 use Rattle.std.proofs.lemmas.Result.{IfOk-weaker}
-use Rattle.batch_repr.specs.declared.limits.TheConstants.{NUMBER_FIRST}
 use Rattle.disk_face.specs.View.{DiskView}
 use Rattle.disk_face.specs.Script.{ScriptedDisk, TellsOf, BeginsOver}
 use Rattle.disk_face.specs.Seen.{outer}
 use Rattle.failover_writer.specs.State.{JournalView}
-use Rattle.commit_pipeline.proofs.Laws.{ends_before}
+use Rattle.commit_pipeline.specs.Openings.{EndsBefore}
 use Rattle.script_runner.specs.Works.{work_rounds}
 use Rattle.script_runner.specs.Runs.{RunsWork, run_start, RunsOver}
 use Rattle.script_runner.proofs.HandsOnOver.{polls_over, others_over}
@@ -17,8 +16,7 @@ use Rattle.script_runner.proofs.run.run_work.Goals as goal
 
 pub run_over-outcome-requires-clause-base : goal.run_over-outcome-requires-clause-base
 run_over-outcome-requires-clause-base g c κs within =
-    ends_before NUMBER_FIRST c.in-Ok.journal.state.next c.args.base c.requires.numbered
-    (ap (λ (j : JournalView _). j.state.next) c.in-Ok.ensures.made ∙ c.requires.next)
+    subst (EndsBefore c.args.base) (sym (ap (λ (j : JournalView _). j.state.next) c.in-Ok.ensures.made)) c.requires.base
 
 -- a disk that a script stalls, as it is seen
 abbrev seen : {D : Type 0} → (D → DiskView) → ScriptedDisk D → DiskView
@@ -40,7 +38,7 @@ started : (g : _) (c : goal.After-into_inner-2 g) → IsStarted c.args.threshold
 started g c =
     let made = c.in-Ok.ensures in
     is_started c.args.threshold g.D.Disk.tells (seen g.D.Disk.view) (work_rounds c.args.work) c.args.wal c.args.next c.new-stalled.result
-    c.in-Ok.journal made.made made.stands made.others made.keeps_base
+    c.in-Ok.journal made.made made.stands made.others
 
 pub returns-clause-polls : goal.returns-clause-polls
 returns-clause-polls g c none =
@@ -61,8 +59,7 @@ returns-clause-ran g c =
     let left = c.run_over-outcome.result.journal in
     IfOk-weaker c.run_over-outcome.result.outcome
     (RunsOver g.D.Disk.tells (seen g.D.Disk.view) c.args.base c.args.work c.in-Ok.journal left)
-    (RunsWork c.args.base c.args.work c.args.wal c.args.threshold g.D.Disk.tells (g.D.Disk.view c.args.disk) (g.D.Disk.view c.into_inner-2.result))
+    (RunsWork c.args.base c.args.next c.args.work c.args.wal c.args.threshold g.D.Disk.tells (g.D.Disk.view c.args.disk) (g.D.Disk.view c.into_inner-2.result))
     (λ outcome ran. runs_work c.args.threshold g.D.Disk.tells (seen g.D.Disk.view) c.args.wal c.args.next c.args.base c.args.work
-    c.in-Ok.journal left (g.D.Disk.view c.args.disk) (g.D.Disk.view c.into_inner-2.result) outcome c.requires.numbered c.requires.next
-    (next_is g c) (before g c) (after g c) (started g c) ran)
+    c.in-Ok.journal left (g.D.Disk.view c.args.disk) (g.D.Disk.view c.into_inner-2.result) outcome (next_is g c) (before g c) (after g c) (started g c) ran)
     c.run_over-outcome.ensures.ran

@@ -12,12 +12,12 @@ use Rattle.wal_recovery.specs.declared.listing.Found.{Found}
 use Rattle.wal_recovery.specs.Listing.{from_wal}
 use Rattle.wal_recovery.specs.Answers.{DiskMemoryOr}
 use Rattle.wal_recovery.specs.Rows.{Ascends, IsRowOf, Weaves, files_from, RefusesTwice, MeetsOrMemory}
-use Rattle.wal_recovery.specs.Sides.{AreListings, IsAsLongAsListed}
+use Rattle.wal_recovery.specs.Sides.{AreListings, IsAsLongAsListed, HasNoByteBelow}
 use Rattle.wal_recovery.proofs.Tools.{ok_map, err_map}
 use Rattle.wal_recovery.proofs.Weaves.{row_ascends}
 use Rattle.wal_recovery.proofs.IsListing.{both_listed, row_of, met_refused, row_named, AreListed}
 use Rattle.wal_recovery.proofs.From.{dirs_left, listing_left}
-use Rattle.wal_recovery.proofs.ReadsOnly.{as_long_as_listed}
+use Rattle.wal_recovery.proofs.ReadsOnly.{as_long_as_listed, none_below}
 use Rattle.wal_recovery.proofs.listing.row_from.Goals as goal
 use Rattle.wal_recovery.proofs.listing.row_from.Goals.{After-in_order}
 
@@ -53,6 +53,14 @@ returns-clause-lengths c =
     (λ row w. as_long_as_listed row c.args.sides.now ones others w
     (subst (λ (l : List Listed). (name : SegName) → length_among name ones ≤ length_among name l) c.as_slice.ensures c.names_from-primary.ensures.shorter)
     (subst (λ (l : List Listed). (name : SegName) → length_among name others ≤ length_among name l) c.as_slice-2.ensures c.names_from-secondary.ensures.shorter))
+    c.in_order.ensures.woven
+
+pub returns-clause-below : goal.returns-clause-below
+returns-clause-below c =
+    let ones = c.names_from-primary.result.now in
+    let others = c.names_from-secondary.result.now in
+    ok_map (λ (row : List Found). Weaves row ones others [] []) (HasNoByteBelow c.args.least) c.in_order.result
+    (λ row w. none_below row c.args.least ones others w c.names_from-primary.ensures.from c.names_from-secondary.ensures.from)
     c.in_order.ensures.woven
 
 listed : (c : After-in_order) (files : Files) → AreListings files c.args.sides.now

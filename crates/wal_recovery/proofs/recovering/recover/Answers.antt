@@ -80,7 +80,7 @@ returns-clause-reports g c =
 
 pub returns-clause-asks : goal.returns-clause-asks
 returns-clause-asks g c =
-    asks_once c.in_ok-sides.sides (g.D.Disk.view c.args.disk.now) (g.D.Disk.view c.list_sides.new.disk) (g.D.Disk.view c.recover_listed.new.disk)
+    asks_once 0 c.in_ok-sides.sides (g.D.Disk.view c.args.disk.now) (g.D.Disk.view c.list_sides.new.disk) (g.D.Disk.view c.recover_listed.new.disk)
     c.in_ok-sides.ensures.lists c.recover_listed.ensures.asks
 
 pub returns-clause-lists : goal.returns-clause-lists
@@ -88,7 +88,7 @@ returns-clause-lists g c =
     let old = g.D.Disk.view c.args.disk.now in
     let new = g.D.Disk.view c.recover_listed.new.disk in
     always_ok (ListsInTurn old new) c.recover_listed.result
-    (lists_in_turn c.in_ok-sides.sides old (g.D.Disk.view c.list_sides.new.disk) new c.in_ok-sides.ensures.lists c.recover_listed.ensures.asks)
+    (lists_in_turn 0 c.in_ok-sides.sides old (g.D.Disk.view c.list_sides.new.disk) new c.in_ok-sides.ensures.lists c.recover_listed.ensures.asks)
 
 pub returns-clause-each_moment : goal.returns-clause-each_moment
 returns-clause-each_moment g c = λ told.

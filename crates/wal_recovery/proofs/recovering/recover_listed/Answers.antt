@@ -95,7 +95,7 @@ pub returns-in-Strict-clause-asks : goal.returns-in-Strict-clause-asks
 returns-in-Strict-clause-asks g c =
     let now = g.D.Disk.view c.args.disk.now in
     let new = g.D.Disk.view c.recover_strict.new.disk in
-    reads_listed c.in_ok-segments.segments c.args.sides.now now new c.in_ok-segments.ensures.lengths
+    reads_listed c.in_ok-segments.segments c.args.start.wal c.args.sides.now now new c.in_ok-segments.ensures.lengths c.in_ok-segments.ensures.below
     (subst (λ (r : List Found). ReadsOnly r now new) c.as_slice.ensures c.recover_strict.ensures.asks)
 
 pub returns-in-Strict-clause-begins : goal.returns-in-Strict-clause-begins
@@ -134,7 +134,7 @@ pub returns-clause-asks : goal.returns-clause-asks
 returns-clause-asks g c =
     let now = g.D.Disk.view c.args.disk.now in
     let new = g.D.Disk.view c.recover_lenient.new.disk in
-    reads_listed c.in_ok-segments.segments c.args.sides.now now new c.in_ok-segments.ensures.lengths
+    reads_listed c.in_ok-segments.segments c.args.start.wal c.args.sides.now now new c.in_ok-segments.ensures.lengths c.in_ok-segments.ensures.below
     (subst (λ (r : List Found). ReadsOnly r now new) c.as_slice-in-Lenient.ensures c.recover_lenient.ensures.asks)
 
 -- ---- the number of the next WAL
