@@ -7,7 +7,7 @@ import os
 from dataclasses import dataclass, field
 
 from segments import BLOCK, FIRST, FIRST_NUMBER, FULL, HEADER, LAST, LOG, MIDDLE
-from segments import append, batch, batches_of, chunk, delete_of, log_of, note_of, range_delete_of, segment, set_of, sets, written
+from segments import append, batch, batches_of, chunk, delete_of, log_of, note_of, range_delete_of, segment, set_of, sets, table, written
 
 # What each replay here is given: what is stored is shown, and a log is left where nothing is refused.
 SCRIPT = b"get 0 a\ncommit 0 nosync set k v\n"
@@ -392,6 +392,92 @@ def name_cases():
     yield no_batch("the last WAL is free", {f"wal/{LAST_WAL - 1}-999.log": b""}, LAST_WAL, before)
 
 
+# The example of docs/formats/table.md: the table 1 with the next number 13 and the key a of the value 1.
+TABLE_ONE = bytes.fromhex(
+    "4c 86 09 94 10 00 09 01 00 00 00 00 00 00 00 00 00 00 00 0d 00 00 00 00 00 00 00 01 00 00 00 00 00 00 00"
+    "07 bf cb de 11 00 09 01 00 00 00 00 00 00 00 00 00 00 00 0c 00 00 00 00 00 00 00 01 00 00 00 01 01 61 01 31"
+)
+
+
+def table_cases():
+    pairs = [(b"a", b"1"), (b"b", b"2")]
+    second, third = "wal/000002.tab", "wal/000003.tab"
+    above = "segment 000003.log primary bytes 28 records 1 ends 28 clean"
+    yield each(
+        "a table alone",
+        {"wal/000001.tab": TABLE_ONE},
+        done("a = 1", end(1, 13)),
+        done("table 000001.tab keys 1 next 13", end(1, 13)),
+        goes_on("= 1", 13, 2),
+    )
+    # The segments up to the table are neither read nor compared by their names.
+    covered = {f"{side}/{it}": b"bad" for side in ("wal", "wal_secondary") for it in ("000001.log", "000002-001.log")}
+    yield each(
+        "a table with segments above it and below",
+        {second: table(2, 14, pairs), "wal/000003.log": segment(of_a(14, 3), 3), **covered},
+        done("a = 3", "b = 2", end(3, 15)),
+        done("table 000002.tab keys 2 next 14", above, *shown(14, 3), end(3, 15)),
+        goes_on("= 3", 15, 4),
+    )
+    yield each(
+        "the greatest of three tables is cut short",
+        {"wal/000001.tab": TABLE_ONE, second: table(2, 14, pairs), third: table(3, 15, pairs)[:-1]},
+        done("a = 1", "b = 2", end(2, 14)),
+        done("table 000002.tab keys 2 next 14", end(2, 14)),
+        goes_on("= 1", 14, 4),
+    )
+    first = "segment 000001.log primary bytes 28 records 1 ends 28 clean"
+    turned = bytearray(table(3, 14, pairs))
+    turned[-1] ^= 1
+    late = [(b"b", b"2"), (b"a", b"1")]
+    for name, text in (
+        ("empty", b""),
+        ("with a bit turned", bytes(turned)),
+        ("of another number", table(2, 14, pairs)),
+        ("with a record too many", written([(14).to_bytes(8, "little") + (1).to_bytes(8, "little"), *batches_of(pairs, 12)], 3)),
+        ("with a record too few", written([(14).to_bytes(8, "little") + (3).to_bytes(8, "little"), *batches_of(pairs, 11)], 3)),
+        ("with keys out of order", written([(14).to_bytes(8, "little") + (2).to_bytes(8, "little"), *batches_of(late, 12)], 3)),
+        ("with another next number", written([(15).to_bytes(8, "little") + (2).to_bytes(8, "little"), *batches_of(pairs, 12)], 3)),
+        ("with too few numbers", table(3, 11, pairs)),
+    ):
+        yield each(
+            f"a table that is none: {name}",
+            {third: text, ONE: segment(of_a(10, 1))},
+            done("a = 1", end(1, 11)),
+            done(first, *shown(10, 1), end(1, 11)),
+            goes_on("= 1", 11, 4),
+        )
+    yield each(
+        "a table of no key",
+        {third: table(3, 13, []), ONE: segment(of_a(10, 1))},
+        done(end(0, 13)),
+        done("table 000003.tab keys 0 next 13", end(0, 13)),
+        goes_on("none", 13, 4),
+    )
+    yield strictly(
+        "a gap above a table",
+        {second: table(2, 14, pairs), "wal/000003.log": segment(of_a(15, 9), 3)},
+        refused("gap 000003.log expected 14 found 15"),
+        done("table 000002.tab keys 2 next 14", above, *shown(15, 9), end(3, 16)),
+    )
+    yield strictly(
+        "a batch of a table above it once more",
+        {second: table(2, 14, pairs), "wal/000003.log": segment(sets(13, b"b", b"2"), 3)},
+        refused("conflict 000003.log 13"),
+        done("table 000002.tab keys 2 next 14", above, "batch 13 1", "set b 2", end(2, 14)),
+    )
+    yield no_batch("a table on the other side", {"wal_secondary/000001.tab": TABLE_ONE}, 1)
+    names = ("1.tab", "0000001.tab", "000001.TAB", "000001-001.tab", "1000000000000.tab")
+    yield no_batch("other names of tables", {f"wal/{it}": TABLE_ONE for it in names}, 1)
+    yield each(
+        "the last WAL is taken by a table",
+        {f"wal/{LAST_WAL}.tab": table(LAST_WAL, 13, pairs)},
+        done("a = 1", "b = 2", end(2, 13)),
+        done(f"table {LAST_WAL}.tab keys 2 next 13", end(2, 13)),
+        Said(b"limit wal\n", 8),
+    )
+
+
 def chunk_cases():
     one = segment(of_a(10, 1))
     kept = "segment 000001.log primary bytes {} records 1 ends 28 {}"
@@ -622,6 +708,7 @@ CASES = [
     *bad_batch_cases(),
     *first_reason_cases(),
     *name_cases(),
+    *table_cases(),
     *chunk_cases(),
     *block_cases(),
     *corrupt_cases(),

@@ -135,6 +135,12 @@ def log_of(pairs, first=FIRST_NUMBER, log=LOG, synced_before=()):
     return written(batches_of(pairs, first), log, synced_before)
 
 
+def table(upto, number, pairs):
+    """The table of that number, of keys with their values, by the number that comes next after them."""
+    head = number.to_bytes(8, "little") + len(pairs).to_bytes(8, "little")
+    return written([head, *batches_of(sorted(pairs), number - len(pairs))], upto)
+
+
 def rewritten(content, records, log=LOG):
     """The segment that a run may have written of records, with the sync offsets that stand in a log of them.
 
