@@ -8,6 +8,7 @@ mod Pieces
 mod Shows
 mod Tiles
 mod ReadsPrefix
+mod Readable
 mod Joined
 mod Walked
 mod Limits

@@ -13,7 +13,6 @@ mod PollsAll
 mod BeginsNext
 mod StartsNext
 mod Verdicts
-mod Readable
 mod OwnSegments
 mod KeepsRun
 mod RecoversTo

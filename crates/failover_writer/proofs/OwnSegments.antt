@@ -28,7 +28,7 @@ use Rattle.log_writer.proofs.Laws.{fits_kept}
 use Rattle.failover_writer.specs.State.{most_synced}
 use Rattle.failover_writer.specs.Ranges.{side_at, AreJoined, IsSpelled}
 use Rattle.failover_writer.proofs.Segments.{index_in, place_at, place_is, index_is, not_theirs}
-use Rattle.failover_writer.proofs.Readable.{Reading, readable}
+use Rattle.block_record.proofs.Laws.{Reading, readable}
 
 -- ---- records
 

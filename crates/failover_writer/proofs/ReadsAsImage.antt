@@ -23,34 +23,11 @@ use Rattle.log_writer.proofs.Laws.{bytes_split, bytes_front}
 use Rattle.failover_writer.specs.State.{State, phase_is_broken, is_broken, broken_count}
 use Rattle.failover_writer.specs.Ranges.{AreJoined, StandsFor}
 use Rattle.failover_writer.specs.Keeping.{OthersStay}
-use Rattle.wal_recovery.proofs.Laws.{reads_sent}
+use Rattle.wal_recovery.proofs.Laws.{ReadsAsImage, rested_reads}
 use Rattle.failover_writer.proofs.PollsAt.{count_head}
 use Rattle.failover_writer.proofs.Segments.{not_theirs}
 
 -- ---- one file
-
--- What a read finds of a file is one of its images, and each chunk that stands there was sent so.
-record ReadsAsImage (place : Place) (f : Option File) : Type 0 where
-  image : IsImageOf place f (as_read place f)
-  was_sent : (g : File) (bytes : List ℕ) (at size : ℕ) → f ≡ Some g → as_read place f ≡ Some bytes → IsChunkOf bytes at (log_of place) size
-      → take size (drop at bytes) ≡ take size (drop at g.sent)
-
--- What was sent to a file is an image of it.
-sent_is_image : (place : Place) (f : File) → IsImageOf place (Some f) (Some f.sent)
-sent_is_image (Segment side name) f = λ made. (drop f.stable f.sent, sym (take-append-drop f.stable f.sent))
-sent_is_image (Table upto) f = λ made. refl
-
-rested_reads : (place : Place) (f : Option File) → ((g : File) → f ≡ Some g → IsRestedFile g) → ReadsAsImage place f
-rested_reads place None rested = record { image = tt; was_sent = λ g bytes at size is read here. absurd cc }
-rested_reads place (Some f) rested =
-    let read_is : as_read place (Some f) ≡ Some f.sent = reads_sent place (Some f) f refl (rested f refl) in
-    record {
-      image = subst (λ (o : Option (List ℕ)). IsImageOf place (Some f) o) (sym read_is) (sent_is_image place f);
-      was_sent = λ g bytes at size is read here.
-          let same : Some bytes ≡ Some f.sent = sym read ∙ read_is in
-          let bytes_are : bytes ≡ g.sent = cc in
-          ap (λ (l : List ℕ). take size (drop at l)) bytes_are;
-    }
 
 -- A chunk that stands in a front has the same bytes in the whole.
 chunk_in_front : (front more : List ℕ) (at log size : ℕ) → IsChunkOf front at log size → take size (drop at front) ≡ take size (drop at (front ++ more))

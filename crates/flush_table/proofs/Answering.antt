@@ -17,15 +17,14 @@ use Rattle.wal_recovery.specs.Rows.{files_from, IsDiskOrMemory}
 use Rattle.wal_recovery.specs.declared.reports.SegReport.{SegReport}
 use Rattle.wal_recovery.specs.Reports.{AreReports}
 use Rattle.wal_recovery.specs.Resting.{AreSegmentsStable}
-use Rattle.wal_recovery.specs.Base.{IsBaseOf, BeginsWith, GoesOnFrom}
-use Rattle.wal_recovery.proofs.Laws.{base_goes_on}
+use Rattle.wal_recovery.specs.Base.{BeginsWith, GoesOnFrom}
 use Rattle.flush_table.specs.declared.reports.TableSeen.{TableSeen}
 use Rattle.flush_table.specs.declared.tables.UsedTable.{UsedTable}
-use Rattle.flush_table.specs.Stores.{Used, StoreOf, IsStoreRefused, TellsUsed, IsBaseSeen, wal_after, number_after}
+use Rattle.flush_table.specs.Stores.{Used, StoreOf, IsStoreRefused, TellsUsed, IsBaseSeen, IsNumberedBefore, wal_after, number_after}
 use Rattle.flush_table.specs.Reading.{FindsUsed, IsSomeUsed, start_with, seen_with}
 use Rattle.flush_table.specs.Promises.{FoundOrFailed, RefusedOrFailed}
 use Rattle.flush_table.proofs.OneStore.{used_once}
-use Rattle.flush_table.proofs.Starting.{start_from, found_used, is_base, wal_seen, number_seen, base_seen}
+use Rattle.flush_table.proofs.Starting.{start_from, found_used, start_numbered, goes_on_numbered, wal_seen, number_seen, base_seen}
 
 -- recovery of directories from a start
 abbrev pub RecoversAt : Mode → Dirs → List Batch → Start → Type 0
@@ -96,10 +95,11 @@ module _ (mode : Mode) (old mid : Files) (same : mid ≡ old) (found : Option Us
     pub begins_seen : BeginsWith start.base batches → (base : List Batch) × IsBaseSeen seen base × BeginsWith base batches
     begins_seen h = (start.base, base_is, h)
 
-    pub ends_seen : GoesOnFrom start.number start.base batches → (next : ℕ) → next ≡ end_after start.number batches → IsBaseOf next batches
+    pub ends_seen : GoesOnFrom start.number start.base batches → (next : ℕ) → next ≡ end_after start.number batches → IsNumberedBefore next batches
     ends_seen h next is =
-        let base : IsBaseOf start.number start.base = subst (λ (s : Start). IsBaseOf s.number s.base) (sym start_is) (is_base found some) in
-        subst (λ (n : ℕ). IsBaseOf n batches) (sym is) (base_goes_on start.number start.base batches base h)
+        let base : IsNumberedBefore start.number start.base =
+        subst (λ (s : Start). IsNumberedBefore s.number s.base) (sym start_is) (start_numbered found some) in
+        subst (λ (n : ℕ). IsNumberedBefore n batches) (sym is) (goes_on_numbered start.number start.base batches base h)
 
     pub no_gap_seen : GoesOnFrom start.number start.base batches → (base : List Batch) × IsBaseSeen seen base × GoesOnFrom (number_after seen) base batches
     no_gap_seen h = (start.base, base_is, subst (λ (n : ℕ). GoesOnFrom n start.base batches) number_is h)
@@ -154,14 +154,14 @@ failed_found (faults.Conflict w i x) used batches is = absurd is
 failed_found (faults.Corrupt w i p x) used batches is = absurd is
 failed_found faults.NoMemory used batches is = tt
 
-pub failed_refused : (fault refusal : RecoverFault) → IsDiskOrMemory fault → RefusedOrFailed (Err fault) refusal
-failed_refused (faults.Disk side) refusal is = tt
-failed_refused (faults.DuplicateSegment w i) refusal is = absurd is
-failed_refused (faults.BadBatch w i p f) refusal is = absurd is
-failed_refused (faults.Gap w i e x) refusal is = absurd is
-failed_refused (faults.Conflict w i x) refusal is = absurd is
-failed_refused (faults.Corrupt w i p x) refusal is = absurd is
-failed_refused faults.NoMemory refusal is = tt
+pub failed_refused : (T : Type 0) (fault refusal : RecoverFault) → IsDiskOrMemory fault → RefusedOrFailed {T = T} (Err fault) refusal
+failed_refused T (faults.Disk side) refusal is = tt
+failed_refused T (faults.DuplicateSegment w i) refusal is = absurd is
+failed_refused T (faults.BadBatch w i p f) refusal is = absurd is
+failed_refused T (faults.Gap w i e x) refusal is = absurd is
+failed_refused T (faults.Conflict w i x) refusal is = absurd is
+failed_refused T (faults.Corrupt w i p x) refusal is = absurd is
+failed_refused T faults.NoMemory refusal is = tt
 
 -- the same fault, of recovery and of the store
 pub or_for : (P Q : RecoverFault → Type 0) (fault : RecoverFault) → ((f : RecoverFault) → P f → Q f) → DiskMemoryOr P fault → DiskMemoryOr Q fault
@@ -182,14 +182,14 @@ fault_found (faults.Conflict w i x) used batches is = is
 fault_found (faults.Corrupt w i p x) used batches is = is
 fault_found faults.NoMemory used batches is = tt
 
-pub fault_refused : (fault refusal : RecoverFault) → ErrOrFailed (Err fault) refusal → RefusedOrFailed (Err fault) refusal
-fault_refused (faults.Disk side) refusal is = tt
-fault_refused (faults.DuplicateSegment w i) refusal is = is
-fault_refused (faults.BadBatch w i p f) refusal is = is
-fault_refused (faults.Gap w i e x) refusal is = is
-fault_refused (faults.Conflict w i x) refusal is = is
-fault_refused (faults.Corrupt w i p x) refusal is = is
-fault_refused faults.NoMemory refusal is = tt
+pub fault_refused : (T : Type 0) (fault refusal : RecoverFault) → ErrOrFailed (Err fault) refusal → RefusedOrFailed {T = T} (Err fault) refusal
+fault_refused T (faults.Disk side) refusal is = tt
+fault_refused T (faults.DuplicateSegment w i) refusal is = is
+fault_refused T (faults.BadBatch w i p f) refusal is = is
+fault_refused T (faults.Gap w i e x) refusal is = is
+fault_refused T (faults.Conflict w i x) refusal is = is
+fault_refused T (faults.Corrupt w i p x) refusal is = is
+fault_refused T faults.NoMemory refusal is = tt
 
 -- a fault that rose since a call that counted none
 pub rose_since : (old mid new : DiskView) (fault : RecoverFault) → NoFaultRose old mid → FaultRose mid new fault → FaultRose old new fault

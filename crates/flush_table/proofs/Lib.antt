@@ -9,3 +9,16 @@ mod NextWal
 mod Starting
 mod Answering
 mod RunOverStore
+mod Thinned
+mod OnlyTable
+mod Covered
+mod PutOrNot
+mod Removed
+mod MakesTable
+mod SameAnswers
+mod AfterFlush
+mod Listed
+mod LastWal
+mod TablesBelow
+mod RemovedAll
+mod Flushes

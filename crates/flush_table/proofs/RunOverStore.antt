@@ -1,5 +1,5 @@
 -- One more WAL over a store: the directories have the store, and behind it what the WAL merges to.
-use Rattle.std.proofs.Common.{◌≡◌, ℕ, ◌+◌, ◌≤◌, ◌<◌, Bool, true, false, le-ltb, List, [], ◌++◌, Option, Some, None, sym, subst, ap, ◌∙◌, refl, arith}
+use Rattle.std.proofs.Common.{◌≡◌, ℕ, ◌≤◌, Bool, true, false, le-ltb, List, [], ◌++◌, Option, Some, None, sym, subst, ap, ◌∙◌, refl, arith}
 use Rattle.std.specs.Prelude.{nat_lt, if◌then◌else◌}
 use Rattle.std.proofs.lemmas.List.{append_assoc}
 use Rattle.crc_chunk.specs.Chunk.{IsChunkOf}
@@ -13,14 +13,14 @@ use Rattle.disk_face.specs.View.{Place, segment, table, File, Files, Dirs}
 use Rattle.disk_face.specs.Listing.{IsSegmentName}
 use Rattle.disk_face.specs.Image.{IsImageOf, IsImage, IsChanceFree, IsRestedFile, IsRested, as_read, dirs_as_read}
 use Rattle.wal_recovery.specs.declared.reports.Mode.TheVariants.{Strict}
-use Rattle.wal_recovery.specs.Listing.{Stored, StandsIn, name_in, place_in, from_wal}
+use Rattle.wal_recovery.specs.Listing.{Stored, StandsIn, place_in, from_wal}
 use Rattle.wal_recovery.specs.Rows.{files_from}
-use Rattle.wal_recovery.specs.Recovering.{WalMerges, RecoversFrom}
+use Rattle.wal_recovery.specs.Recovering.{RecoversFrom}
 use Rattle.wal_recovery.specs.Base.{IsBaseOf, RecoversOnto}
-use Rattle.wal_recovery.specs.Further.{IsElsewhere, IsSameElsewhere, StandBelow, SegmentsMerge}
+use Rattle.wal_recovery.specs.Further.{IsSameElsewhere, StandBelow, SegmentsMerge}
 use Rattle.wal_recovery.specs.Resting.{AreSegmentsStable, OnlySynced}
 use Rattle.wal_recovery.proofs.Laws.{ends_behind, image_has_file, no_base, read_synced, reads_sent, recovers_further, rested_synced, stable_recovers_from}
-use Rattle.flush_table.specs.Stores.{HasWholeTable, UsesTable, Used, IsUsed, StoreOf, IsNextWalOfStore, wal_from, first_from, base_of, next_in}
+use Rattle.flush_table.specs.Stores.{HasWholeTable, Used, IsUsed, StoreOf, IsNextWalOfStore, wal_from, first_from, base_of, next_in}
 use Rattle.flush_table.proofs.Starting.{table_base}
 
 -- ---- the used table
@@ -53,7 +53,7 @@ used_below dirs wal (Some used) next is = omega (arith, next.past used.upto is.b
 -- ---- images of files at rest that were synced
 
 -- a table at rest stands in an image as it reads
-table_image : (upto : ℕ) (o : Option File) (content : Option (List ℕ)) → ((f : File) → o ≡ Some f → IsRestedFile f)
+pub table_image : (upto : ℕ) (o : Option File) (content : Option (List ℕ)) → ((f : File) → o ≡ Some f → IsRestedFile f)
     → IsImageOf (table upto) o content → content ≡ as_read (table upto) o
 table_image upto None None rests im = refl
 table_image upto None (Some bytes) rests im = absurd im
@@ -100,7 +100,7 @@ module _ (old now : Files) (rested : IsRested old) (only : OnlySynced old now) (
       (named, sym (ap (λ (d : Dirs). d p) (same_read old now rested only)) ∙ reads_sent p (now p) f.0 f.1 (rests old now rested only p f.0 f.1))
 
   -- an image has the store that was read
-  store_of_image : (used : Option Used) (base : List Batch) → AreSegmentsStable (files_from (wal_from used) now) → IsChanceFree IsChunkOf now dirs
+  pub store_of_image : (used : Option Used) (base : List Batch) → AreSegmentsStable (files_from (wal_from used) now) → IsChanceFree IsChunkOf now dirs
       → StoreOf Strict (dirs_as_read old) used base → StoreOf Strict dirs used base
   store_of_image used base stable free store =
       let r : RecoversOnto (first_from used) (base_of used) (from_wal (wal_from used) (dirs_as_read old)) base = store.recovers in

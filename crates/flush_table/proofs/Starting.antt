@@ -1,17 +1,19 @@
 -- Where recovery begins, by the table that was found: behind its batches, which end at its `next`.
 use Rattle.std.proofs.Common.{◌≡◌, ◌+◌, ◌-◌, ◌≤◌, ℕ, List, [], length, Option, Some, None, sym, subst, ap, ◌∙◌, refl, arith, lit≤}
 use Rattle.std.specs.Prelude.{IfSome}
+use Rattle.std.proofs.lemmas.List.Elements.{All-nil}
 use Rattle.batch_repr.specs.declared.limits.TheConstants.{NUMBER_FIRST, NUMBER_MAX}
 use Rattle.batch_repr.specs.declared.batch.Batch.{Batch}
+use Rattle.batch_repr.specs.Batches.{end_after, IsContiguous}
 use Rattle.disk_face.specs.View.{Dirs, DiskView}
 use Rattle.table_text.specs.Tables.{Table, IsTable, batches_of}
-use Rattle.table_text.proofs.Laws.{ends_at_next}
+use Rattle.table_text.proofs.Laws.{batches_within, ends_at_next}
 use Rattle.wal_recovery.specs.declared.reports.Start.{Start}
-use Rattle.wal_recovery.specs.Base.{IsBaseOf}
-use Rattle.wal_recovery.proofs.Laws.{no_base}
+use Rattle.wal_recovery.specs.Base.{IsBaseOf, GoesOnFrom, HasEntriesWithin, AreWithinLimits}
+use Rattle.wal_recovery.proofs.Laws.{base_goes_on, goes_on_first}
 use Rattle.flush_table.specs.declared.tables.UsedTable.{UsedTable}
 use Rattle.flush_table.specs.declared.reports.TableSeen.{TableSeen}
-use Rattle.flush_table.specs.Stores.{Used, IsUsed, TellsUsed, IsBaseSeen, wal_from, first_from, base_of, wal_after, table_from, number_after}
+use Rattle.flush_table.specs.Stores.{Used, IsUsed, TellsUsed, IsBaseSeen, IsNumberedBefore, wal_from, first_from, base_of, wal_after, table_from, number_after}
 use Rattle.flush_table.specs.Asked.{ReadsNoneBelow}
 use Rattle.flush_table.specs.Reading.{FindsUsed, IsSomeUsed, least_read, start_with, seen_with}
 
@@ -32,16 +34,38 @@ number_within None is = lit≤ tt
 number_within (Some found) (named, (table, is, tells)) = omega (arith, tells.next_is, is.most)
 
 -- the batches of a table are numbered, and end at its `next`
-pub table_base : (table : Table) → IsTable table → IsBaseOf table.next (batches_of table)
-table_base table is =
+pub table_numbered : (table : Table) → IsTable table → IsNumberedBefore table.next (batches_of table)
+table_numbered table is =
     let ends = ends_at_next table is in
-    record { from = table.next - length table.live; contiguous = ends.0; ends = ends.1 }
+    record { base = record { from = table.next - length table.live; contiguous = ends.0; ends = ends.1 }; least = omega (arith, is.least) }
+
+pub table_base : (table : Table) → IsTable table → IsBaseOf table.next (batches_of table)
+table_base table is = (table_numbered table is).base
+
+pub base_within : (found : Option UsedTable) → IfSome found IsSomeUsed → AreWithinLimits (start_with found).base
+base_within None is = All-nil HasEntriesWithin
+base_within (Some found) (named, (table, is, tells)) = subst AreWithinLimits (sym tells.batches_are) (batches_within table is)
+
+none_numbered : IsNumberedBefore NUMBER_FIRST []
+unfolding IsContiguous end_after
+none_numbered = record { base = record { from = NUMBER_FIRST; contiguous = tt; ends = refl }; least = omega arith }
+
+pub start_numbered : (found : Option UsedTable) → IfSome found IsSomeUsed → IsNumberedBefore (start_with found).number (start_with found).base
+start_numbered None is = none_numbered
+start_numbered (Some found) (named, (table, is, tells)) =
+    subst (λ (n : ℕ). IsNumberedBefore n found.read.batches) (sym tells.next_is)
+    (subst (λ (base : List Batch). IsNumberedBefore table.next base) (sym tells.batches_are) (table_numbered table is))
 
 pub is_base : (found : Option UsedTable) → IfSome found IsSomeUsed → IsBaseOf (start_with found).number (start_with found).base
-is_base None is = no_base NUMBER_FIRST [] refl
-is_base (Some found) (named, (table, is, tells)) =
-    subst (λ (n : ℕ). IsBaseOf n found.read.batches) (sym tells.next_is)
-    (subst (λ (base : List Batch). IsBaseOf table.next base) (sym tells.batches_are) (table_base table is))
+is_base found is = (start_numbered found is).base
+
+-- and so are those that go on from it
+pub goes_on_numbered : (number : ℕ) (base batches : List Batch) → IsNumberedBefore number base → GoesOnFrom number base batches
+    → IsNumberedBefore (end_after number batches) batches
+goes_on_numbered number base batches is goes = record {
+  base = base_goes_on number base batches is.base goes;
+  least = omega (arith, is.least, goes_on_first number base batches is.base goes);
+}
 
 pub base_seen : (found : Option UsedTable) → IfSome found IsSomeUsed → IsBaseSeen (seen_with found) (start_with found).base
 base_seen None is = refl

@@ -5,3 +5,7 @@ pub mod Begun
 pub mod Promises
 pub mod Theorems
 pub mod Kept
+pub mod Removing
+pub mod Putting
+pub mod Settling
+pub mod Flushing

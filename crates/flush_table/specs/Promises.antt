@@ -11,14 +11,15 @@ use Rattle.wal_recovery.specs.declared.listing.Sides.{Sides}
 use Rattle.wal_recovery.specs.declared.reports.Mode.{Mode}
 use Rattle.wal_recovery.specs.declared.reports.Mode.TheVariants.{Strict}
 use Rattle.wal_recovery.specs.Listing.{from_wal}
-use Rattle.wal_recovery.specs.Base.{IsBaseOf, BeginsWith, GoesOnFrom}
+use Rattle.wal_recovery.specs.Base.{BeginsWith, GoesOnFrom}
 use Rattle.wal_recovery.specs.Reports.{AreReports}
+use Rattle.wal_recovery.specs.Promises.{IsQuietIfBare}
 use Rattle.wal_recovery.specs.Resting.{AreSegmentsStable}
 use Rattle.wal_recovery.specs.Answers.{DiskMemoryOr}
 use Rattle.wal_recovery.specs.Rows.{files_from}
 use Rattle.wal_recovery.specs.Sides.{AreSideNames, AreListings}
 use Rattle.flush_table.specs.declared.reports.StoreRead.{StoreRead}
-use Rattle.flush_table.specs.Stores.{Used, StoreOf, IsStoreRefused, IsNextWalOfStore, TellsUsed, wal_after, table_from, number_after, IsBaseSeen}
+use Rattle.flush_table.specs.Stores.{Used, StoreOf, IsStoreRefused, IsNextWalOfStore, TellsUsed, wal_after, table_from, number_after, IsBaseSeen, IsNumberedBefore}
 use Rattle.flush_table.specs.Asked.{ListsAllInTurn, ReadsNoneBelow}
 
 -- ---- what is answered
@@ -36,7 +37,7 @@ FoundOrFailed (Err faults.NoMemory) used batches = Unit {0}
 FoundOrFailed (Err fault) used batches = ⊥
 
 -- It is this refusal, unless the disk failed or memory ran out.
-abbrev pub RefusedOrFailed : Result StoreRead RecoverFault → RecoverFault → Type 0
+abbrev pub RefusedOrFailed : {T : Type 0} → Result T RecoverFault → RecoverFault → Type 0
 RefusedOrFailed (Ok found) refusal = ⊥
 RefusedOrFailed (Err (faults.Disk side)) refusal = Unit {0}
 RefusedOrFailed (Err faults.NoMemory) refusal = Unit {0}
@@ -52,7 +53,7 @@ abbrev pub IsReasonToRefuseStore : Bool → Mode → DiskView → RecoverFault �
 IsReasonToRefuseStore tells mode v fault = IsTrue tells → DiskMemoryOr (IsStoreRefused mode (directories v)) fault
 
 -- Whatever the directories are refused for is answered, unless the disk failed or memory ran out.
-abbrev pub AnswersStoreRefusal : Bool → Mode → DiskView → Result StoreRead RecoverFault → Type 0
+abbrev pub AnswersStoreRefusal : {T : Type 0} → Bool → Mode → DiskView → Result T RecoverFault → Type 0
 AnswersStoreRefusal tells mode v result =
     IsTrue tells → (fault : RecoverFault) → IsStoreRefused mode (directories v) fault → RefusedOrFailed result fault
 
@@ -78,9 +79,9 @@ BeginsWithSeen found = (base : List Batch) × IsBaseSeen found.table base × Beg
 abbrev pub HasNoGapBehindSeen : StoreRead → Type 0
 HasNoGapBehindSeen found = (base : List Batch) × IsBaseSeen found.table base × GoesOnFrom (number_after found.table) base found.batches
 
--- They are numbered one after another, and end before the number that comes next.
+-- They are numbered one after another, from the first number of all or above, and end before the number that comes next.
 abbrev pub EndsAtNext : StoreRead → Type 0
-EndsAtNext found = IsBaseOf found.next found.batches
+EndsAtNext found = IsNumberedBefore found.next found.batches
 
 -- ---- listings
 
@@ -113,3 +114,7 @@ ReadsNoneCovered old new found = ReadsNoneBelow (wal_after found.table) (table_f
 abbrev pub StabilizesStoreIfStrict : Bool → Mode → DiskView → DiskView → StoreRead → Type 0
 StabilizesStoreIfStrict tells mode old new found =
     IsTrue tells → mode ≡ Strict → IsRested (files old) → AreSegmentsStable (files_from (wal_after found.table) (files new))
+
+-- Where no segment is listed, nothing happens to any file.
+abbrev pub IsQuietIfNoSegment : DiskView → DiskView → StoreRead → Type 0
+IsQuietIfNoSegment old new found = IsQuietIfBare (sides_of found) old new

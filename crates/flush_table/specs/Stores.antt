@@ -10,6 +10,7 @@ use Rattle.wal_recovery.specs.declared.reports.Mode.{Mode}
 use Rattle.wal_recovery.specs.declared.fault.RecoverFault.{RecoverFault}
 use Rattle.wal_recovery.specs.Listing.{Stored, StandsIn, from_wal}
 use Rattle.wal_recovery.specs.Answers.{RecoversByFrom, IsRefusedByFrom}
+use Rattle.wal_recovery.specs.Base.{IsBaseOf}
 use Rattle.flush_table.specs.declared.reports.TableSeen.{TableSeen}
 
 -- The directories have a whole table of that number.
@@ -73,6 +74,11 @@ pub record IsNextWalOfStore (dirs : Dirs) (next : ℕ) : Type 0 where
       × ((upto : ℕ) (bytes : List ℕ) → IsTableNumber upto → dirs (table upto) ≡ Some bytes → ⊥))
       ⊎ (((number : ℕ) × (stored : Stored) × StandsIn dirs number stored × (next ≡ suc number))
       ⊎ ((upto : ℕ) × (bytes : List ℕ) × IsTableNumber upto × (dirs (table upto) ≡ Some bytes) × (next ≡ suc upto)))
+
+-- The batches are numbered one after another, from the first number of all or above, and end before this number.
+pub record IsNumberedBefore (next : ℕ) (batches : List Batch) : Type 0 where
+  pub base : IsBaseOf next batches
+  pub least : NUMBER_FIRST ≤ base.from
 
 -- ---- what is told of the used table
 

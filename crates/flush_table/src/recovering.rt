@@ -6,7 +6,8 @@ ghost use Rattle.disk_face.specs.View.{NothingInFlight};
 ghost use Rattle.disk_face.specs.Calls.{GoesOn, SameDisk};
 ghost use Rattle.wal_recovery.specs.declared.reports.Mode.TheVariants.{Strict, Lenient};
 ghost use Rattle.wal_recovery.specs.Answers.{FaultRose, NoFaultRose};
-ghost use Rattle.wal_recovery.specs.Promises.{OnlySyncs, AddsNoImageThroughout, UntouchedIfRefused};
+ghost use Rattle.wal_recovery.specs.Base.{AreWithinLimits};
+ghost use Rattle.wal_recovery.specs.Promises.{OnlySyncsThroughout, AddsNoImageThroughout, UntouchedIfRefused};
 ghost use Rattle.flush_table.specs.Asked.{AsksOfStore};
 ghost use Rattle.flush_table.specs.Reading.{IsSomeUsed, start_with, seen_with};
 ghost use Rattle.flush_table.specs.Promises.{IsStoreRead, FindsStore};
@@ -15,7 +16,8 @@ ghost use Rattle.flush_table.specs.Promises.{ReportsOnStore, HasNext, HasNextWal
 ghost use Rattle.flush_table.specs.Promises.{BeginsWithSeen, HasNoGapBehindSeen, EndsAtNext};
 ghost use Rattle.flush_table.specs.Promises.{AreStoreNames, AreStoreListings};
 ghost use Rattle.flush_table.specs.Promises.{ListsStore, ReadsNoneCovered};
-ghost use Rattle.flush_table.specs.Promises.{StabilizesStoreIfStrict};
+ghost use Rattle.flush_table.specs.Promises.{StabilizesStoreIfStrict, IsQuietIfNoSegment};
+ghost use Rattle.flush_table.specs.Flushing.{AnswersAsReadIfStrict};
 
 use crate::beginning::begin;
 use crate::reports::{StoreRead, TableSeen};
@@ -92,6 +94,7 @@ pub fn recover_store<D: TableDisk>(
     ensures contiguous { mode ≡ Strict → IfOk result HasNoGapBehindSeen }
     ensures numbered { mode ≡ Strict → IfOk result EndsAtNext }
     ensures within { IfOk result (λ found. found.next ≤ NUMBER_MAX) }
+    ensures limits { mode ≡ Strict → IfOk result (λ found. AreWithinLimits found.batches) }
     ensures names { IfOk result AreStoreNames }
 
     // The calls, of any disk: of each file no more bytes are asked for than it was listed with, and none of a file that
@@ -101,13 +104,16 @@ pub fn recover_store<D: TableDisk>(
     ensures spares { IfOk result (ReadsNoneCovered (D.view disk.old) (D.view disk.new)) }
 
     // The files: nothing happens to any but a sync, so a crash may leave nothing new; refused directories are not
-    // touched, and what was read is stable where no gap is accepted.
+    // touched; and where no gap is accepted what was read is stable, so that every image answers what was read.
     ensures each_moment { AddsNoImageThroughout D.tells (D.view disk.old) (D.view disk.new) }
-    ensures files { OnlySyncs D.tells (D.view disk.old) (D.view disk.new) }
+    ensures files { OnlySyncsThroughout D.tells (D.view disk.old) (D.view disk.new) }
     ensures stable { IfOk result
         (StabilizesStoreIfStrict D.tells mode (D.view disk.old) (D.view disk.new)) }
+    ensures answers { IfOk result
+        (AnswersAsReadIfStrict D.tells mode (D.view disk.old) (D.view disk.new)) }
     ensures untouched { IfErr result (UntouchedIfRefused (D.view disk.old) (D.view disk.new)) }
     ensures starts_nothing { mode ≡ Lenient → SameDisk (D.view disk.old) (D.view disk.new) }
+    ensures quiet { IfOk result (IsQuietIfNoSegment (D.view disk.old) (D.view disk.new)) }
 {
     let begun = begin(alloc, disk)?;
     let seen = seen_of(&begun.used);

@@ -2,10 +2,12 @@
 //!
 //! A batch is one Set of the key `a` or `b` to a digit, and takes one number.
 
+mod flushes;
+
 use crate::{StoreRead, TableSeen, recover_store};
 use batch_repr::{BatchFault, Batches};
 use block_record::{Framer, RECORD_MAX};
-use disk_face::{Disk, SegName, Side, TableDisk};
+use disk_face::{Disk, DiskErr, SegName, Side, TableDisk};
 use mem_disk::MemDisk;
 use std::alloc::Global;
 use std::marker::Model;
@@ -91,6 +93,11 @@ impl Rig {
 
     fn fail_table_call(&mut self, rt: &impl Abort, number: u64) {
         self.disk.fail_table_call(number).expect(rt, "memory");
+    }
+
+    /// Reads the table of that number from its front, and answers how many bytes it read.
+    fn read_table(&mut self, upto: u8, bytes: &mut [u8]) -> Result<usize, DiskErr> {
+        self.disk.read_table(u64::from(upto), 0, bytes)
     }
 
     fn read(&mut self, alloc: Global, mode: Mode) -> Result<StoreRead, RecoverFault> {

@@ -4,6 +4,7 @@ mod Prefixes
 mod Numbers
 mod Written
 mod OneTable
+mod PartOrWhole
 mod Laid
 mod Rows
 pub mod Laws

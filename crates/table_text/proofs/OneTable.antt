@@ -97,10 +97,10 @@ no_part table other n a b part = same_table other table b a (no_other_table tabl
 none_behind : (bytes : List ℕ) (log : ℕ) → NoChunkAt bytes (length bytes) log
 none_behind bytes log c stands = omega (arith, within_segment stands, header_bounds c)
 
-offsets_fit : (records : List (List ℕ)) → OffsetsFit (map unsynced records)
+pub offsets_fit : (records : List (List ℕ)) → OffsetsFit (map unsynced records)
 offsets_fit records = All-map (λ (r : Marked). r.offset < 2 ^ 64) unsynced records (λ k d below. omega arith)
 
-marked_is : (records : List (List ℕ)) → bytes_marked (map unsynced records) ≡ records
+pub marked_is : (records : List (List ℕ)) → bytes_marked (map unsynced records) ≡ records
 marked_is [] = refl
 marked_is (bytes ∷ records) = ap (λ (rs : List (List ℕ)). bytes ∷ rs) (marked_is records)
 

@@ -1,16 +1,16 @@
 -- The keys that have a value after batches are within their limits, with their values, as the entries of the batches are.
-use Rattle.std.proofs.Common.{◌≡◌, ℕ, Bool, true, false, List, [], ◌∷◌, filter, Option, Some, None, refl, sym, subst, ◌∙◌}
+use Rattle.std.proofs.Common.{◌≡◌, ◌-◌, ℕ, suc, Bool, true, false, List, [], ◌∷◌, length, filter, Option, Some, None, refl, sym, subst, ◌∙◌}
 use Rattle.std.specs.Prelude.{option_and_then, slice_index_or}
-use Rattle.std.specs.List.{All, last_or}
+use Rattle.std.specs.List.{All, AllByRecursion, last_or}
 use Rattle.std.proofs.lemmas.Slice.Eq.{bytes_eq-Decides}
-use Rattle.std.proofs.lemmas.List.Elements.{All-contains_itself, All-head, All-tail}
+use Rattle.std.proofs.lemmas.List.Elements.{All-contains_itself, All-nil, All-cons, All-head, All-tail, recursion_from_All}
 use Rattle.wal_base.specs.declared.entry.Entry.{Entry}
 use Rattle.wal_base.specs.declared.entry.Entry.TheVariants.{Set, Delete, Note, RangeDelete}
 use Rattle.batch_repr.specs.declared.batch.Batch.{Batch}
 use Rattle.batch_repr.specs.Batches.{entries_in, is_about, value_left}
 use Rattle.batch_repr.specs.Limits.{IsWithinLimits}
 use Rattle.text_lines.specs.Store.{Held, IsStoreOf}
-use Rattle.table_text.specs.Tables.{IsHeldWithin}
+use Rattle.table_text.specs.Tables.{Table, IsTable, IsHeldWithin, batches_of, set_of, set_batch, set_batches}
 use Rattle.table_text.proofs.LeftBy.{answer_of_all}
 
 abbrev held : List ℕ → List ℕ → Held
@@ -50,3 +50,17 @@ live_within batches live within store k d below =
   where
     none : LeavesWithin None (slice_index_or live k d).key
     none value is = absurd cc
+
+-- ---- the batches of a table
+
+sets_within : (number : ℕ) (live : List Held) → AllByRecursion IsHeldWithin live
+    → All (λ (batch : Batch). All IsWithinLimits batch.entries) (set_batches number live)
+unfolding set_batches
+sets_within number [] h = All-nil (λ (batch : Batch). All IsWithinLimits batch.entries)
+sets_within number (one ∷ later) h =
+    All-cons (λ (batch : Batch). All IsWithinLimits batch.entries) (set_batch number one) (set_batches (suc number) later)
+    (All-cons IsWithinLimits (set_of one) [] h.0 (All-nil IsWithinLimits)) (sets_within (suc number) later h.1)
+
+-- their entries are within the limits
+pub batches_within : (table : Table) → IsTable table → All (λ (batch : Batch). All IsWithinLimits batch.entries) (batches_of table)
+batches_within table is = sets_within (table.next - length table.live) table.live (recursion_from_All IsHeldWithin table.live is.within)

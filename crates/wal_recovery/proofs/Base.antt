@@ -46,6 +46,12 @@ base_goes_on number base batches is goes = record {
       ∙ sym (ap (end_after number) goes.behind ∙ ends_behind number base goes.merged is);
 }
 
+-- and their first number is that of the base
+pub goes_on_first : (number : ℕ) (base batches : List Batch) (is : IsBaseOf number base) (goes : GoesOnFrom number base batches)
+    → (base_goes_on number base batches is goes).from ≡ is.from
+unfolding base_goes_on
+goes_on_first number base batches is goes = refl
+
 -- ---- a merge that accepts gaps
 
 ascend_from : (from low : ℕ) (base : List Batch) → low ≤ from → IsContiguous from base → AscendByNumber low base

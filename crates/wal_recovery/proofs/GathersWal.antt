@@ -12,6 +12,7 @@ use Rattle.wal_recovery.specs.declared.fault.RecoverFault.TheVariants as faults
 use Rattle.wal_recovery.specs.declared.listing.Found.{Found}
 use Rattle.wal_recovery.specs.declared.reports.Mode.{Mode}
 use Rattle.wal_recovery.specs.declared.reports.SegReport.{SegReport}
+use Rattle.wal_recovery.specs.Base.{AreWithinLimits}
 use Rattle.wal_recovery.specs.Listing.{Stored, AreByIndex}
 use Rattle.wal_recovery.specs.Recovering.{taking_numbers}
 use Rattle.wal_recovery.specs.Refused.{by_index}
@@ -55,7 +56,7 @@ rises_ascend low (s ∷ t ∷ row) h (suc k) d lt =
 
 module _ (tells : Bool) (mode : Mode) (files : Files) where
   pub adds_none : (old : List SegReport) → AddsSegments tells mode files [] old old
-  adds_none old = record { own = []; reports = sym (append-nil old); as_many = refl; numbered = All-nil IsNumberedReport; holds = λ told listed. tt }
+  adds_none old = record { own = []; reports = sym (append-nil old); as_many = refl; numbered = All-nil IsNumberedReport; within = All-nil (λ (r : SegReport). AreWithinLimits r.batches); holds = λ told listed. tt }
 
   pub adds_more : (front : List Found) (f : Found) (index : ℕ) (old mid new : List SegReport) (row longer : List SegmentRead)
       → AddsSegments tells mode files front old mid → AddsSegment tells mode files f index mid new row longer
@@ -65,6 +66,7 @@ module _ (tells : Bool) (mode : Mode) (files : Files) where
     reports = b.reports ∙ ap (λ (l : List SegReport). l ++ b.report ∷ []) a.reports ∙ append_assoc old a.own (b.report ∷ []);
     as_many = length_push a.own b.report ∙ ap (λ (n : ℕ). n + 1) a.as_many ∙ sym (length_push front f);
     numbered = All-push IsNumberedReport a.own b.report a.numbered b.numbered;
+    within = All-push (λ (r : SegReport). AreWithinLimits r.batches) a.own b.report a.within b.within;
     holds = λ told listed. zip_push _ front a.own f b.report (a.holds told (listed_front files front f listed))
         (b.holds told (listed_last files front f listed));
   }

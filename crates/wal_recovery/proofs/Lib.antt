@@ -16,6 +16,7 @@ mod IsReportOf
 mod GathersWal
 mod ReportOnAll
 mod WalsListed
+mod WithinLimits
 mod Duplicates
 mod OneBad
 mod OneRefusal
@@ -34,3 +35,5 @@ mod Calm
 mod Further
 mod StableImages
 mod ImagesFrom
+mod SameSegments
+mod ReadsAsImage

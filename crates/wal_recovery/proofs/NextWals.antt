@@ -5,6 +5,7 @@ use Rattle.std.proofs.Common.{◌≡◌, ◌⊎◌, inl, inr, ℕ, suc, ◌≤�
 use Rattle.std.proofs.lemmas.List.Elements.{Contains-append_right}
 use Rattle.disk_face.specs.declared.Side.{Side}
 use Rattle.disk_face.specs.declared.Side.TheVariants.{Primary, Secondary}
+use Rattle.disk_face.specs.declared.SegName.{SegName}
 use Rattle.disk_face.specs.declared.Listed.{Listed}
 use Rattle.disk_face.specs.View.{segment, Files}
 use Rattle.disk_face.specs.Image.{dirs_as_read}
@@ -12,7 +13,7 @@ use Rattle.disk_face.specs.Listing.{IsBefore, IsAscending, IsSegmentName, HasLen
 use Rattle.disk_face.proofs.Laws.{AllPairs-head, AllPairs-tail, read_created}
 use Rattle.segment_merge.proofs.Laws.{none_within}
 use Rattle.wal_recovery.specs.declared.listing.Sides.{Sides}
-use Rattle.wal_recovery.specs.Listing.{Stored, StandsIn, IsNextWal}
+use Rattle.wal_recovery.specs.Listing.{Stored, StandsIn, IsNextWal, name_in}
 use Rattle.wal_recovery.specs.Sides.{AreListings, IsAfter}
 use Rattle.wal_recovery.proofs.Groups.{wal_up}
 use Rattle.wal_recovery.proofs.IsListing.{read_open}
@@ -46,22 +47,40 @@ after_last front last up = record {
 pub after_none : IsAfter [] 1
 after_none = record { above = λ item at. absurd (none_within item at); least = inl (refl, refl) }
 
+-- The name is listed on that side.
+abbrev pub IsListedOn : Sides → Side → Listed → Type 0
+IsListedOn sides Primary item = Contains sides.primary item
+IsListedOn sides Secondary item = Contains sides.secondary item
+
+on_either : (sides : Sides) (side : Side) (item : Listed) → IsListedOn sides side item → Contains sides.primary item ⊎ Contains sides.secondary item
+on_either sides Primary item at = inl at
+on_either sides Secondary item at = inr at
+
 module _ (files : Files) (sides : Sides) (listings : AreListings files sides) where
   -- a segment of the directories is listed
+  pub stands_listed : (number : ℕ) (stored : Stored) → StandsIn (dirs_as_read files) number stored
+      → (item : Listed) × (item.name ≡ name_in number stored.index) × IsListedOn sides stored.side item
+  stands_listed number stored (named, reads) = on stored.side reads
+    where
+      name : SegName
+      name = name_in number stored.index
+
+      on : (side : Side) → dirs_as_read files (segment side name) ≡ Some stored.content
+          → (item : Listed) × (item.name ≡ name) × IsListedOn sides side item
+      on Primary reads =
+          let f = read_open Primary name (files (segment Primary name)) stored.content reads in
+          let item : Listed = record { name = name; len = length f.0.reads } in
+          (item, refl, (listings.primary item).1 (named, (f.0, f.1, f.2, refl)))
+      on Secondary reads =
+          let f = read_open Secondary name (files (segment Secondary name)) stored.content reads in
+          let item : Listed = record { name = name; len = length f.0.reads } in
+          (item, refl, (listings.secondary item).1 (named, (f.0, f.1, f.2, refl)))
+
   listed : (number : ℕ) (stored : Stored) → StandsIn (dirs_as_read files) number stored
       → (item : Listed) × (item.name.wal ≡ number) × (Contains sides.primary item ⊎ Contains sides.secondary item)
-  listed number stored (named, reads) = on stored.side reads
-    where
-      on : (side : Side) → dirs_as_read files (segment side (record { wal = number; index = stored.index })) ≡ Some stored.content
-          → (item : Listed) × (item.name.wal ≡ number) × (Contains sides.primary item ⊎ Contains sides.secondary item)
-      on Primary reads =
-          let f = read_open Primary (record { wal = number; index = stored.index }) (files (segment Primary (record { wal = number; index = stored.index }))) stored.content reads in
-          let item : Listed = record { name = record { wal = number; index = stored.index }; len = length f.0.reads } in
-          (item, refl, inl ((listings.primary item).1 (named, (f.0, f.1, f.2, refl))))
-      on Secondary reads =
-          let f = read_open Secondary (record { wal = number; index = stored.index }) (files (segment Secondary (record { wal = number; index = stored.index }))) stored.content reads in
-          let item : Listed = record { name = record { wal = number; index = stored.index }; len = length f.0.reads } in
-          (item, refl, inr ((listings.secondary item).1 (named, (f.0, f.1, f.2, refl))))
+  listed number stored there =
+      let l = stands_listed number stored there in
+      (l.0, ap (λ (n : SegName). n.wal) l.1, on_either sides stored.side l.0 l.2)
 
   -- and a listed one stands in the directories
   stands : (side : Side) (item : Listed) → IsSegmentName item.name × HasLength files (segment side item.name) item.len
@@ -70,6 +89,10 @@ module _ (files : Files) (sides : Sides) (listings : AreListings files sides) wh
     record { side = side; index = item.name.index; content = f.reads },
     (named, read_created (segment side item.name) (files (segment side item.name)) f is created),
   )
+
+  pub listed_stands : (side : Side) (item : Listed) → IsListedOn sides side item → (stored : Stored) × StandsIn (dirs_as_read files) item.name.wal stored
+  listed_stands Primary item at = stands Primary item ((listings.primary item).0 at)
+  listed_stands Secondary item at = stands Secondary item ((listings.secondary item).0 at)
 
   ones_stand : (item : Listed) → Contains sides.primary item → (stored : Stored) × StandsIn (dirs_as_read files) item.name.wal stored
   ones_stand item at = stands Primary item ((listings.primary item).0 at)

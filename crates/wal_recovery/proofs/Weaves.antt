@@ -1,6 +1,6 @@
 -- Two ascending listings that are put into one row, item by item: the row ascends, and has just what they have.
 use Rattle.wal_base.proofs.Laws.{within_cases, within_head, within_tail}
-use Rattle.std.proofs.Common.{◌≡◌, ◌⊎◌, inl, inr, ◌++◌, List, [], ◌∷◌, Contains, subst, sym, ap, ◌∙◌, refl}
+use Rattle.std.proofs.Common.{◌≡◌, ◌⊎◌, inl, inr, ◌++◌, List, [], ◌∷◌, length, Contains, subst, sym, ap, ◌∙◌, refl, arith}
 use Rattle.disk_face.specs.declared.Side.{Side}
 use Rattle.disk_face.specs.declared.Side.TheVariants.{Primary, Secondary}
 use Rattle.disk_face.specs.declared.SegName.{SegName}
@@ -184,3 +184,25 @@ one_name (h ∷ row) f g up a b e = elim (within_cases h row f a) [
     | inr behind ↦ one_name row f g up.1 later behind e
   ]
 ]
+
+-- ---- of no name
+
+-- nothing is left of no name
+pub none_kept : (names kept : List Listed) → names ≡ [] → ((item : Listed) → Contains kept item → Contains names item) → kept ≡ []
+none_kept names [] none within = refl
+none_kept names (item ∷ kept) none within =
+    let at = within item (0, omega arith, refl) in
+    absurd (omega (arith, at.1, ap (λ (l : List Listed). length l) none))
+
+-- and nothing is woven of it
+pub woven_of_none : (row : List Found) (ones others : List Listed) → Weaves row ones others [] [] → ones ≡ [] → others ≡ [] → row ≡ []
+unfolding Weaves
+woven_of_none [] ones others w none bare = refl
+woven_of_none (f ∷ row) ones others (a, b, inl takes, rest) none bare = absurd (clash (sym takes.1 ∙ none))
+  where
+    clash : item_of f ∷ a ≡ [] → ⊥
+    clash e = cc
+woven_of_none (f ∷ row) ones others (a, b, inr takes, rest) none bare = absurd (clash (sym takes.1 ∙ bare))
+  where
+    clash : item_of f ∷ b ≡ [] → ⊥
+    clash e = cc

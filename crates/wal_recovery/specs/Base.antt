@@ -1,7 +1,8 @@
 -- Batches that are there already, and recovery that goes on from them (docs/formats/journal.md, "Recovery").
-use Rattle.std.specs.Prelude.{◌≡◌, ℕ, List, [], ◌∷◌, ◌++◌}
+use Rattle.std.specs.Prelude.{◌≡◌, ℕ, List, [], ◌∷◌, ◌++◌, All}
 use Rattle.batch_repr.specs.declared.batch.Batch.{Batch}
 use Rattle.batch_repr.specs.Batches.{end_after, IsContiguous}
+use Rattle.batch_repr.specs.Limits.{IsWithinLimits}
 use Rattle.segment_merge.specs.declared.segment.SegmentRead.{SegmentRead}
 use Rattle.disk_face.specs.View.{Dirs}
 use Rattle.wal_recovery.specs.Recovering.{RecoversFrom}
@@ -32,3 +33,11 @@ pub record GoesOnFrom (first : ℕ) (base batches : List Batch) : Type 0 where
   pub merged : List Batch
   pub contiguous : IsContiguous first merged
   pub behind : batches ≡ base ++ merged
+
+-- The keys and values of the batch's entries are within their limits.
+abbrev pub HasEntriesWithin : Batch → Type 0
+HasEntriesWithin batch = All IsWithinLimits batch.entries
+
+-- Those of each batch are.
+abbrev pub AreWithinLimits : List Batch → Type 0
+AreWithinLimits batches = All HasEntriesWithin batches

@@ -19,6 +19,7 @@ use Rattle.wal_recovery.specs.declared.reports.Mode.{Mode}
 use Rattle.wal_recovery.specs.declared.reports.Mode.TheVariants.{Strict}
 use Rattle.wal_recovery.specs.declared.reports.SegReport.{SegReport}
 use Rattle.wal_recovery.specs.declared.wals.FoundWal.{FoundWal}
+use Rattle.wal_recovery.specs.Base.{AreWithinLimits}
 use Rattle.wal_recovery.specs.Listing.{IsListingOf}
 use Rattle.wal_recovery.specs.Recovering.{taking_numbers, Spell, PassesOver}
 use Rattle.wal_recovery.specs.Refused.{HasBadRecord, IsShownCorrupt, by_index}
@@ -67,6 +68,7 @@ pub record AddsSegment (tells : Bool) (mode : Mode) (files : Files) (segment : F
   pub reports : new ≡ old ++ report ∷ []
   pub rows : longer ≡ row ++ read_as index report ∷ []
   pub numbered : IsNumberedReport report
+  pub within : AreWithinLimits report.batches
   pub holds : IsTrue tells → IsAsListed files segment → IsReportOf mode segment (bytes_at files (place_listed segment)) report
 
 -- the batches of reports that take a number
@@ -85,6 +87,7 @@ pub record AddsSegments (tells : Bool) (mode : Mode) (files : Files) (segments :
   pub reports : new ≡ old ++ own
   pub as_many : length own ≡ length segments
   pub numbered : All IsNumberedReport own
+  pub within : All (λ (r : SegReport). AreWithinLimits r.batches) own
   pub holds : IsTrue tells → AreAsListed files segments
       → AllZip (λ (f : Found) (r : SegReport). IsReportOf mode f (bytes_at files (place_listed f)) r) segments own
 

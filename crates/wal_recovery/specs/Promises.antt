@@ -14,6 +14,7 @@ use Rattle.disk_face.specs.Listing.{IsListing, HasLength}
 use Rattle.disk_face.specs.Calls.{SameDisk, MayStart}
 use Rattle.wal_recovery.specs.declared.fault.RecoverFault.{RecoverFault}
 use Rattle.wal_recovery.specs.declared.listing.Found.{Found}
+use Rattle.wal_recovery.specs.declared.listing.Sides.{Sides}
 use Rattle.wal_recovery.specs.declared.merging.Merged.{Merged}
 use Rattle.wal_recovery.specs.declared.reports.Mode.{Mode}
 use Rattle.wal_recovery.specs.declared.reports.Mode.TheVariants.{Strict}
@@ -23,7 +24,7 @@ use Rattle.wal_recovery.specs.declared.reports.Start.{Start}
 use Rattle.wal_recovery.specs.declared.wals.FoundWal.{FoundWal}
 use Rattle.wal_recovery.specs.Listing.{AreByIndex, IsNextWal, from_wal}
 use Rattle.wal_recovery.specs.Recovering.{WalMerges, WalsMerge, RecoversLenientAfter}
-use Rattle.wal_recovery.specs.Base.{front_of, GoesOnFrom}
+use Rattle.wal_recovery.specs.Base.{front_of, GoesOnFrom, AreWithinLimits}
 use Rattle.wal_recovery.specs.Reports.{ReportOnAll, AreReports}
 use Rattle.wal_recovery.specs.Resting.{AreSegmentsStable, IsSynced, OnlySynced, AddsNoImage}
 use Rattle.wal_recovery.specs.Answers.{RecoversBy, RecoversByFrom, IsRefusedBy, IsRefusedByFrom, IsRefusal, DiskMemoryOr, OkOrFailed, ErrOrFailed}
@@ -69,6 +70,14 @@ ReportsOnSegmentsFrom start tells v found = IsTrue tells → AreReports (directo
 abbrev pub HasNoGapFrom : Start → Recovered → Type 0
 HasNoGapFrom start found = GoesOnFrom start.number start.base found.batches
 
+-- Where the entries of the base are within their limits, those of all batches are.
+abbrev pub KeepsLimits : Start → Recovered → Type 0
+KeepsLimits start found = AreWithinLimits start.base → AreWithinLimits found.batches
+
+-- Where both sides list nothing, nothing happens.
+abbrev pub IsQuietIfBare : Sides → DiskView → DiskView → Type 0
+IsQuietIfBare sides old new = sides.primary ≡ [] → sides.secondary ≡ [] → SameDisk old new
+
 -- ---- the same of all segments, from the first number of all
 
 abbrev pub IsWhatRecovers : Bool → Mode → DiskView → Recovered → Type 0
@@ -94,10 +103,6 @@ abbrev pub HasNextWal : Bool → DiskView → Recovered → Type 0
 HasNextWal tells v found = IsTrue tells → IsNextWal (directories v) found.next_wal
 
 -- ---- what happens to the files
-
--- Nothing happens to any file but a sync.
-abbrev pub OnlySyncs : Bool → DiskView → DiskView → Type 0
-OnlySyncs tells old new = IsTrue tells → OnlySynced (files old) (files new)
 
 -- At each moment of the call nothing has happened to any file but a sync.
 abbrev pub OnlySyncsThroughout : Bool → DiskView → DiskView → Type 0

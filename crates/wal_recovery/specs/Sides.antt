@@ -45,6 +45,10 @@ IsAsLongAsListed row sides =
 abbrev pub HasNoByteBelow : ℕ → List Found → Type 0
 HasNoByteBelow least row = (side : Side) (name : SegName) → name.wal < least → length_in_row side name row ≡ 0
 
+-- Where both sides list nothing the row is empty.
+abbrev pub IsBareIf : Sides → List Found → Type 0
+IsBareIf sides row = sides.primary ≡ [] → sides.secondary ≡ [] → row ≡ []
+
 -- The calls made since list no side, ask for no more bytes of each segment than it is listed with and for none of a WAL below this
 -- one, create none, and are not on tables.
 pub record ReadsListed (least : ℕ) (sides : Sides) (old new : DiskView) : Type 0 where

@@ -16,7 +16,7 @@ ghost use Rattle.wal_recovery.specs.Rows.{files_from, RefusesTwice};
 ghost use Rattle.wal_recovery.specs.Gathered.{IsNoDisk};
 ghost use Rattle.wal_recovery.specs.Asking.{AsksOnce, OnlyLists};
 ghost use Rattle.wal_recovery.specs.Sides.{AreSideNames, AreListings, AreSidesOf, ListsBoth, IsAfter};
-ghost use Rattle.wal_recovery.specs.Sides.{IsAsLongAsListed, HasNoByteBelow};
+ghost use Rattle.wal_recovery.specs.Sides.{IsAsLongAsListed, HasNoByteBelow, IsBareIf};
 ghost use Rattle.wal_recovery.specs.Promises.{ListsSideOnce, IsSideListing};
 
 use crate::fault::RecoverFault;
@@ -187,6 +187,7 @@ pub(crate) fn row_from(alloc: Global, sides: &Sides, least: u64) -> Result<Row, 
     ensures numbers { IfOk result (All (λ (f : Found). IsSegmentName f.name)) }
     ensures lengths { IfOk result (λ row. IsAsLongAsListed row sides.now) }
     ensures below { IfOk result (HasNoByteBelow least) }
+    ensures bare { IfOk result (IsBareIf sides.now) }
     ensures no_disk { IfErr result IsNoDisk }
     ensures listed { (files : Files) → AreListings files sides.now
         → IfOk result (λ row. IsRowOf (files_from least files) row) }

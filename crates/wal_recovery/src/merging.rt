@@ -1,7 +1,7 @@
 //! The segments of WALs as rows of batches, and the rows as one list.
 
 ghost use Rattle.std.specs.Prelude.{◌≡◌, ◌≤◌, ◌∷◌, ◌++◌, [], All, Some, IfSome, IfNone, IfOk, IfErr, OnOk};
-ghost use Rattle.wal_recovery.specs.Base.{IsBaseOf, BeginsWith};
+ghost use Rattle.wal_recovery.specs.Base.{IsBaseOf, BeginsWith, AreWithinLimits};
 ghost use Rattle.batch_repr.specs.declared.limits.TheConstants.{NUMBER_MAX};
 ghost use Rattle.batch_repr.specs.Batches.{end_after, IsContiguous};
 ghost use Rattle.segment_merge.specs.Rows.{IsNumbered, IsRow};
@@ -189,6 +189,7 @@ fn merge_wal<D: Disk>(
     ensures calm { OnOk result (NoFaultRose (D.view disk.old) (D.view disk.new)) }
     ensures numbered { IfOk result (All IsNumbered) }
     ensures contiguous { IfOk result (IsContiguous next) }
+    ensures limits { IfOk result AreWithinLimits }
     ensures merged { IfOk result (MergesWal D.tells (D.view disk.old) wal.now next) }
     ensures reports { OnOk result (ReportsOnWal D.tells (D.view disk.old) wal.now reports.old
         reports.new) }
@@ -254,6 +255,7 @@ pub(crate) fn merge_strict<D: Disk>(
     ensures rose { IfErr result (FaultRose (D.view disk.old) (D.view disk.new)) }
     ensures calm { OnOk result (NoFaultRose (D.view disk.old) (D.view disk.new)) }
     ensures contiguous { IfOk result (λ merged. IsContiguous first merged.batches) }
+    ensures limits { IfOk result (λ merged. AreWithinLimits merged.batches) }
     ensures next { IfOk result (λ merged. merged.next ≡ end_after first merged.batches) }
     ensures within { IfOk result (λ merged. merged.next ≤ NUMBER_MAX) }
     ensures merged { IfOk result (MergesWals D.tells (D.view disk.old) wals.now first) }

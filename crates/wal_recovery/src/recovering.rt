@@ -1,6 +1,6 @@
 //! Recovery as a whole.
 
-ghost use Rattle.std.specs.Prelude.{◌≡◌, ◌≤◌, ℕ, All, IfOk, IfErr, OnOk, IsTrue};
+ghost use Rattle.std.specs.Prelude.{◌≡◌, ◌≤◌, ℕ, [], All, IfOk, IfErr, OnOk, IsTrue};
 ghost use Rattle.batch_repr.specs.declared.limits.TheConstants.{NUMBER_FIRST, NUMBER_MAX};
 ghost use Rattle.batch_repr.specs.Batches.{end_after};
 ghost use Rattle.disk_face.specs.View.{files, NothingInFlight};
@@ -19,7 +19,8 @@ ghost use Rattle.wal_recovery.specs.Promises.{IsRowFrom, ReportsOnSegmentsFrom, 
 ghost use Rattle.wal_recovery.specs.Promises.{IsWhatRecovers, FindsWhatRecovers};
 ghost use Rattle.wal_recovery.specs.Promises.{IsReasonToRefuse, AnswersRefusal};
 ghost use Rattle.wal_recovery.specs.Promises.{ReportsOnSegments, HasNextWal, HasNoGap};
-ghost use Rattle.wal_recovery.specs.Promises.{OnlySyncs, OnlySyncsThroughout, AddsNoImageThroughout};
+ghost use Rattle.wal_recovery.specs.Promises.{OnlySyncsThroughout, AddsNoImageThroughout};
+ghost use Rattle.wal_recovery.specs.Promises.{KeepsLimits, IsQuietIfBare};
 ghost use Rattle.wal_recovery.specs.Promises.{StabilizesRestedFrom, StabilizesIfStrictFrom};
 ghost use Rattle.wal_recovery.specs.Promises.{StabilizesIfStrict, UntouchedIfRefused};
 
@@ -56,6 +57,8 @@ fn recover_strict<D: Disk>(
     ensures refused { IfErr result (IsReasonToRefuseFrom start D.tells Strict (D.view disk.old)) }
     ensures reports { IfOk result (ReportsOnSegmentsFrom start D.tells (D.view disk.old)) }
     ensures contiguous { IfOk result (HasNoGapFrom start) }
+    ensures limits { IfOk result (KeepsLimits start) }
+    ensures none { segments.now ≡ [] → SameDisk (D.view disk.old) (D.view disk.new) }
     ensures within { IfOk result (λ found. found.next ≤ NUMBER_MAX) }
     ensures next { IfOk result (λ found. found.next ≡ end_after start.number found.batches) }
     ensures next_wal { IfOk result (λ found. found.next_wal ≡ next_wal) }
@@ -157,6 +160,7 @@ pub fn recover_listed<D: Disk>(
     // The base and the numbers, also where the disk does not tell its files.
     ensures begins { IfOk result (λ found. BeginsWith start.base found.batches) }
     ensures contiguous { mode ≡ Strict → IfOk result (HasNoGapFrom start) }
+    ensures limits { mode ≡ Strict → IfOk result (KeepsLimits start) }
     ensures within { IfOk result (λ found. found.next ≤ NUMBER_MAX) }
 
     // The calls, of any disk: of each segment no more bytes are asked for than it is listed with, and none below the start.
@@ -164,11 +168,12 @@ pub fn recover_listed<D: Disk>(
 
     // The files: nothing happens to any but a sync, so a crash may leave nothing new; refused directories are not touched, and what was read is stable where no gap is accepted.
     ensures each_moment { AddsNoImageThroughout D.tells (D.view disk.old) (D.view disk.new) }
-    ensures files { OnlySyncs D.tells (D.view disk.old) (D.view disk.new) }
+    ensures files { OnlySyncsThroughout D.tells (D.view disk.old) (D.view disk.new) }
     ensures stable { OnOk result (StabilizesIfStrictFrom start D.tells mode (D.view disk.old)
         (D.view disk.new)) }
     ensures untouched { IfErr result (UntouchedIfRefused (D.view disk.old) (D.view disk.new)) }
     ensures starts_nothing { mode ≡ Lenient → SameDisk (D.view disk.old) (D.view disk.new) }
+    ensures quiet { IsQuietIfBare sides.now (D.view disk.old) (D.view disk.new) }
 {
     let segments = row_from(alloc, sides, start.wal)?;
     let next_wal = next_wal(sides);
@@ -208,7 +213,7 @@ pub fn recover<D: Disk>(alloc: Global, disk: &mut D, mode: Mode) -> Result<Recov
 
     // The files: nothing happens to any but a sync, so a crash may leave nothing new; refused directories are not touched, and what was read is stable where no gap is accepted.
     ensures each_moment { AddsNoImageThroughout D.tells (D.view disk.old) (D.view disk.new) }
-    ensures files { OnlySyncs D.tells (D.view disk.old) (D.view disk.new) }
+    ensures files { OnlySyncsThroughout D.tells (D.view disk.old) (D.view disk.new) }
     ensures stable { OnOk result (StabilizesIfStrict D.tells mode (D.view disk.old)
         (D.view disk.new)) }
     ensures untouched { IfErr result (UntouchedIfRefused (D.view disk.old) (D.view disk.new)) }

@@ -1,8 +1,8 @@
 //! Syncs of what was read.
 
-ghost use Rattle.std.specs.Prelude.{[], IfErr, IsSome, IsTrue, OnOk};
+ghost use Rattle.std.specs.Prelude.{◌≡◌, [], IfErr, IsSome, IsTrue, OnOk};
 ghost use Rattle.disk_face.specs.View.{NothingInFlight};
-ghost use Rattle.disk_face.specs.Calls.{GoesOn};
+ghost use Rattle.disk_face.specs.Calls.{GoesOn, SameDisk};
 ghost use Rattle.wal_recovery.specs.Answers.{FaultRose, NoFaultRose};
 ghost use Rattle.wal_recovery.specs.Rows.{IsDiskOrMemory};
 ghost use Rattle.wal_recovery.specs.Resting.{EndsBy};
@@ -69,6 +69,7 @@ pub(crate) fn sync_all<D: Disk>(disk: &mut D, segments: &[Found]) -> Result<(), 
     ensures calm { OnOk result (NoFaultRose (D.view disk.old) (D.view disk.new)) }
     ensures each_moment { OnlySyncsThroughout D.tells (D.view disk.old) (D.view disk.new) }
     ensures synced { OnOk result (HasSyncedEach D.tells (D.view disk.new) segments.now) }
+    ensures none { segments.now ≡ [] → SameDisk (D.view disk.old) (D.view disk.new) }
 {
     for segment in segments {
         sync(disk, *segment)?;

@@ -1,13 +1,14 @@
 -- What recovery answers where the directories do not recover, as it is said, and when it has to be.
-use Rattle.std.proofs.Common.{◌≡◌, ℕ, Bool, true, false, List, Option, None, IsTrue, refl, sym, subst}
+use Rattle.std.proofs.Common.{◌≡◌, ℕ, Bool, true, false, List, Option, None, IsTrue, refl, sym, arith, subst}
 use Rattle.disk_face.specs.View.{DiskView, files, NothingInFlight}
 use Rattle.disk_face.specs.Image.{directories}
-use Rattle.disk_face.specs.Calls.{SameDisk}
+use Rattle.disk_face.specs.Calls.{GoesOn, SameDisk}
 use Rattle.wal_recovery.specs.declared.reports.Mode.{Mode}
 use Rattle.wal_recovery.specs.declared.fault.RecoverFault.{RecoverFault}
 use Rattle.wal_recovery.specs.declared.fault.RecoverFault.TheVariants as faults
 use Rattle.wal_recovery.specs.Resting.{OnlySynced}
 use Rattle.wal_recovery.specs.Answers.{IsRefusal, FaultRose, DiskMemoryOr}
+use Rattle.wal_recovery.specs.Promises.{OnlySyncsThroughout}
 use Rattle.flush_table.specs.declared.reports.StoreRead.{StoreRead}
 use Rattle.flush_table.specs.Stores.{Used, StoreOf, IsStoreRefused, TellsUsed}
 use Rattle.flush_table.specs.Promises.{IsStoreRead}
@@ -18,6 +19,15 @@ use Rattle.wal_top.specs.Call.{Change}
 use Rattle.wal_top.specs.Recovery.{refusal_text, FailsRecovery, RefusesDirectories, SaysUnrecovered, IsToRefuse, ReadsStore, HasStoreToShow, SaysShown, ShownIsDue}
 use Rattle.wal_top.specs.Faults.{SaysFault}
 use Rattle.wal_top.specs.Rightly.{IsOfCommand, IsTheDue}
+
+-- ---- what recovery does to the files
+
+-- what happened to them at each moment has happened at the last
+pub synced_now : (tells : Bool) (old new : DiskView) → GoesOn old new → OnlySyncsThroughout tells old new → IsTrue tells
+    → OnlySynced (files old) (files new)
+synced_now tells old new goes each told = each told new.clock goes.clock (omega arith)
+
+-- ---- directories that do not recover
 
 module _ (mode : Mode) (tells : Bool) (disk : Change DiskView) (text : List ℕ) where
   -- what holds of both answers holds of the status

@@ -1,6 +1,6 @@
 -- Before the segments are read nothing changes: so what is said of the directories then holds of them as they were. Recovery begins above
 -- the table that was found, which is the used one.
-use Rattle.std.proofs.Common.{◌≡◌, ◌≤◌, List, Result, Err, IsTrue, sym, subst, ◌∙◌, rules}
+use Rattle.std.proofs.Common.{◌≡◌, ◌≤◌, List, Result, Err, IsTrue, sym, subst, ◌∙◌, arith, rules}
 use Rattle.std.specs.Prelude.{IfErr}
 use Rattle.batch_repr.specs.declared.limits.TheConstants.{NUMBER_MAX}
 use Rattle.disk_face.specs.declared.TableListed.{TableListed}
@@ -10,7 +10,7 @@ use Rattle.disk_face.proofs.Laws.{goes_on_further, same_files, same_further}
 use Rattle.wal_recovery.specs.declared.fault.RecoverFault.{RecoverFault}
 use Rattle.wal_recovery.specs.declared.reports.Start.{Start}
 use Rattle.wal_recovery.specs.Answers.{DiskMemoryOr, FaultRose}
-use Rattle.wal_recovery.specs.Base.{IsBaseOf}
+use Rattle.wal_recovery.specs.Base.{IsBaseOf, AreWithinLimits}
 use Rattle.wal_recovery.specs.Listing.{IsNextWal}
 use Rattle.wal_recovery.specs.Promises.{UntouchedIfRefused}
 use Rattle.wal_recovery.specs.Resting.{AddsNoImage, OnlySynced}
@@ -22,7 +22,8 @@ use Rattle.flush_table.specs.Reading.{IsAfterTables, least_read}
 use Rattle.flush_table.specs.Promises.{FoundOrFailed, RefusedOrFailed}
 use Rattle.flush_table.proofs.Asks.{begins_then, lists_in_turn, reads_none_below}
 use Rattle.flush_table.proofs.NextWal.{next_is}
-use Rattle.flush_table.proofs.Starting.{is_base, number_within, spares_seen}
+use Rattle.flush_table.proofs.SameAnswers.{answers_read}
+use Rattle.flush_table.proofs.Starting.{is_base, base_within, number_within, spares_seen}
 use Rattle.flush_table.proofs.Answering.{IsRefusedAt, reports_from, next_from, stable_from, begins_seen, ends_seen, no_gap_seen}
 use Rattle.flush_table.proofs.Answering.{recovered_store, store_recovered, refused_store, store_refused}
 use Rattle.flush_table.proofs.Answering.{failed_or, failed_found, failed_refused, or_for, fault_found, fault_refused, rose_since}
@@ -58,7 +59,7 @@ pub returns-in_err-begun-clause-refusal : goal.returns-in_err-begun-clause-refus
 returns-in_err-begun-clause-refusal g c = λ told refusal refused.
     let fault = c.in_err-begun.field-0.0 in
     let is : c.from_residual.result ≡ Err fault = search rules in
-    subst (λ (r : Result StoreRead RecoverFault). RefusedOrFailed r refusal) (sym is) (failed_refused fault refusal c.in_err-begun.ensures.fault)
+    subst (λ (r : Result StoreRead RecoverFault). RefusedOrFailed r refusal) (sym is) (failed_refused StoreRead fault refusal c.in_err-begun.ensures.fault)
 
 -- ---- the segments are refused
 
@@ -108,7 +109,7 @@ returns-in_err-found-clause-refusal g c = λ told refusal refused.
     let fault = c.in_err-found.field-0.0 in
     let is : c.from_residual-in_err-found.result ≡ Err fault = search rules in
     subst (λ (r : Result StoreRead RecoverFault). RefusedOrFailed r refusal) (sym is)
-    (fault_refused fault refusal (c.in_err-found.ensures.refusal told refusal
+    (fault_refused StoreRead fault refusal (c.in_err-found.ensures.refusal told refusal
     (store_refused c.args.mode (files old) (files mid) (same_files old mid c.in_ok-begun.ensures.same) c.in_ok-begun.begun.used
     c.start_of-start.result c.start_of-start.ensures c.seen_of-seen.result c.seen_of-seen.ensures (c.in_ok-begun.ensures.used told) refusal refused)))
 
@@ -124,8 +125,8 @@ returns-in_err-found-clause-each_moment g c = λ told.
 
 pub returns-in_err-found-clause-files : goal.returns-in_err-found-clause-files
 returns-in_err-found-clause-files g c = λ told.
-    subst (λ (fs : Files). OnlySynced fs (files (g.D.Disk.view c.recover_listed.new.disk)))
-    (same_files (g.D.Disk.view c.args.disk.now) (g.D.Disk.view c.begin.new.disk) c.in_ok-begun.ensures.same) (c.recover_listed.ensures.files told)
+    same_then (g.D.Disk.view c.args.disk.now) (g.D.Disk.view c.begin.new.disk) (g.D.Disk.view c.recover_listed.new.disk) OnlySynced
+    c.in_ok-begun.ensures.same (c.recover_listed.ensures.files told)
 
 pub returns-in_err-found-clause-untouched : goal.returns-in_err-found-clause-untouched
 returns-in_err-found-clause-untouched g c =
@@ -233,6 +234,16 @@ returns-clause-numbered g c = λ strict.
     c.start_of-start.result c.start_of-start.ensures c.seen_of-seen.result c.seen_of-seen.ensures c.in_ok-begun.ensures.some
     c.in_ok-found.found.batches (c.in_ok-found.ensures.contiguous strict) c.in_ok-found.found.next c.in_ok-found.ensures.next
 
+pub returns-clause-limits : goal.returns-clause-limits
+returns-clause-limits g c = λ strict.
+    c.in_ok-found.ensures.limits strict
+    (subst (λ (s : Start). AreWithinLimits s.base) (sym c.start_of-start.ensures) (base_within c.in_ok-begun.begun.used c.in_ok-begun.ensures.some))
+
+pub returns-clause-quiet : goal.returns-clause-quiet
+returns-clause-quiet g c = λ none bare.
+    same_further (g.D.Disk.view c.args.disk.now) (g.D.Disk.view c.begin.new.disk) (g.D.Disk.view c.recover_listed.new.disk)
+    c.in_ok-begun.ensures.same (c.recover_listed.ensures.quiet none bare)
+
 pub returns-clause-within : goal.returns-clause-within
 returns-clause-within g c = c.in_ok-found.ensures.within
 
@@ -268,8 +279,8 @@ returns-clause-each_moment g c = λ told.
 
 pub returns-clause-files : goal.returns-clause-files
 returns-clause-files g c = λ told.
-    subst (λ (fs : Files). OnlySynced fs (files (g.D.Disk.view c.recover_listed.new.disk)))
-    (same_files (g.D.Disk.view c.args.disk.now) (g.D.Disk.view c.begin.new.disk) c.in_ok-begun.ensures.same) (c.recover_listed.ensures.files told)
+    same_then (g.D.Disk.view c.args.disk.now) (g.D.Disk.view c.begin.new.disk) (g.D.Disk.view c.recover_listed.new.disk) OnlySynced
+    c.in_ok-begun.ensures.same (c.recover_listed.ensures.files told)
 
 pub returns-clause-stable : goal.returns-clause-stable
 returns-clause-stable g c = λ told strict.
@@ -283,3 +294,11 @@ pub returns-clause-starts_nothing : goal.returns-clause-starts_nothing
 returns-clause-starts_nothing g c = λ lenient.
     same_further (g.D.Disk.view c.args.disk.now) (g.D.Disk.view c.begin.new.disk) (g.D.Disk.view c.recover_listed.new.disk)
     c.in_ok-begun.ensures.same (c.recover_listed.ensures.starts_nothing lenient)
+
+pub returns-clause-answers : goal.returns-clause-answers
+returns-clause-answers g c = λ told strict rested.
+    let old = g.D.Disk.view c.args.disk.now in
+    let new = g.D.Disk.view c.recover_listed.new.disk in
+    answers_read c.args.mode strict (files old) (files new) rested
+    (returns-clause-files g c told new.clock (returns-clause-goes_on g c).clock (omega arith)) c.seen_of-seen.result c.in_ok-found.found.batches
+    c.in_ok-found.found.next (returns-clause-next g c) (returns-clause-stable g c told strict rested) (returns-clause-recovered g c told)

@@ -1,5 +1,5 @@
 -- The names that are left of both listings are those of what is left of the files, so the row that is woven of them is theirs.
-use Rattle.std.proofs.Common.{◌≤◌, [], All, Contains, List, sym, subst}
+use Rattle.std.proofs.Common.{◌≡◌, ◌≤◌, ◌∙◌, [], All, Contains, List, sym, subst}
 use Rattle.std.proofs.lemmas.List.Elements.{Contains-get_or}
 use Rattle.disk_face.specs.declared.Side.TheVariants.{Primary, Secondary}
 use Rattle.disk_face.specs.declared.SegName.{SegName}
@@ -12,9 +12,9 @@ use Rattle.wal_recovery.specs.declared.listing.Found.{Found}
 use Rattle.wal_recovery.specs.Listing.{from_wal}
 use Rattle.wal_recovery.specs.Answers.{DiskMemoryOr}
 use Rattle.wal_recovery.specs.Rows.{Ascends, IsRowOf, Weaves, files_from, RefusesTwice, MeetsOrMemory}
-use Rattle.wal_recovery.specs.Sides.{AreListings, IsAsLongAsListed, HasNoByteBelow}
+use Rattle.wal_recovery.specs.Sides.{AreListings, IsAsLongAsListed, HasNoByteBelow, IsBareIf}
 use Rattle.wal_recovery.proofs.Tools.{ok_map, err_map}
-use Rattle.wal_recovery.proofs.Weaves.{row_ascends}
+use Rattle.wal_recovery.proofs.Weaves.{row_ascends, none_kept, woven_of_none}
 use Rattle.wal_recovery.proofs.IsListing.{both_listed, row_of, met_refused, row_named, AreListed}
 use Rattle.wal_recovery.proofs.From.{dirs_left, listing_left}
 use Rattle.wal_recovery.proofs.ReadsOnly.{as_long_as_listed, none_below}
@@ -61,6 +61,16 @@ returns-clause-below c =
     let others = c.names_from-secondary.result.now in
     ok_map (λ (row : List Found). Weaves row ones others [] []) (HasNoByteBelow c.args.least) c.in_order.result
     (λ row w. none_below row c.args.least ones others w c.names_from-primary.ensures.from c.names_from-secondary.ensures.from)
+    c.in_order.ensures.woven
+
+pub returns-clause-bare : goal.returns-clause-bare
+returns-clause-bare c =
+    let ones = c.names_from-primary.result.now in
+    let others = c.names_from-secondary.result.now in
+    ok_map (λ (row : List Found). Weaves row ones others [] []) (IsBareIf c.args.sides.now) c.in_order.result
+    (λ row w none bare. woven_of_none row ones others w
+    (none_kept c.as_slice.result.now ones (c.as_slice.ensures ∙ none) c.names_from-primary.ensures.within)
+    (none_kept c.as_slice-2.result.now others (c.as_slice-2.ensures ∙ bare) c.names_from-secondary.ensures.within))
     c.in_order.ensures.woven
 
 listed : (c : After-in_order) (files : Files) → AreListings files c.args.sides.now

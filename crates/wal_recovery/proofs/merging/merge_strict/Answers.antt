@@ -2,6 +2,7 @@
 use Rattle.batch_repr.proofs.Laws.{contiguous_append, end_append}
 use Rattle.std.proofs.Common.{◌≡◌, ℕ, map, List, length, take_all, ◌++◌, [], Err, IsTrue, All, sym, subst, ap, ◌∙◌, rules, arith}
 use Rattle.std.specs.Prelude.{IfErr, Result}
+use Rattle.std.proofs.lemmas.List.Elements.{All-nil, All-append}
 use Rattle.batch_repr.specs.Batches.{end_after, IsContiguous}
 use Rattle.segment_merge.specs.Rows.{IsNumbered}
 use Rattle.disk_face.specs.View.{Dirs, Files, files}
@@ -10,6 +11,7 @@ use Rattle.wal_recovery.specs.declared.fault.RecoverFault.{RecoverFault}
 use Rattle.wal_recovery.specs.declared.merging.Merged.{Merged}
 use Rattle.wal_recovery.specs.declared.wals.FoundWal.{FoundWal}
 use Rattle.wal_recovery.specs.Listing.{AreByIndex}
+use Rattle.wal_recovery.specs.Base.{HasEntriesWithin, AreWithinLimits}
 use Rattle.wal_recovery.specs.Recovering.{WalMerges, WalsMerge}
 use Rattle.wal_recovery.specs.Refused.{IsRefusedFrom}
 use Rattle.wal_recovery.specs.Reports.{ReportOnAll}
@@ -35,6 +37,7 @@ loop-wal-init g c =
       asks = reads_none [] v;
       next = sym (ap (end_after c.args.first) c.new-batches.ensures);
       contiguous = subst (IsContiguous c.args.first) (sym c.new-batches.ensures) tt;
+      limits = subst AreWithinLimits (sym c.new-batches.ensures) (All-nil HasEntriesWithin);
       within = c.requires.number;
       merged = λ told dirs listed. subst (WalsMerge c.args.first []) (sym c.new-batches.ensures) (merged_none (files v) c.args.wals.now c.args.first);
       reports = λ told dirs listed. subst (ReportOnAll []) (sym c.requires.none) (reports_none (files v) c.args.wals.now);
@@ -75,6 +78,8 @@ loop-wal-preserved g c =
       contiguous = subst (IsContiguous c.args.first) (sym longer)
           (contiguous_append c.args.first c.loop-wal.batches own c.loop-wal.invariant.contiguous
           (subst (λ (n : ℕ). IsContiguous n own) c.loop-wal.invariant.next c.in_ok-own.ensures.contiguous));
+      limits = subst AreWithinLimits (sym longer)
+          (All-append HasEntriesWithin c.loop-wal.batches own c.loop-wal.invariant.limits c.in_ok-own.ensures.limits);
       within = let low = end_within c.loop-wal.next own c.loop-wal.invariant.within c.in_ok-own.ensures.numbered in omega (arith, low, ends);
       merged = λ told dirs listed. merged_at (files first) c.args.wals.now c.loop-wal.wal-index c.wal-item.result at dirs c.args.first c.loop-wal.next
           c.loop-wal.batches own c.append.new.batches c.loop-wal.invariant.next longer

@@ -4,6 +4,7 @@ use Rattle.batch_repr.specs.declared.limits.TheConstants.{NUMBER_MAX}
 use Rattle.batch_repr.specs.Batches.{end_after, IsContiguous}
 use Rattle.disk_face.specs.View.{Dirs, files}
 use Rattle.disk_face.specs.Calls.{GoesOn, SameDisk}
+use Rattle.wal_recovery.specs.Base.{AreWithinLimits}
 use Rattle.wal_recovery.specs.Recovering.{WalsMerge}
 use Rattle.wal_recovery.specs.Reports.{ReportOnAll}
 use Rattle.wal_recovery.specs.Rows.{wals_in}
@@ -20,6 +21,7 @@ invariant-loop-wal g l = record {
   calm : NoFaultRose (g.D.Disk.view l.initial.disk) (g.D.Disk.view l.disk);
   next : l.next ≡ end_after l.fn.first l.batches;
   contiguous : IsContiguous l.fn.first l.batches;
+  limits : AreWithinLimits l.batches;
   within : l.next ≤ NUMBER_MAX;
   merged : IsTrue g.D.Disk.tells → (dirs : Dirs) → AreListedWals dirs (files (g.D.Disk.view l.initial.disk)) l.fn.wals
       → WalsMerge l.fn.first (wals_in (files (g.D.Disk.view l.initial.disk)) (take l.wal-index l.fn.wals)) l.batches;

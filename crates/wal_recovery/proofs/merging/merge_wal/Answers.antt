@@ -10,6 +10,7 @@ use Rattle.wal_recovery.specs.Rows.{wal_in}
 use Rattle.wal_recovery.specs.Gathered.{AreAsListed}
 use Rattle.wal_recovery.specs.OneWal.{IsRefusedWal}
 use Rattle.wal_recovery.proofs.ReportOnAll.{merged_numbered}
+use Rattle.wal_recovery.proofs.WithinLimits.{merged_within}
 use Rattle.wal_recovery.proofs.OneWal.{named_rose, wal_reports, row_merged, row_refused, read_refused}
 use Rattle.wal_recovery.proofs.merging.merge_wal.Goals as goal
 
@@ -23,6 +24,11 @@ returns-in_err-row-clause-refused g c =
 
 pub returns-in-Ok-clause-numbered : goal.returns-in-Ok-clause-numbered
 returns-in-Ok-clause-numbered g c = merged_numbered c.args.next c.in_ok-row.row c.in-Ok.own c.in_ok-row.ensures.row c.in-Ok.ensures.found
+
+pub returns-in-Ok-clause-limits : goal.returns-in-Ok-clause-limits
+returns-in-Ok-clause-limits g c =
+    merged_within g.D.Disk.tells Strict (files (g.D.Disk.view c.args.disk.now)) c.args.wal.now.segments.items c.args.reports.now
+    c.read_wal.new.reports c.in_ok-row.row c.args.next c.in-Ok.own c.in_ok-row.ensures.gathered c.in-Ok.ensures.found
 
 pub returns-in-Ok-clause-merged : goal.returns-in-Ok-clause-merged
 returns-in-Ok-clause-merged g c =

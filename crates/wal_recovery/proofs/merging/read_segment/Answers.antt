@@ -9,6 +9,7 @@ use Rattle.wal_recovery.specs.Answers.{DiskMemoryOr}
 use Rattle.wal_recovery.specs.Rows.{place_listed, bytes_at}
 use Rattle.wal_recovery.specs.Gathered.{IsAsListed, IsReportOf, IsBadIn}
 use Rattle.wal_recovery.proofs.Spell.{counted_numbered}
+use Rattle.wal_recovery.proofs.WithinLimits.{spelled_within}
 use Rattle.wal_recovery.proofs.merging.read_segment.Goals as goal
 
 pub returns-in_err-report-clause-bad : goal.returns-in_err-report-clause-bad
@@ -28,5 +29,6 @@ returns-clause-added g c =
       reports = reports;
       rows = pushed ∙ ap (λ (b : List Batch). c.args.row.now ++ record { index = c.args.index; batches = b } ∷ []) copies;
       numbered = counted_numbered c.in_ok-report.ensures.report.read.records c.in_ok-report.report.batches c.in_ok-report.ensures.report.batches;
+      within = spelled_within c.in_ok-report.ensures.report.read.records c.in_ok-report.report.batches c.in_ok-report.ensures.report.batches;
       holds = λ told listed. subst (λ (bytes : List ℕ). IsReportOf c.args.mode c.args.segment bytes c.in_ok-report.report) (c.in_ok-bytes.ensures.bytes told listed) c.in_ok-report.ensures.report;
     }

@@ -5,11 +5,13 @@ use Rattle.batch_repr.specs.Batches.{end_after}
 use Rattle.disk_face.specs.View.{Files, files, syncing, AtEachMoment}
 use Rattle.disk_face.specs.Image.{dirs_as_read}
 use Rattle.disk_face.specs.Calls.{MayStart}
-use Rattle.disk_face.proofs.Laws.{same_files}
+use Rattle.disk_face.proofs.Laws.{same_files, same_further}
 use Rattle.wal_recovery.specs.declared.fault.RecoverFault.{RecoverFault}
 use Rattle.wal_recovery.specs.declared.listing.Found.{Found}
 use Rattle.wal_recovery.specs.declared.reports.Mode.TheVariants.{Strict}
 use Rattle.wal_recovery.specs.declared.reports.Recovered.{Recovered}
+use Rattle.std.proofs.lemmas.List.Elements.{All-append}
+use Rattle.wal_recovery.specs.Base.{HasEntriesWithin, AreWithinLimits}
 use Rattle.wal_recovery.specs.Resting.{OnlySynced}
 use Rattle.wal_recovery.specs.Answers.{IsRefusedByFrom, DiskMemoryOr}
 use Rattle.wal_recovery.specs.Listing.{from_wal}
@@ -74,6 +76,21 @@ returns-clause-contiguous g c = record {
   contiguous = c.in_ok-merged.ensures.contiguous;
   behind = c.in_ok-append.ensures.added;
 }
+
+pub returns-clause-limits : goal.returns-clause-limits
+returns-clause-limits g c = λ base.
+    subst AreWithinLimits (sym c.in_ok-append.ensures.added)
+    (All-append HasEntriesWithin c.args.start.base c.in_ok-merged.merged.batches base c.in_ok-merged.ensures.limits)
+
+pub returns-in_err-sync_all-clause-none : goal.returns-in_err-sync_all-clause-none
+returns-in_err-sync_all-clause-none g c = λ none.
+    same_further (g.D.Disk.view c.args.disk.now) (g.D.Disk.view c.merge_strict.new.disk) (g.D.Disk.view c.sync_all.new.disk)
+    c.in_ok-merged.ensures.same (c.in_err-sync_all.ensures.none none)
+
+pub returns-clause-none : goal.returns-clause-none
+returns-clause-none g c = λ none.
+    same_further (g.D.Disk.view c.args.disk.now) (g.D.Disk.view c.merge_strict.new.disk) (g.D.Disk.view c.sync_all.new.disk)
+    c.in_ok-merged.ensures.same (c.in_ok-sync_all.ensures.none none)
 
 pub returns-clause-next : goal.returns-clause-next
 returns-clause-next g c =

@@ -1,4 +1,4 @@
-use Rattle.std.proofs.Common.{All, List, subst, arith, take_all}
+use Rattle.std.proofs.Common.{◌≡◌, ◌<◌, ℕ, [], All, List, length, subst, ap, arith, take_all}
 use Rattle.disk_face.specs.View.{files}
 use Rattle.disk_face.proofs.Laws.{goes_on_further}
 use Rattle.wal_recovery.specs.declared.listing.Found.{Found}
@@ -9,6 +9,9 @@ use Rattle.wal_recovery.proofs.ReadsOnly.{reads_nothing}
 use Rattle.wal_recovery.proofs.Calm.{calm_further}
 use Rattle.wal_recovery.proofs.syncing.sync_all.Goals as goal
 
+no_place : (segments : List Found) → segments ≡ [] → {i : ℕ} → i < length segments → ⊥
+no_place segments none lt = omega (arith, lt, ap (λ (l : List Found). length l) none)
+
 pub loop-segment-preserved : goal.loop-segment-preserved
 loop-segment-preserved g c =
     let first = g.D.Disk.view c.args.disk.now in
@@ -17,6 +20,7 @@ loop-segment-preserved g c =
     record {
       goes = goes_on_further first mid new c.loop-segment.invariant.goes c.in_ok-sync.ensures.goes_on;
       asks = reads_nothing first mid new c.loop-segment.invariant.asks c.in_ok-sync.ensures.asks;
+      none = λ none. absurd (no_place c.args.segments.now none c.loop-segment-test.true);
       idle = c.in_ok-sync.ensures.idle;
       calm = calm_further first mid new c.loop-segment.invariant.calm c.in_ok-sync.ensures.calm;
       moments = λ told. moments_of_both first mid new c.loop-segment.invariant.goes c.in_ok-sync.ensures.goes_on

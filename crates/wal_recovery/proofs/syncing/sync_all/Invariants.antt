@@ -1,6 +1,6 @@
-use Rattle.std.proofs.Common.{[], All, IsTrue, take}
+use Rattle.std.proofs.Common.{◌≡◌, [], All, IsTrue, take}
 use Rattle.disk_face.specs.View.{files, NothingInFlight, AtEachMoment}
-use Rattle.disk_face.specs.Calls.{GoesOn}
+use Rattle.disk_face.specs.Calls.{GoesOn, SameDisk}
 use Rattle.wal_recovery.specs.declared.listing.Found.{Found}
 use Rattle.wal_recovery.specs.Rows.{place_listed}
 use Rattle.wal_recovery.specs.Resting.{IsSynced, OnlySynced}
@@ -12,6 +12,7 @@ abbrev pub invariant-loop-segment : goal.invariant-loop-segment
 invariant-loop-segment g l = record {
   goes : GoesOn (g.D.Disk.view l.initial.disk) (g.D.Disk.view l.disk);
   asks : ReadsOnly [] (g.D.Disk.view l.initial.disk) (g.D.Disk.view l.disk);
+  none : l.segments ≡ [] → SameDisk (g.D.Disk.view l.initial.disk) (g.D.Disk.view l.disk);
   idle : NothingInFlight (g.D.Disk.view l.disk);
   calm : NoFaultRose (g.D.Disk.view l.initial.disk) (g.D.Disk.view l.disk);
   moments : IsTrue g.D.Disk.tells → AtEachMoment ((g.D.Disk.view l.initial.disk).clock) (g.D.Disk.view l.disk)

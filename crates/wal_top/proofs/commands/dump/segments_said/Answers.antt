@@ -4,7 +4,7 @@ use Rattle.wal_recovery.specs.declared.reports.Mode.TheVariants.{Lenient}
 use Rattle.wal_top.specs.Call.{change_in}
 use Rattle.wal_top.specs.Dump.{segments_text, used_text}
 use Rattle.wal_top.proofs.Saying.{ok_map}
-use Rattle.wal_top.proofs.Recovery.{reads_store, says_unrecovered}
+use Rattle.wal_top.proofs.Recovery.{reads_store, says_unrecovered, synced_now}
 use Rattle.wal_top.proofs.Dump.{says_segments, says_no_segments}
 use Rattle.wal_top.proofs.commands.dump.segments_said.Goals as goal
 
@@ -23,4 +23,4 @@ returns-in-Err-clause-says g c =
     let e = c.in-Err.ensures in
     let over = change_in g.D.Disk.view c.args.disk.now c.recover_store.new.disk in
     ok_map c.unrecovered.result c.unrecovered.ensures (λ said p. says_no_segments g.D.Disk.tells over said.text said.status
-    (says_unrecovered Lenient g.D.Disk.tells over said.text e.files e.idle c.in-Err.fault said.status p e.disk e.refused e.untouched))
+    (says_unrecovered Lenient g.D.Disk.tells over said.text (synced_now g.D.Disk.tells over.before over.after e.goes_on e.files) e.idle c.in-Err.fault said.status p e.disk e.refused e.untouched))

@@ -11,11 +11,16 @@ use Rattle.crc_chunk.specs.declared.chunk.ChunkKind.{ChunkKind}
 use Rattle.crc_chunk.specs.declared.chunk.ChunkKind.TheVariants.{Full, First, Middle, Last}
 use Rattle.crc_chunk.specs.Chunk.{Chunk, sync_chunk, header_with, header_len, chunk_len, OffsetFits, chunk_bytes, ChunkAt}
 use Rattle.crc_chunk.proofs.Laws.{fields_of, header_bounds, one_chunk, payload_at, within_segment}
-use Rattle.disk_face.proofs.Laws.{same_number}
 use Rattle.block_record.specs.declared.records.ReadOut.{ReadOut}
 use Rattle.block_record.specs.declared.records.Shown.{Shown}
 use Rattle.block_record.specs.ReadOut.{NoChunkAt, MayFollow, leaves_open, chunk_end, place_after, Spelled, after_link, nothing, block_front, IsChunkRow, CoversMore, ShowsCorrupt, TellsShown, ReadsOut}
-use Rattle.block_record.proofs.Laws.{LeftToRead, left_first, left_next, all_read, not_before}
+use Rattle.block_record.proofs.Chains.{LeftToRead, left_first, left_next, all_read, not_before}
+
+same_number : (a b : ℕ) → (a ≡ b) ⊎ (a ≢ b)
+same_number a b = elim (dec_le a b) [
+  | yes le ↦ elim (dec_le b a) [ yes ge ↦ inl (omega (arith, le, ge)) | no h ↦ inr (λ e. h (omega (arith, e))) ]
+  | no h ↦ inr (λ e. h (omega (arith, e)))
+]
 
 same_bytes : (a b : List ℕ) → (a ≡ b) ⊎ (a ≢ b)
 same_bytes [] [] = inl refl
