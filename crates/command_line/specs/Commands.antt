@@ -2,7 +2,7 @@
 use Rattle.std.specs.Prelude.{◌≡◌, ℕ, ◌-◌, ◌^◌, List, [], ◌∷◌, ◌++◌, codes}
 use Rattle.stall_monitor.specs.declared.verdict.TheConstants.{THRESHOLD_MAX}
 use Rattle.command_line.specs.declared.command.Command.{Command}
-use Rattle.command_line.specs.declared.command.Command.TheVariants.{Replay, Recover, Dump, Load}
+use Rattle.command_line.specs.declared.command.Command.TheVariants.{Replay, Recover, Dump, Load, Flush}
 use Rattle.command_line.specs.declared.command.TheConstants.{THRESHOLD_DEFAULT, LOAD_MAX}
 use Rattle.command_line.specs.Numbers.{IsNumberIn}
 
@@ -41,12 +41,17 @@ pub record AsksToLoad (words : List (List ℕ)) (seed batches : ℕ) : Type 0 wh
   pub seed_is : IsSeed seed_text seed
   pub count_is : IsCount count_text batches
 
+-- the one word `flush`
+abbrev pub AsksToFlush : List (List ℕ) → Type 0
+AsksToFlush words = words ≡ codes "flush" ∷ []
+
 -- The words are this command.
 abbrev pub IsCommandOf : List (List ℕ) → Command → Type 0
 IsCommandOf words (Replay threshold) = AsksToReplay words threshold
 IsCommandOf words Recover = AsksToRecover words
 IsCommandOf words Dump = AsksToDump words
 IsCommandOf words (Load seed batches) = AsksToLoad words seed batches
+IsCommandOf words Flush = AsksToFlush words
 
 -- The words are no command.
 abbrev pub IsNoCommand : List (List ℕ) → Type 0

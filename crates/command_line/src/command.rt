@@ -31,6 +31,8 @@ pub enum Command {
         /// How many they are.
         batches: u32,
     },
+    /// Write the store into one table, and remove the segments that it covers.
+    Flush,
 }
 
 impl Command {
@@ -42,6 +44,8 @@ impl Command {
             Some(Command::Recover)
         } else if word == "dump" {
             Some(Command::Dump)
+        } else if word == "flush" {
+            Some(Command::Flush)
         } else {
             None
         }

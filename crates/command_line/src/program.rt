@@ -14,7 +14,8 @@ pub(crate) fn program<'a>(alloc: Global) -> Result<Command<'a>, AllocError>
         .subcommand(replay(alloc)?)?
         .subcommand(load(alloc)?)?
         .subcommand(Command::new(alloc, "recover"))?
-        .subcommand(Command::new(alloc, "dump"))
+        .subcommand(Command::new(alloc, "dump"))?
+        .subcommand(Command::new(alloc, "flush"))
 }
 
 /// No command yet, and none of `clap`'s own words.

@@ -9,6 +9,7 @@ mod Replay
 mod Load
 mod Recover
 mod Dump
+mod Flush
 mod ByCommand
 mod Says
 mod Letting

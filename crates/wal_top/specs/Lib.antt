@@ -9,6 +9,7 @@ pub mod Replay
 pub mod Load
 pub mod Recover
 pub mod Dump
+pub mod Flush
 pub mod ByCommand
 pub mod Rightly
 pub mod Run

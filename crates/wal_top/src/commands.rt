@@ -9,11 +9,13 @@ ghost use Rattle.wal_top.specs.Rightly.{SaysRightly};
 ghost use Rattle.wal_top.specs.Run.{Leaves};
 
 mod dump;
+mod flush;
 mod load;
 mod recover;
 mod replay;
 
 use crate::commands::dump::segments_said;
+use crate::commands::flush::flush_said;
 use crate::commands::load::loaded;
 use crate::commands::recover::store_said;
 use crate::commands::replay::replayed;
@@ -27,7 +29,7 @@ use std::sync::Wait;
 use std::thread::Threads;
 use wal_base::{NoMemory, Source};
 
-const USAGE: &str = "usage: replay [--threshold N] | recover | dump | load SEED COUNT\n";
+const USAGE: &str = "usage: replay [--threshold N] | recover | dump | load SEED COUNT | flush\n";
 
 /// Everything of a run before its first byte is written. The sessions of a round run beside one another, and have met
 /// before it answers.
@@ -58,6 +60,10 @@ pub(crate) fn answered<S: Source, D: TableDisk + Send, G: Gate + Sync, R: Thread
         }
         Ok(Command::Dump) => {
             let said = segments_said(alloc, &mut disk);
+            Answered { said, disk }
+        }
+        Ok(Command::Flush) => {
+            let said = flush_said(alloc, &mut disk);
             Answered { said, disk }
         }
         Err(WordsFault::Usage) => Answered {

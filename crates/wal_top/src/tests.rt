@@ -4,6 +4,7 @@ ghost use Rattle.disk_face.specs.declared.names.TheConstants.{WAL_MAX};
 mod commands;
 mod deaths;
 mod faults;
+mod flushes;
 mod gates;
 mod halts;
 mod orders;

@@ -17,9 +17,12 @@ returns c =
     let three = c.in_ok-subcommand-3.ensures in
     let three_is = three.shape c.new.ensures.local ∙ ap₂ with_subcommand two_is (ap top c.new.ensures.app) in
     let three_local = three.globals ∙ ap₂ ◌||◌ two_local c.new.ensures.local in
-    IfOk-weaker c.subcommand-4.result _ _
+    let four = c.in_ok-subcommand-4.ensures in
+    let four_is = four.shape c.new-2.ensures.local ∙ ap₂ with_subcommand three_is (ap top c.new-2.ensures.app) in
+    let four_local = four.globals ∙ ap₂ ◌||◌ three_local c.new-2.ensures.local in
+    IfOk-weaker c.subcommand-5.result _ _
     (λ command adds. (
-      adds.shape c.new-2.ensures.local ∙ ap₂ with_subcommand three_is (ap top c.new-2.ensures.app),
-      adds.globals ∙ ap₂ ◌||◌ three_local c.new-2.ensures.local,
+      adds.shape c.new-3.ensures.local ∙ ap₂ with_subcommand four_is (ap top c.new-3.ensures.app),
+      adds.globals ∙ ap₂ ◌||◌ four_local c.new-3.ensures.local,
     ))
-    c.subcommand-4.ensures
+    c.subcommand-5.ensures

@@ -16,6 +16,7 @@ use Rattle.wal_top.proofs.Replay.{replay_told, replay_due, replay_unrun}
 use Rattle.wal_top.proofs.Load.{load_told, load_due, load_unrun}
 use Rattle.wal_top.proofs.Recover.{recover_told, recover_due, recover_unrun}
 use Rattle.wal_top.proofs.Dump.{dump_told, dump_due, dump_unrun}
+use Rattle.wal_top.proofs.Flush.{flush_told, flush_due, flush_unrun}
 use Rattle.wal_top.proofs.ByCommand.{says_of, leaves_of}
 use Rattle.wal_top.proofs.commands.answered.Goals as goal
 
@@ -93,6 +94,22 @@ returns-in-Ok-Dump-clause-leaves g c =
     commands.Dump (subst (λ (k : Command). IsCommandOf words k) c.in-Ok-Dump.field-0-is c.in-Ok-Dump.ensures.command)
     c.segments_said-said.ensures.went_on (refl, c.segments_said-said.ensures.leaves)
 
+pub returns-in-Ok-Flush-clause-says : goal.returns-in-Ok-Flush-clause-says
+returns-in-Ok-Flush-clause-says g c =
+    let words = map string_bytes c.args.words.now in
+    let over = change_in g.D.Disk.view c.args.disk c.flush_said-said.new.disk in
+    says_of words (call_of g.S.Source.left g.S.Source.faults c.args.src.now c.args.src.now g.D.Disk.tells g.D.Disk.view c.args.disk c.flush_said-said.new.disk)
+    commands.Flush (subst (λ (k : Command). IsCommandOf words k) c.in-Ok-Flush.field-0-is c.in-Ok-Flush.ensures.command)
+    c.flush_said-said.result (ok_map c.flush_said-said.result c.flush_said-said.ensures.says (λ s p. (refl, p)))
+    (λ text said p. flush_told g.D.Disk.tells over text said p.1) (λ text said p. flush_due g.D.Disk.tells over text said p.1)
+
+pub returns-in-Ok-Flush-clause-leaves : goal.returns-in-Ok-Flush-clause-leaves
+returns-in-Ok-Flush-clause-leaves g c =
+    let words = map string_bytes c.args.words.now in
+    leaves_of words (call_of g.S.Source.left g.S.Source.faults c.args.src.now c.args.src.now g.D.Disk.tells g.D.Disk.view c.args.disk c.flush_said-said.new.disk)
+    commands.Flush (subst (λ (k : Command). IsCommandOf words k) c.in-Ok-Flush.field-0-is c.in-Ok-Flush.ensures.command)
+    c.flush_said-said.ensures.went_on (refl, c.flush_said-said.ensures.leaves)
+
 -- ---- words that are none, or were not read
 
 -- a command that was not begun leaves what it may leave
@@ -101,6 +118,7 @@ unrun (commands.Replay threshold) c unread untouched rests = replay_unrun c unre
 unrun (commands.Load seed batches) c unread untouched rests = (unread, load_unrun c.tells c.disk untouched)
 unrun commands.Recover c unread untouched rests = (unread, recover_unrun c.tells c.disk untouched rests)
 unrun commands.Dump c unread untouched rests = (unread, dump_unrun c.tells c.disk untouched rests)
+unrun commands.Flush c unread untouched rests = (unread, flush_unrun c.tells c.disk untouched rests)
 
 leaves_all : (words : List (List ℕ)) (c : Invocation) → Stays c.left → Stays c.disk → NothingInFlight c.disk.after → Leaves words c
 leaves_all words c unread untouched rests = record {
