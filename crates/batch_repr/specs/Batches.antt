@@ -56,6 +56,10 @@ value_left (RangeDelete start end) = None
 abbrev pub entries_in : List Batch → List Entry
 entries_in batches = flat_map (λ (batch : Batch). batch.entries) batches
 
+-- the value of a key that the last entry about it leaves
+abbrev pub last_value : List ℕ → List Entry → Option (List ℕ)
+last_value key entries = option_and_then value_left (last_or None (filter (is_about key) entries))
+
 -- the value of a key after the first n batches: the one that the last entry about it leaves
 unfoldable pub answer : List Batch → ℕ → List ℕ → Option (List ℕ)
-answer batches n key = option_and_then value_left (last_or None (filter (is_about key) (entries_in (take n batches))))
+answer batches n key = last_value key (entries_in (take n batches))

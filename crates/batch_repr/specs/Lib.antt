@@ -1,4 +1,5 @@
 pub mod Batches
+pub mod Versions
 pub mod Limits
 pub mod Spelling
 pub mod Written

@@ -22,3 +22,4 @@ mod LastWal
 mod TablesBelow
 mod RemovedAll
 mod Flushes
+mod Within

@@ -46,7 +46,7 @@ pub base_within : (found : Option UsedTable) → IfSome found IsSomeUsed → Are
 base_within None is = All-nil HasEntriesWithin
 base_within (Some found) (named, (table, is, tells)) = subst AreWithinLimits (sym tells.batches_are) (batches_within table is)
 
-none_numbered : IsNumberedBefore NUMBER_FIRST []
+pub none_numbered : IsNumberedBefore NUMBER_FIRST []
 unfolding IsContiguous end_after
 none_numbered = record { base = record { from = NUMBER_FIRST; contiguous = tt; ends = refl }; least = omega arith }
 

@@ -7,24 +7,8 @@ use Rattle.batch_repr.specs.declared.batch.Batch.{Batch}
 use Rattle.batch_repr.specs.Batches.{is_counted}
 use Rattle.memtable_shards.specs.declared.sharding.TheConstants.{SHARDS}
 use Rattle.arena_list.specs.Versions.{KeyVersion, AscendVersions}
-
--- a counted entry under its number
-pub record Version : Type 0 where
-  pub entry : Entry
-  pub number : ℕ
-
--- the versions of some entries: those that are counted, each under its number, of which the first is this one
-unfoldable pub versions_from : ℕ → List Entry → List Version
-versions_from number [] = []
-versions_from number (entry ∷ entries) =
-    cond (is_counted entry) (record { entry = entry; number = number } ∷ versions_from (number + 1) entries) (versions_from number entries)
-
-abbrev pub versions_of : Batch → List Version
-versions_of batch = versions_from batch.first batch.entries
-
--- the versions of all the batches
-abbrev pub versions_in : List Batch → List Version
-versions_in batches = flat_map versions_of batches
+pub use Rattle.batch_repr.specs.Versions.{Version, versions_of, versions_in}
+unfoldable pub use Rattle.batch_repr.specs.Versions.{versions_from}
 
 -- the shard of a key: the sum of its bytes modulo 8
 abbrev pub shard_of : List ℕ → ℕ
