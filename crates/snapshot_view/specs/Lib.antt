@@ -1,0 +1,4 @@
+pub mod Scans
+pub mod Views
+pub mod Building
+pub mod Theorems

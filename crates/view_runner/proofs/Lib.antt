@@ -1,0 +1,7 @@
+pub mod Laws
+mod Holding
+mod Answering
+mod Scanned
+mod Chains
+mod OneText
+mod Rows

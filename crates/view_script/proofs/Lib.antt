@@ -1,0 +1,5 @@
+pub mod Laws
+mod AskedSoFar
+mod EmptyEnd
+mod FirstBad
+mod OneAsked
