@@ -19,20 +19,26 @@ use Rattle.command_line.proofs.Enters.{Enters, comes_to, or_else_none}
 
 -- what holds of each of them, holds of any
 each_alone : (P : Text → Command → Type 0) → P (codes "recover") commands.Recover → P (codes "dump") commands.Dump
-    → P (codes "flush") commands.Flush → (word : Text) (command : Command) → command_alone word ≡ Some command → P word command
-each_alone P recover dump flush word command is = first (bytes_eq word (codes "recover")) refl
+    → P (codes "flush") commands.Flush → P (codes "view") commands.View → (word : Text) (command : Command)
+    → command_alone word ≡ Some command → P word command
+each_alone P recover dump flush view word command is = first (bytes_eq word (codes "recover")) refl
   where
     met : (name : Text) (named : Command) → P name named → bytes_eq word name ≡ true → command_alone word ≡ Some named → P word command
     met name named holds same alone =
         let this : named ≡ command = cc (sym alone ∙ is) in
         subst (P word) this (subst (λ w. P w named) (sym ((bytes_eq-Decides word name).0 same)) holds)
 
+    fourth : (same : Bool) → bytes_eq word (codes "view") ≡ same → bytes_eq word (codes "flush") ≡ false
+        → bytes_eq word (codes "dump") ≡ false → bytes_eq word (codes "recover") ≡ false → P word command
+    fourth true d c b a = met (codes "view") commands.View view d (rw (a, b, c, d) refl)
+    fourth false d c b a =
+        let none : command_alone word ≡ None = rw (a, b, c, d) refl in
+        let bad : None ≡ Some command = sym none ∙ is in cc
+
     third : (same : Bool) → bytes_eq word (codes "flush") ≡ same → bytes_eq word (codes "dump") ≡ false
         → bytes_eq word (codes "recover") ≡ false → P word command
     third true c b a = met (codes "flush") commands.Flush flush c (rw (a, b, c) refl)
-    third false c b a =
-        let none : command_alone word ≡ None = rw (a, b, c) refl in
-        let bad : None ≡ Some command = sym none ∙ is in cc
+    third false c b a = fourth (bytes_eq word (codes "view")) refl c b a
 
     second : (same : Bool) → bytes_eq word (codes "dump") ≡ same → bytes_eq word (codes "recover") ≡ false → P word command
     second true b a = met (codes "dump") commands.Dump dump b (rw (a, b) refl)
@@ -54,12 +60,13 @@ sort words commands.Recover is = stands (codes "recover") commands.Recover is re
 sort words commands.Dump is = stands (codes "dump") commands.Dump is refl
 sort words (commands.Load seed batches) is = loads seed batches is
 sort words commands.Flush is = stands (codes "flush") commands.Flush is refl
+sort words commands.View is = stands (codes "view") commands.View is refl
 
 pub alone_is : (words : List Text) (word : Text) (command : Command) → words ≡ word ∷ [] → command_alone word ≡ Some command
     → IsCommandOf words command
 alone_is words word command are is =
     subst (λ ws. IsCommandOf ws command) (sym are)
-    (each_alone (λ w c. IsCommandOf (w ∷ []) c) refl refl refl word command is)
+    (each_alone (λ w c. IsCommandOf (w ∷ []) c) refl refl refl refl word command is)
 
 -- the texts of a replay mean a replay, and those of a load a load
 pub replay_means : (text : Option (Bor (List ℕ))) (command : Command) → Means (asks.Replay text) command
@@ -69,6 +76,7 @@ replay_means text commands.Recover means = absurd means
 replay_means text commands.Dump means = absurd means
 replay_means text (commands.Load seed batches) means = absurd means
 replay_means text commands.Flush means = absurd means
+replay_means text commands.View means = absurd means
 
 pub load_means : (seed_text count_text : Bor (List ℕ)) (command : Command) → Means (asks.Load seed_text count_text) command
     → (seed batches : ℕ) × (command ≡ commands.Load seed batches) × IsSeed seed_text.now seed × IsCount count_text.now batches
@@ -77,10 +85,11 @@ load_means seed_text count_text commands.Recover means = absurd means
 load_means seed_text count_text commands.Dump means = absurd means
 load_means seed_text count_text (commands.Load seed batches) means = (seed, batches, refl, means.0, means.1)
 load_means seed_text count_text commands.Flush means = absurd means
+load_means seed_text count_text commands.View means = absurd means
 
 -- none of these words is `--`
 pub alone_whole : (word : Text) (command : Command) → command_alone word ≡ Some command → has_end (word ∷ []) ≡ false
-alone_whole = each_alone (λ w c. has_end (w ∷ []) ≡ false) refl refl refl
+alone_whole = each_alone (λ w c. has_end (w ∷ []) ≡ false) refl refl refl refl
 
 -- no name is met where the word is no command alone
 pub none_alone : (word : Text) → command_alone word ≡ None → find (answers_to word) names_alone ≡ None
@@ -95,12 +104,20 @@ none_alone word is = first (bytes_eq word (codes "recover")) refl
             let no : true ≡ false = sym equal ∙ unlike in cc
         go false same = same
 
+    fourth : (same : Bool) → bytes_eq word (codes "view") ≡ same → bytes_eq word (codes "flush") ≡ false
+        → bytes_eq word (codes "dump") ≡ false → bytes_eq word (codes "recover") ≡ false → find (answers_to word) names_alone ≡ None
+    fourth true d c b a =
+        let some : command_alone word ≡ Some commands.View = rw (a, b, c, d) refl in
+        let bad : None ≡ Some commands.View = sym is ∙ some in cc
+    fourth false d c b a =
+        rw (other (codes "recover") a, other (codes "dump") b, other (codes "flush") c, other (codes "view") d) refl
+
     third : (same : Bool) → bytes_eq word (codes "flush") ≡ same → bytes_eq word (codes "dump") ≡ false
         → bytes_eq word (codes "recover") ≡ false → find (answers_to word) names_alone ≡ None
     third true c b a =
         let some : command_alone word ≡ Some commands.Flush = rw (a, b, c) refl in
         let bad : None ≡ Some commands.Flush = sym is ∙ some in cc
-    third false c b a = rw (other (codes "recover") a, other (codes "dump") b, other (codes "flush") c) refl
+    third false c b a = fourth (bytes_eq word (codes "view")) refl c b a
 
     second : (same : Bool) → bytes_eq word (codes "dump") ≡ same → bytes_eq word (codes "recover") ≡ false
         → find (answers_to word) names_alone ≡ None
@@ -153,5 +170,17 @@ flush_enters = record {
       (sym (walk_stopped [] (names_of (built program_app)) (walk_from nothing_held) (codes "flush") [] rest));
 }
 
+view_enters : Enters (codes "view") []
+unfolding program_app bare_app replay_app load_app threshold_rule clap_on_literals
+view_enters = record {
+  faults = λ rest.
+      ap₂ comes_to (sym (walk_stopped [] (names_of (built program_app)) (walk_from nothing_held) (codes "view") [] rest))
+      (stopped_fault (built program_app).top (names_of (built program_app)) (walk_from nothing_held) (codes "view", []) rest)
+      ∙ or_else_none _;
+  found = λ rest.
+      ap (λ (end : Walk). entered (built program_app) end.stopped)
+      (sym (walk_stopped [] (names_of (built program_app)) (walk_from nothing_held) (codes "view") [] rest));
+}
+
 pub alone_enters : (word : Text) (command : Command) → command_alone word ≡ Some command → Enters word []
-alone_enters = each_alone (λ w c. Enters w []) recover_enters dump_enters flush_enters
+alone_enters = each_alone (λ w c. Enters w []) recover_enters dump_enters flush_enters view_enters

@@ -2,7 +2,7 @@
 use Rattle.std.specs.Prelude.{◌≡◌, ℕ, ◌-◌, ◌^◌, List, [], ◌∷◌, ◌++◌, codes}
 use Rattle.stall_monitor.specs.declared.verdict.TheConstants.{THRESHOLD_MAX}
 use Rattle.command_line.specs.declared.command.Command.{Command}
-use Rattle.command_line.specs.declared.command.Command.TheVariants.{Replay, Recover, Dump, Load, Flush}
+use Rattle.command_line.specs.declared.command.Command.TheVariants.{Replay, Recover, Dump, Load, Flush, View}
 use Rattle.command_line.specs.declared.command.TheConstants.{THRESHOLD_DEFAULT, LOAD_MAX}
 use Rattle.command_line.specs.Numbers.{IsNumberIn}
 
@@ -45,6 +45,10 @@ pub record AsksToLoad (words : List (List ℕ)) (seed batches : ℕ) : Type 0 wh
 abbrev pub AsksToFlush : List (List ℕ) → Type 0
 AsksToFlush words = words ≡ codes "flush" ∷ []
 
+-- the one word `view`
+abbrev pub AsksToView : List (List ℕ) → Type 0
+AsksToView words = words ≡ codes "view" ∷ []
+
 -- The words are this command.
 abbrev pub IsCommandOf : List (List ℕ) → Command → Type 0
 IsCommandOf words (Replay threshold) = AsksToReplay words threshold
@@ -52,6 +56,7 @@ IsCommandOf words Recover = AsksToRecover words
 IsCommandOf words Dump = AsksToDump words
 IsCommandOf words (Load seed batches) = AsksToLoad words seed batches
 IsCommandOf words Flush = AsksToFlush words
+IsCommandOf words View = AsksToView words
 
 -- The words are no command.
 abbrev pub IsNoCommand : List (List ℕ) → Type 0

@@ -33,6 +33,8 @@ pub enum Command {
     },
     /// Write the store into one table, and remove the segments that it covers.
     Flush,
+    /// Read the store as it was at held numbers.
+    View,
 }
 
 impl Command {
@@ -46,6 +48,8 @@ impl Command {
             Some(Command::Dump)
         } else if word == "flush" {
             Some(Command::Flush)
+        } else if word == "view" {
+            Some(Command::View)
         } else {
             None
         }

@@ -15,7 +15,8 @@ pub(crate) fn program<'a>(alloc: Global) -> Result<Command<'a>, AllocError>
         .subcommand(load(alloc)?)?
         .subcommand(Command::new(alloc, "recover"))?
         .subcommand(Command::new(alloc, "dump"))?
-        .subcommand(Command::new(alloc, "flush"))
+        .subcommand(Command::new(alloc, "flush"))?
+        .subcommand(Command::new(alloc, "view"))
 }
 
 /// No command yet, and none of `clap`'s own words.

@@ -47,6 +47,7 @@ fn words_are_the_commands_of_the_table(rt: HostRuntime) {
     check(&rt, alloc, &["recover"], Command::Recover);
     check(&rt, alloc, &["dump"], Command::Dump);
     check(&rt, alloc, &["flush"], Command::Flush);
+    check(&rt, alloc, &["view"], Command::View);
     check_load(&rt, alloc, &["load", "7", "1"], 7, 1);
     check_load(&rt, alloc, &["load", "0", "2000000"], 0, 2_000_000);
     check_load(
@@ -65,6 +66,7 @@ const NO_COMMANDS: &[&[&str]] = &[
     &["rep"],
     &["recover", "--threshold", "3"],
     &["flush", "1"],
+    &["view", "hold"],
     &["replay", "3"],
     &["load", "7"],
     &["load", "7", "1", "1"],

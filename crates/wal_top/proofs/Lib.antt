@@ -10,6 +10,7 @@ mod Load
 mod Recover
 mod Dump
 mod Flush
+mod View
 mod ByCommand
 mod Says
 mod Letting

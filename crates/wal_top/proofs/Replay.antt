@@ -26,16 +26,16 @@ use Rattle.wal_top.proofs.Work.{work_due}
 same : {a b : List ℕ} → Some a ≡ Some b → a ≡ b
 same e = cc
 
-one_whole : (bytes other : List ℕ) (after : Option (List ℕ)) → told_front other after ≡ Some bytes → IfSome after (λ rest. rest ≡ []) → other ≡ bytes
+pub one_whole : (bytes other : List ℕ) (after : Option (List ℕ)) → told_front other after ≡ Some bytes → IfSome after (λ rest. rest ≡ []) → other ≡ bytes
 one_whole bytes other None e h = absurd cc
 one_whole bytes other (Some rest) e h = sym (append-nil other) ∙ ap (λ (t : List ℕ). other ++ t) (sym h) ∙ same e
 
-not_longer : (bytes front : List ℕ) (after : Option (List ℕ)) → told_front front after ≡ Some bytes → length front ≤ length bytes
+pub not_longer : (bytes front : List ℕ) (after : Option (List ℕ)) → told_front front after ≡ Some bytes → length front ≤ length bytes
 not_longer bytes front None e = absurd cc
 not_longer bytes front (Some rest) e = omega (arith, ap length (same e), length-append front rest)
 
 -- what was read whole is what was told
-read_is_told : (before after : Option (List ℕ)) (bytes told : List ℕ) → ReadsWhole before bytes after → before ≡ Some told → bytes ≡ told
+pub read_is_told : (before after : Option (List ℕ)) (bytes told : List ℕ) → ReadsWhole before bytes after → before ≡ Some told → bytes ≡ told
 read_is_told before after bytes told whole_read told_is = one_whole told bytes after (sym whole_read.taken ∙ told_is) whole_read.at_end
 
 -- An accepted script is not refused.

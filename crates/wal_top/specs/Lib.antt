@@ -10,6 +10,7 @@ pub mod Load
 pub mod Recover
 pub mod Dump
 pub mod Flush
+pub mod View
 pub mod ByCommand
 pub mod Rightly
 pub mod Run

@@ -13,12 +13,14 @@ mod flush;
 mod load;
 mod recover;
 mod replay;
+mod view;
 
 use crate::commands::dump::segments_said;
 use crate::commands::flush::flush_said;
 use crate::commands::load::loaded;
 use crate::commands::recover::store_said;
 use crate::commands::replay::replayed;
+use crate::commands::view::view_said;
 use crate::said::{Answered, saying};
 use crate::status::Status;
 use command_line::{Command, WordsFault, read_command};
@@ -29,7 +31,8 @@ use std::sync::Wait;
 use std::thread::Threads;
 use wal_base::{NoMemory, Source};
 
-const USAGE: &str = "usage: replay [--threshold N] | recover | dump | load SEED COUNT | flush\n";
+const USAGE: &str =
+    "usage: replay [--threshold N] | recover | dump | load SEED COUNT | flush | view\n";
 
 /// Everything of a run before its first byte is written. The sessions of a round run beside one another, and have met
 /// before it answers.
@@ -64,6 +67,10 @@ pub(crate) fn answered<S: Source, D: TableDisk + Send, G: Gate + Sync, R: Thread
         }
         Ok(Command::Flush) => {
             let said = flush_said(alloc, &mut disk);
+            Answered { said, disk }
+        }
+        Ok(Command::View) => {
+            let said = view_said(alloc, src, &mut disk);
             Answered { said, disk }
         }
         Err(WordsFault::Usage) => Answered {

@@ -8,7 +8,7 @@ pub enum Status {
     Done,
     /// The words are no command.
     Usage,
-    /// The script is too long, or has a bad line.
+    /// The script, or what a view asks for, is too long, or has a bad line.
     Script,
     /// The source failed.
     Read,

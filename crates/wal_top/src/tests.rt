@@ -15,6 +15,7 @@ mod shortages;
 mod stalls;
 mod statuses;
 mod tables;
+mod views;
 
 use crate::{NoGate, Ran, Status, run};
 use crc_chunk::{ChunkKind, put_chunk, put_sync_chunk};

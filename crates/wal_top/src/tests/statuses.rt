@@ -8,7 +8,8 @@ use std::test::Fail;
 use std::thread::Threads;
 use wal_base::{Blob, MemSink, MemSource, NoMemory, PutErr, ReadFault, Sink, Source};
 
-const USAGE: &[u8] = b"usage: replay [--threshold N] | recover | dump | load SEED COUNT | flush\n";
+const USAGE: &[u8] =
+    b"usage: replay [--threshold N] | recover | dump | load SEED COUNT | flush | view\n";
 
 /// So many bytes of one comment.
 fn comment_of(alloc: Global, len: usize) -> Result<Vec<u8>, AllocError> {

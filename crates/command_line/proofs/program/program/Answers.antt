@@ -20,9 +20,12 @@ returns c =
     let four = c.in_ok-subcommand-4.ensures in
     let four_is = four.shape c.new-2.ensures.local ∙ ap₂ with_subcommand three_is (ap top c.new-2.ensures.app) in
     let four_local = four.globals ∙ ap₂ ◌||◌ three_local c.new-2.ensures.local in
-    IfOk-weaker c.subcommand-5.result _ _
+    let five = c.in_ok-subcommand-5.ensures in
+    let five_is = five.shape c.new-3.ensures.local ∙ ap₂ with_subcommand four_is (ap top c.new-3.ensures.app) in
+    let five_local = five.globals ∙ ap₂ ◌||◌ four_local c.new-3.ensures.local in
+    IfOk-weaker c.subcommand-6.result _ _
     (λ command adds. (
-      adds.shape c.new-3.ensures.local ∙ ap₂ with_subcommand four_is (ap top c.new-3.ensures.app),
-      adds.globals ∙ ap₂ ◌||◌ four_local c.new-3.ensures.local,
+      adds.shape c.new-4.ensures.local ∙ ap₂ with_subcommand five_is (ap top c.new-4.ensures.app),
+      adds.globals ∙ ap₂ ◌||◌ five_local c.new-4.ensures.local,
     ))
-    c.subcommand-5.ensures
+    c.subcommand-6.ensures

@@ -17,6 +17,7 @@ use Rattle.wal_top.proofs.Load.{load_told, load_due, load_unrun}
 use Rattle.wal_top.proofs.Recover.{recover_told, recover_due, recover_unrun}
 use Rattle.wal_top.proofs.Dump.{dump_told, dump_due, dump_unrun}
 use Rattle.wal_top.proofs.Flush.{flush_told, flush_due, flush_unrun}
+use Rattle.wal_top.proofs.View.{view_told, view_due, view_unrun}
 use Rattle.wal_top.proofs.ByCommand.{says_of, leaves_of}
 use Rattle.wal_top.proofs.commands.answered.Goals as goal
 
@@ -110,6 +111,27 @@ returns-in-Ok-Flush-clause-leaves g c =
     commands.Flush (subst (λ (k : Command). IsCommandOf words k) c.in-Ok-Flush.field-0-is c.in-Ok-Flush.ensures.command)
     c.flush_said-said.ensures.went_on (refl, c.flush_said-said.ensures.leaves)
 
+pub returns-in-Ok-View-clause-says : goal.returns-in-Ok-View-clause-says
+returns-in-Ok-View-clause-says g c =
+    let words = map string_bytes c.args.words.now in
+    let call : Invocation = call_of g.S.Source.left g.S.Source.faults c.args.src.now c.view_said-said.new.src g.D.Disk.tells g.D.Disk.view c.args.disk c.view_said-said.new.disk in
+    says_of words call commands.View (subst (λ (k : Command). IsCommandOf words k) c.in-Ok-View.field-0-is c.in-Ok-View.ensures.command)
+    c.view_said-said.result c.view_said-said.ensures.says (view_told call) (view_due call)
+
+pub returns-in-Ok-View-clause-leaves : goal.returns-in-Ok-View-clause-leaves
+returns-in-Ok-View-clause-leaves g c =
+    let words = map string_bytes c.args.words.now in
+    let call : Invocation = call_of g.S.Source.left g.S.Source.faults c.args.src.now c.view_said-said.new.src g.D.Disk.tells g.D.Disk.view c.args.disk c.view_said-said.new.disk in
+    leaves_of words call commands.View (subst (λ (k : Command). IsCommandOf words k) c.in-Ok-View.field-0-is c.in-Ok-View.ensures.command)
+    c.view_said-said.ensures.went_on c.view_said-said.ensures.leaves
+
+pub returns-in-Ok-View-clause-unread : goal.returns-in-Ok-View-clause-unread
+returns-in-Ok-View-clause-unread g c none = absurd (none (
+  commands.View,
+  subst (λ (k : Command). IsCommandOf (map string_bytes c.args.words.now) k) c.in-Ok-View.field-0-is c.in-Ok-View.ensures.command,
+  refl,
+))
+
 -- ---- words that are none, or were not read
 
 -- a command that was not begun leaves what it may leave
@@ -119,6 +141,7 @@ unrun (commands.Load seed batches) c unread untouched rests = (unread, load_unru
 unrun commands.Recover c unread untouched rests = (unread, recover_unrun c.tells c.disk untouched rests)
 unrun commands.Dump c unread untouched rests = (unread, dump_unrun c.tells c.disk untouched rests)
 unrun commands.Flush c unread untouched rests = (unread, flush_unrun c.tells c.disk untouched rests)
+unrun commands.View c unread untouched rests = view_unrun c unread untouched rests
 
 leaves_all : (words : List (List ℕ)) (c : Invocation) → Stays c.left → Stays c.disk → NothingInFlight c.disk.after → Leaves words c
 leaves_all words c unread untouched rests = record {
