@@ -6,6 +6,7 @@ mod Written
 mod Shortest
 mod Sizes
 mod FitsBatch
+mod Fitting
 mod Tools
 mod Numbers
 mod Entries

@@ -4,8 +4,9 @@ use Rattle.wal_base.specs.declared.entry.Entry.{Entry}
 use Rattle.wal_base.specs.declared.entry.Entry.TheVariants.{Set, Delete, Note, RangeDelete}
 use Rattle.batch_repr.specs.declared.fault.BuildFault.{BuildFault}
 use Rattle.batch_repr.specs.declared.fault.BuildFault.TheVariants as faults
-use Rattle.batch_repr.specs.declared.limits.TheConstants.{KEY_MAX, VALUE_MAX, BATCH_MAX}
-use Rattle.batch_repr.specs.Batches.{count_of}
+use Rattle.batch_repr.specs.declared.limits.TheConstants.{KEY_MAX, VALUE_MAX, BATCH_MAX, NUMBER_MAX}
+use Rattle.batch_repr.specs.declared.batch.Batch.{Batch}
+use Rattle.batch_repr.specs.Batches.{count_of, end_of}
 use Rattle.batch_repr.specs.Limits.{IsWithinLimits}
 use Rattle.batch_repr.specs.Written.{written_len}
 
@@ -13,6 +14,11 @@ use Rattle.batch_repr.specs.Written.{written_len}
 pub record FitsBatch (entries : List Entry) : Type 0 where
   pub limits : All IsWithinLimits entries
   pub size : written_len entries ≤ BATCH_MAX
+
+-- The batch has a spelling: its entries fit one, and its numbers end within the numbers.
+pub record HasSpelling (batch : Batch) : Type 0 where
+  pub fits : FitsBatch batch.entries
+  pub numbers : end_of batch ≤ NUMBER_MAX
 
 -- The entries fit one batch, which has so many bytes as it is written.
 pub record FitsIn (entries : List Entry) (size : ℕ) : Type 0 where

@@ -34,10 +34,13 @@ pub use limits::{
 pub use numbered::Numbered;
 pub use reader::BatchReader;
 pub use shared_entries::SharedEntries;
-pub use theorems::{bytes_have_one_reading, fits_exactly_where_not_refused, shortest_is_written};
+pub use theorems::{
+    batches_with_a_spelling_are_spelled, bytes_have_one_reading, fits_exactly_where_not_refused,
+    shortest_is_written,
+};
 pub use unnumbered::{Unnumbered, UnnumberedBytes};
 pub use unwritten::Unwritten;
-pub use writing::put_set;
+pub use writing::{push_batch, put_set};
 
 #[cfg(test)]
 mod tests;

@@ -1,6 +1,6 @@
 use crate::{
     Batch, BatchBuilder, BatchFault, BatchReader, BuildFault, SharedEntries, Unnumbered, Unwritten,
-    decode, decode_shared,
+    decode, decode_shared, push_batch,
 };
 use std::alloc::Global;
 use std::process::Abort;
@@ -52,6 +52,22 @@ fn a_number_fills_the_header(rt: HostRuntime) {
 fn nothing_counted_is_no_batch(rt: HostRuntime) {
     let builder = BatchBuilder::new(rt.alloc()).expect(&rt, "memory");
     assert!(rt; builder.finish().is_err());
+}
+
+#[test]
+#[tactic(auto, using(crate::proofs::Fitting::spelled_fits))]
+fn a_batch_is_written_as_it_was_read(rt: HostRuntime) {
+    let note = [0x63, 0, 0, 0, 0, 0, 0, 0, 0, 0, 0, 0, 0x03, 0x01, 0x78];
+    let set = [
+        0x0a, 0, 0, 0, 0, 0, 0, 0, 0x01, 0, 0, 0, 0x01, 0x01, 0x61, 0x01, 0x31,
+    ];
+    let mut out = Vec::new(rt.alloc());
+    for bytes in [note.as_slice(), set.as_slice()] {
+        let batch = decode(rt.alloc(), bytes).expect(&rt, "a batch");
+        out.clear();
+        assert!(rt; push_batch(&mut out, &batch).is_ok());
+        assert_eq!(rt; out.as_slice(), bytes);
+    }
 }
 
 /// So many of the bytes, from the front.

@@ -6,7 +6,7 @@ ghost use Rattle.batch_repr.specs.declared.batch.Batch.{Batch};
 ghost use Rattle.batch_repr.specs.declared.fault.BatchFault.{BatchFault};
 ghost use Rattle.batch_repr.specs.Spelling.{SpellsNumber, SpellsBatch};
 ghost use Rattle.batch_repr.specs.Written.{varint};
-ghost use Rattle.batch_repr.specs.Building.{FitsBatch, refusal};
+ghost use Rattle.batch_repr.specs.Building.{FitsBatch, HasSpelling, refusal};
 ghost use Rattle.batch_repr.specs.Reading.{IsFirstFault};
 
 /// A number is written in its shortest spelling.
@@ -18,6 +18,11 @@ pub fn shortest_is_written()
 /// Entries that fit one batch fit it with one more exactly where a builder does not refuse that one.
 pub fn fits_exactly_where_not_refused()
     ensures { (entries : List Entry) (entry : Entry) → FitsBatch entries → (refusal entries entry ≡ None) ↔ FitsBatch (entries ++ entry ∷ []) }
+{}
+
+/// A batch has a spelling exactly where some bytes spell it.
+pub fn batches_with_a_spelling_are_spelled()
+    ensures { (batch : Batch) → HasSpelling batch ↔ ((bytes : List ℕ) × SpellsBatch bytes batch) }
 {}
 
 /// Bytes have one reading: they spell at most one batch, have at most one first fault, and not both.

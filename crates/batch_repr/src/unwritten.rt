@@ -9,8 +9,8 @@ ghost use Rattle.batch_repr.specs.Building.{FitsBatch, MakesBatch, FitsIn};
 use crate::batch::count;
 use crate::limits::{BATCH_MAX, HEADER, KEY_MAX, VALUE_MAX};
 use crate::unnumbered::Unnumbered;
-use crate::writing::push_entry;
-use std::alloc::{AllocError, Global};
+use crate::writing::push_entries;
+use std::alloc::Global;
 use std::marker::Model;
 use wal_base::{Entries, Entry, NoMemory};
 
@@ -88,17 +88,6 @@ fn batch_size(entries: &[Entry]) -> Option<usize>
         }
     }
     Some(size)
-}
-
-/// Adds entries. After an `Err` more bytes may stand after the old ones.
-fn push_entries(out: &mut Vec<u8>, entries: &[Entry]) -> Result<(), AllocError>
-    requires { All IsWithinLimits entries.now }
-    ensures { OnOk result (out.new.items ≡ out.old.items ++ written_entries entries.now) }
-{
-    for entry in entries {
-        push_entry(out, entry)?;
-    }
-    Ok(())
 }
 
 /// A batch of which nothing is written yet: its entries, and how many bytes it will have. Contracts see the list of the

@@ -1,11 +1,13 @@
 //! Entries as they are written, and the header of a batch.
 
-ghost use Rattle.std.specs.Prelude.{◌≡◌, ◌<◌, ◌≤◌, ◌^◌, ◌++◌, length, take, drop, OnOk};
+ghost use Rattle.std.specs.Prelude.{◌≡◌, ◌<◌, ◌≤◌, ◌^◌, ◌++◌, All, length, take, drop, OnOk};
 ghost use Rattle.std.specs.Int.{w32, w64, to_le_bytes};
 ghost use Rattle.wal_base.specs.declared.entry.Entry.TheVariants.{Set};
 ghost use Rattle.batch_repr.specs.Limits.{IsWithinLimits};
-ghost use Rattle.batch_repr.specs.Written.{varint, byte_string, written_entry, written_set};
+ghost use Rattle.batch_repr.specs.Building.{FitsBatch};
+ghost use Rattle.batch_repr.specs.Written.{varint, byte_string, written, written_entry, written_entries, written_set};
 
+use crate::batch::{Batch, count};
 use crate::limits::HEADER;
 use std::alloc::AllocError;
 use wal_base::{Entry, NoMemory};
@@ -92,4 +94,34 @@ pub(crate) fn put_header(bytes: &mut [u8], first: u64, count: u32)
 {
     bytes[..8].copy_from_slice(&first.to_le_bytes());
     bytes[8..HEADER].copy_from_slice(&count.to_le_bytes());
+}
+
+/// Adds entries. After an `Err` more bytes may stand after the old ones.
+pub(crate) fn push_entries(out: &mut Vec<u8>, entries: &[Entry]) -> Result<(), AllocError>
+    requires { All IsWithinLimits entries.now }
+    ensures { OnOk result (out.new.items ≡ out.old.items ++ written_entries entries.now) }
+{
+    for entry in entries {
+        push_entry(out, entry)?;
+    }
+    Ok(())
+}
+
+/// Adds the header of a batch. After an `Err` a part of it may stand there.
+fn push_header(out: &mut Vec<u8>, first: u64, count: u32) -> Result<(), AllocError>
+    ensures { OnOk result (out.new.items ≡ out.old.items ++ to_le_bytes w64 first ++ to_le_bytes w32 count) }
+{
+    out.extend_from_slice(&first.to_le_bytes())?;
+    out.extend_from_slice(&count.to_le_bytes())
+}
+
+/// Adds the one written spelling of a batch, of count 0 too. After an `Err` a part of it may stand there.
+pub fn push_batch(out: &mut Vec<u8>, batch: &Batch) -> Result<(), NoMemory>
+    requires { FitsBatch batch.now.entries }
+    ensures { OnOk result (out.new.items ≡ out.old.items ++ written batch.now) }
+{
+    let entries = batch.entries.as_slice();
+    push_header(out, batch.first, count(entries))?;
+    push_entries(out, entries)?;
+    Ok(())
 }

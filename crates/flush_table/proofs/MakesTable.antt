@@ -8,19 +8,19 @@ use Rattle.batch_repr.specs.Limits.{IsWithinLimits}
 use Rattle.text_lines.specs.Store.{Held, IsStoreOf}
 use Rattle.table_text.specs.Tables.{IsTable, table_with}
 use Rattle.table_text.proofs.Laws.{enough, live_within}
-use Rattle.wal_recovery.specs.Base.{HasEntriesWithin}
+use Rattle.wal_recovery.specs.Base.{IsBatchWithin}
 use Rattle.flush_table.specs.Putting.{FitsTable}
 
-entries_within : (batches : List Batch) → AllByRecursion HasEntriesWithin batches → All IsWithinLimits (entries_in batches)
+entries_within : (batches : List Batch) → AllByRecursion IsBatchWithin batches → All IsWithinLimits (entries_in batches)
 entries_within [] within = All-nil IsWithinLimits
 entries_within (batch ∷ batches) within =
-    All-append IsWithinLimits batch.entries (entries_in batches) within.0 (entries_within batches within.1)
+    All-append IsWithinLimits batch.entries (entries_in batches) within.0.limits (entries_within batches within.1)
 
 pub makes_table : (next : ℕ) (batches : List Batch) (live : List Held) → FitsTable next batches → IsStoreOf batches live
     → length live ≤ count_of (entries_in batches) → IsTable (table_with next live)
 makes_table next batches live fits store few = record {
   ascends = store.ascends;
-  within = live_within batches live (entries_within batches (recursion_from_All HasEntriesWithin batches fits.within)) store;
+  within = live_within batches live (entries_within batches (recursion_from_All IsBatchWithin batches fits.within)) store;
   least = omega (arith, fits.numbered.least, enough fits.numbered.base.from batches live fits.numbered.base.contiguous few, fits.numbered.base.ends);
   most = fits.most;
 }

@@ -9,7 +9,7 @@ use Rattle.disk_face.specs.View.{Dirs, DiskView}
 use Rattle.table_text.specs.Tables.{Table, IsTable, batches_of}
 use Rattle.table_text.proofs.Laws.{batches_within, ends_at_next}
 use Rattle.wal_recovery.specs.declared.reports.Start.{Start}
-use Rattle.wal_recovery.specs.Base.{IsBaseOf, GoesOnFrom, HasEntriesWithin, AreWithinLimits}
+use Rattle.wal_recovery.specs.Base.{IsBaseOf, GoesOnFrom, IsBatchWithin, AreWithinLimits}
 use Rattle.wal_recovery.proofs.Laws.{base_goes_on, goes_on_first}
 use Rattle.flush_table.specs.declared.tables.UsedTable.{UsedTable}
 use Rattle.flush_table.specs.declared.reports.TableSeen.{TableSeen}
@@ -43,7 +43,7 @@ pub table_base : (table : Table) → IsTable table → IsBaseOf table.next (batc
 table_base table is = (table_numbered table is).base
 
 pub base_within : (found : Option UsedTable) → IfSome found IsSomeUsed → AreWithinLimits (start_with found).base
-base_within None is = All-nil HasEntriesWithin
+base_within None is = All-nil IsBatchWithin
 base_within (Some found) (named, (table, is, tells)) = subst AreWithinLimits (sym tells.batches_are) (batches_within table is)
 
 pub none_numbered : IsNumberedBefore NUMBER_FIRST []

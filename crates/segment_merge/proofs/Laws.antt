@@ -7,4 +7,5 @@ pub use Rattle.segment_merge.proofs.OneRefusal.{merged_or_refused, one_refusal}
 pub use Rattle.segment_merge.proofs.Pass.{nothing_merged}
 pub use Rattle.segment_merge.proofs.Places.{Places, later, one, places, sooner}
 pub use Rattle.segment_merge.proofs.Unique.{one_merged}
+pub use Rattle.segment_merge.proofs.Whole.{run_ascends}
 pub use Rattle.wal_base.proofs.Laws.{none_within, within_cases, within_head, within_tail}

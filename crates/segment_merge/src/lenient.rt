@@ -12,7 +12,7 @@ ghost use Rattle.segment_merge.specs.Promises.{RefusesWithRow, RefusesConflictWi
 ghost use Rattle.segment_merge.specs.Promises.{FindsLenientlyMerged, RefusesLenientConflict};
 
 use crate::fault::MergeFault;
-use crate::kept::Kept;
+use crate::known::KnownBatches;
 use crate::segment::{SegmentRead, Segments};
 use batch_repr::{Batch, Batches};
 use std::alloc::Global;
@@ -20,7 +20,7 @@ use std::marker::Model;
 
 /// What the next batch does. It is appended where it begins after all that is kept, and passed over where it is
 /// kept already.
-fn step(kept: &mut Kept, index: u32, batch: Batch) -> Result<(), MergeFault>
+fn step(kept: &mut KnownBatches, index: u32, batch: Batch) -> Result<(), MergeFault>
     requires { IsNumbered batch }
     ensures { LenientSteps kept.old kept.new index batch result }
 {
@@ -36,7 +36,7 @@ fn step(kept: &mut Kept, index: u32, batch: Batch) -> Result<(), MergeFault>
 }
 
 /// Merges one more segment into what was kept of those before it, batch by batch.
-fn merge_batches(kept: &mut Kept, segment: SegmentRead) -> Result<(), MergeFault>
+fn merge_batches(kept: &mut KnownBatches, segment: SegmentRead) -> Result<(), MergeFault>
     requires { IsNumberedSegment segment }
     ensures { MergesSegmentLeniently segment kept.old kept.new result }
 {
@@ -63,7 +63,7 @@ fn ascending_end(from: u64, batches: &[Batch]) -> Option<u64>
 }
 
 /// The number after the batches of a segment, where nothing is kept yet and none of them repeats another.
-fn whole_end(kept: &Kept, batches: &[Batch]) -> Option<u64>
+fn whole_end(kept: &KnownBatches, batches: &[Batch]) -> Option<u64>
     requires { All IsNumbered batches.now }
     ensures none { IfSome result (λ _. kept.now.batches ≡ []) }
     ensures end { IfSome result (IsAscendingFrom kept.now.next batches.now) }
@@ -75,7 +75,7 @@ fn whole_end(kept: &Kept, batches: &[Batch]) -> Option<u64>
 }
 
 /// Merges one more segment into what was kept of those before it.
-fn merge_segment(kept: &mut Kept, segment: SegmentRead) -> Result<(), MergeFault>
+fn merge_segment(kept: &mut KnownBatches, segment: SegmentRead) -> Result<(), MergeFault>
     requires { IsNumberedSegment segment }
     ensures { MergesSegmentLeniently segment kept.old kept.new result }
 {
@@ -89,7 +89,7 @@ fn merge_segment(kept: &mut Kept, segment: SegmentRead) -> Result<(), MergeFault
 }
 
 /// Merges more segments into what was kept of those before them.
-fn merge_row(kept: &mut Kept, row: Segments) -> Result<(), MergeFault>
+fn merge_row(kept: &mut KnownBatches, row: Segments) -> Result<(), MergeFault>
     requires { All IsNumberedSegment row }
     ensures { MergesRowLeniently row kept.old kept.new result }
 {
@@ -102,7 +102,7 @@ fn merge_row(kept: &mut Kept, row: Segments) -> Result<(), MergeFault>
 /// A merge that accepts gaps and goes on, row by row. A contract sees the batches that it has merged so far.
 #[derive(Drop)]
 pub struct LenientMerge {
-    kept: Kept,
+    kept: KnownBatches,
 }
 
 impl Model for LenientMerge {
@@ -123,7 +123,7 @@ impl LenientMerge {
         ensures { result ≡ [] }
     {
         LenientMerge {
-            kept: Kept::new(alloc, 0),
+            kept: KnownBatches::new(alloc, 0),
         }
     }
 

@@ -10,7 +10,7 @@ ghost use Rattle.segment_merge.specs.Keeping.{IsWholeFrom};
 ghost use Rattle.segment_merge.specs.Promises.{MergesSegment, FindsMerged, RefusesGap, RefusesConflict};
 
 use crate::fault::MergeFault;
-use crate::kept::Kept;
+use crate::known::KnownBatches;
 use crate::segment::{SegmentRead, Segments};
 use batch_repr::{Batch, Batches};
 use std::alloc::Global;
@@ -18,7 +18,7 @@ use std::alloc::Global;
 /// What the next batch of a segment does. It is appended where it begins at the number that comes next, and passed
 /// over where it is kept already.
 fn step(
-    kept: &mut Kept,
+    kept: &mut KnownBatches,
     expected: u64,
     is_first: bool,
     index: u32,
@@ -49,7 +49,7 @@ fn step(
 }
 
 /// Merges one more segment, batch by batch.
-fn merge_batches(kept: &mut Kept, segment: SegmentRead) -> Result<(), MergeFault>
+fn merge_batches(kept: &mut KnownBatches, segment: SegmentRead) -> Result<(), MergeFault>
     requires { IsNumberedSegment segment }
     ensures { MergesSegment segment kept.old kept.new result }
 {
@@ -81,7 +81,7 @@ fn contiguous_end(from: u64, batches: &[Batch]) -> Option<u64>
 }
 
 /// The number after the batches of a segment, where nothing is kept yet and the merged list is the segment's own.
-fn whole_end(kept: &Kept, batches: &[Batch]) -> Option<u64>
+fn whole_end(kept: &KnownBatches, batches: &[Batch]) -> Option<u64>
     requires { All IsNumbered batches.now }
     ensures none { IfSome result (λ _. kept.now.batches ≡ []) }
     ensures end { IfSome result (IsWholeFrom kept.now.next batches.now) }
@@ -93,7 +93,7 @@ fn whole_end(kept: &Kept, batches: &[Batch]) -> Option<u64>
 }
 
 /// Merges one more segment. What was kept so far is the merged list of those before it.
-fn merge_segment(kept: &mut Kept, segment: SegmentRead) -> Result<(), MergeFault>
+fn merge_segment(kept: &mut KnownBatches, segment: SegmentRead) -> Result<(), MergeFault>
     requires { IsNumberedSegment segment }
     ensures { MergesSegment segment kept.old kept.new result }
 {
@@ -119,7 +119,7 @@ pub fn merge(alloc: Global, first: u64, segs: Segments) -> Result<Batches, Merge
     ensures gap { RefusesGap first segs result }
     ensures conflict { RefusesConflict first segs result }
 {
-    let mut kept = Kept::new(alloc, first);
+    let mut kept = KnownBatches::new(alloc, first);
     for segment in segs.into_vec() {
         merge_segment(&mut kept, segment)?;
     }

@@ -1,7 +1,7 @@
 ghost use Rattle.std.specs.Prelude.{All, IsTrue};
 ghost use Rattle.segment_merge.specs.Rows.{IsNumbered, IsRow};
 
-use crate::{LenientMerge, MergeFault, SegmentRead, Segments, merge, merge_lenient};
+use crate::{KnownBatches, LenientMerge, MergeFault, SegmentRead, Segments, merge, merge_lenient};
 use batch_repr::{Batch, Batches, NUMBER_MAX, SharedEntries};
 use std::alloc::Global;
 use std::process::Abort;
@@ -182,4 +182,18 @@ fn a_merge_with_gaps_goes_on_from_row_to_row(rt: HostRuntime) {
         first: 12,
     };
     refused(&rt, merge_in_turn(&rt, alloc, &first, &second), fault);
+}
+
+#[test]
+fn a_known_batch_is_found_by_its_number(rt: HostRuntime) {
+    let alloc = rt.alloc();
+    let mut known = KnownBatches::new(alloc, 10);
+    assert!(rt; known.is_empty());
+    let first = batch(&rt, alloc, 10, b'1');
+    assert!(rt; is_numbered(&first) && known.next() <= first.first);
+    assert!(rt; known.push(first).is_ok());
+    assert_eq!(rt; (known.next(), known.batches().len()), (11, 1));
+    assert!(rt; known.has(&batch(&rt, alloc, 10, b'1')));
+    assert!(rt; !known.has(&batch(&rt, alloc, 10, b'2')));
+    assert!(rt; !known.has(&batch(&rt, alloc, 11, b'1')));
 }

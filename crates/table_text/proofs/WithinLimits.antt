@@ -9,6 +9,8 @@ use Rattle.wal_base.specs.declared.entry.Entry.TheVariants.{Set, Delete, Note, R
 use Rattle.batch_repr.specs.declared.batch.Batch.{Batch}
 use Rattle.batch_repr.specs.Batches.{entries_in, is_about, value_left}
 use Rattle.batch_repr.specs.Limits.{IsWithinLimits}
+use Rattle.batch_repr.specs.Building.{FitsBatch}
+use Rattle.batch_repr.proofs.Laws.{set_fits}
 use Rattle.text_lines.specs.Store.{Held, IsStoreOf}
 use Rattle.table_text.specs.Tables.{Table, IsTable, IsHeldWithin, batches_of, set_of, set_batch, set_batches}
 use Rattle.table_text.proofs.LeftBy.{answer_of_all}
@@ -54,13 +56,13 @@ live_within batches live within store k d below =
 -- ---- the batches of a table
 
 sets_within : (number : ℕ) (live : List Held) → AllByRecursion IsHeldWithin live
-    → All (λ (batch : Batch). All IsWithinLimits batch.entries) (set_batches number live)
+    → All (λ (batch : Batch). FitsBatch batch.entries) (set_batches number live)
 unfolding set_batches
-sets_within number [] h = All-nil (λ (batch : Batch). All IsWithinLimits batch.entries)
+sets_within number [] h = All-nil (λ (batch : Batch). FitsBatch batch.entries)
 sets_within number (one ∷ later) h =
-    All-cons (λ (batch : Batch). All IsWithinLimits batch.entries) (set_batch number one) (set_batches (suc number) later)
-    (All-cons IsWithinLimits (set_of one) [] h.0 (All-nil IsWithinLimits)) (sets_within (suc number) later h.1)
+    All-cons (λ (batch : Batch). FitsBatch batch.entries) (set_batch number one) (set_batches (suc number) later)
+    (set_fits one.key one.value h.0) (sets_within (suc number) later h.1)
 
--- their entries are within the limits
-pub batches_within : (table : Table) → IsTable table → All (λ (batch : Batch). All IsWithinLimits batch.entries) (batches_of table)
+-- each of them fits one
+pub batches_within : (table : Table) → IsTable table → All (λ (batch : Batch). FitsBatch batch.entries) (batches_of table)
 batches_within table is = sets_within (table.next - length table.live) table.live (recursion_from_All IsHeldWithin table.live is.within)

@@ -2,7 +2,7 @@
 use Rattle.std.specs.Prelude.{◌≡◌, ℕ, List, [], ◌∷◌, ◌++◌, All}
 use Rattle.batch_repr.specs.declared.batch.Batch.{Batch}
 use Rattle.batch_repr.specs.Batches.{end_after, IsContiguous}
-use Rattle.batch_repr.specs.Limits.{IsWithinLimits}
+use Rattle.batch_repr.specs.Building.{FitsBatch}
 use Rattle.segment_merge.specs.declared.segment.SegmentRead.{SegmentRead}
 use Rattle.disk_face.specs.View.{Dirs}
 use Rattle.wal_recovery.specs.Recovering.{RecoversFrom}
@@ -34,10 +34,10 @@ pub record GoesOnFrom (first : ℕ) (base batches : List Batch) : Type 0 where
   pub contiguous : IsContiguous first merged
   pub behind : batches ≡ base ++ merged
 
--- The keys and values of the batch's entries are within their limits.
-abbrev pub HasEntriesWithin : Batch → Type 0
-HasEntriesWithin batch = All IsWithinLimits batch.entries
+-- The batch is within the limits: its entries fit one.
+abbrev pub IsBatchWithin : Batch → Type 0
+IsBatchWithin batch = FitsBatch batch.entries
 
--- Those of each batch are.
+-- Each of them is.
 abbrev pub AreWithinLimits : List Batch → Type 0
-AreWithinLimits batches = All HasEntriesWithin batches
+AreWithinLimits batches = All IsBatchWithin batches

@@ -70,7 +70,7 @@ ReportsOnSegmentsFrom start tells v found = IsTrue tells → AreReports (directo
 abbrev pub HasNoGapFrom : Start → Recovered → Type 0
 HasNoGapFrom start found = GoesOnFrom start.number start.base found.batches
 
--- Where the entries of the base are within their limits, those of all batches are.
+-- Where the batches of the base are within the limits, all batches are.
 abbrev pub KeepsLimits : Start → Recovered → Type 0
 KeepsLimits start found = AreWithinLimits start.base → AreWithinLimits found.batches
 

@@ -11,7 +11,7 @@ use Rattle.wal_recovery.specs.declared.fault.RecoverFault.{RecoverFault}
 use Rattle.wal_recovery.specs.declared.merging.Merged.{Merged}
 use Rattle.wal_recovery.specs.declared.wals.FoundWal.{FoundWal}
 use Rattle.wal_recovery.specs.Listing.{AreByIndex}
-use Rattle.wal_recovery.specs.Base.{HasEntriesWithin, AreWithinLimits}
+use Rattle.wal_recovery.specs.Base.{IsBatchWithin, AreWithinLimits}
 use Rattle.wal_recovery.specs.Recovering.{WalMerges, WalsMerge}
 use Rattle.wal_recovery.specs.Refused.{IsRefusedFrom}
 use Rattle.wal_recovery.specs.Reports.{ReportOnAll}
@@ -37,7 +37,7 @@ loop-wal-init g c =
       asks = reads_none [] v;
       next = sym (ap (end_after c.args.first) c.new-batches.ensures);
       contiguous = subst (IsContiguous c.args.first) (sym c.new-batches.ensures) tt;
-      limits = subst AreWithinLimits (sym c.new-batches.ensures) (All-nil HasEntriesWithin);
+      limits = subst AreWithinLimits (sym c.new-batches.ensures) (All-nil IsBatchWithin);
       within = c.requires.number;
       merged = λ told dirs listed. subst (WalsMerge c.args.first []) (sym c.new-batches.ensures) (merged_none (files v) c.args.wals.now c.args.first);
       reports = λ told dirs listed. subst (ReportOnAll []) (sym c.requires.none) (reports_none (files v) c.args.wals.now);
@@ -79,7 +79,7 @@ loop-wal-preserved g c =
           (contiguous_append c.args.first c.loop-wal.batches own c.loop-wal.invariant.contiguous
           (subst (λ (n : ℕ). IsContiguous n own) c.loop-wal.invariant.next c.in_ok-own.ensures.contiguous));
       limits = subst AreWithinLimits (sym longer)
-          (All-append HasEntriesWithin c.loop-wal.batches own c.loop-wal.invariant.limits c.in_ok-own.ensures.limits);
+          (All-append IsBatchWithin c.loop-wal.batches own c.loop-wal.invariant.limits c.in_ok-own.ensures.limits);
       within = let low = end_within c.loop-wal.next own c.loop-wal.invariant.within c.in_ok-own.ensures.numbered in omega (arith, low, ends);
       merged = λ told dirs listed. merged_at (files first) c.args.wals.now c.loop-wal.wal-index c.wal-item.result at dirs c.args.first c.loop-wal.next
           c.loop-wal.batches own c.append.new.batches c.loop-wal.invariant.next longer

@@ -11,7 +11,7 @@ use Rattle.wal_recovery.specs.declared.listing.Found.{Found}
 use Rattle.wal_recovery.specs.declared.reports.Mode.TheVariants.{Strict}
 use Rattle.wal_recovery.specs.declared.reports.Recovered.{Recovered}
 use Rattle.std.proofs.lemmas.List.Elements.{All-append}
-use Rattle.wal_recovery.specs.Base.{HasEntriesWithin, AreWithinLimits}
+use Rattle.wal_recovery.specs.Base.{IsBatchWithin, AreWithinLimits}
 use Rattle.wal_recovery.specs.Resting.{OnlySynced}
 use Rattle.wal_recovery.specs.Answers.{IsRefusedByFrom, DiskMemoryOr}
 use Rattle.wal_recovery.specs.Listing.{from_wal}
@@ -80,7 +80,7 @@ returns-clause-contiguous g c = record {
 pub returns-clause-limits : goal.returns-clause-limits
 returns-clause-limits g c = λ base.
     subst AreWithinLimits (sym c.in_ok-append.ensures.added)
-    (All-append HasEntriesWithin c.args.start.base c.in_ok-merged.merged.batches base c.in_ok-merged.ensures.limits)
+    (All-append IsBatchWithin c.args.start.base c.in_ok-merged.merged.batches base c.in_ok-merged.ensures.limits)
 
 pub returns-in_err-sync_all-clause-none : goal.returns-in_err-sync_all-clause-none
 returns-in_err-sync_all-clause-none g c = λ none.

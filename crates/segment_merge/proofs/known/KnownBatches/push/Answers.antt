@@ -2,7 +2,7 @@ use Rattle.std.proofs.Common.{sym, subst, rules}
 use Rattle.batch_repr.specs.Batches.{end_of}
 use Rattle.segment_merge.specs.Keeping.{AreKept}
 use Rattle.segment_merge.proofs.Ascending.{kept_push}
-use Rattle.segment_merge.proofs.kept.Kept.push.Goals as goal
+use Rattle.segment_merge.proofs.known.KnownBatches.push.Goals as goal
 
 pub invariant_of-self : goal.invariant_of-self
 invariant_of-self c =

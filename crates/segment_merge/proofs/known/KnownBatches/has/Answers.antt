@@ -5,7 +5,7 @@ use Rattle.std.proofs.lemmas.List.Sorted.{IsPartitionPoint-from_clause}
 use Rattle.batch_repr.specs.declared.batch.Batch.{Batch}
 use Rattle.segment_merge.specs.Merging.{AscendByNumber}
 use Rattle.segment_merge.proofs.Search.{EndsAt, partitioned, found_there, found_nowhere}
-use Rattle.segment_merge.proofs.kept.Kept.has.Goals as goal
+use Rattle.segment_merge.proofs.known.KnownBatches.has.Goals as goal
 
 pub returns-in-Some : goal.returns-in-Some
 returns-in-Some c =

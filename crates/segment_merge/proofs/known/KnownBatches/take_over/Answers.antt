@@ -1,6 +1,6 @@
 use Rattle.std.proofs.Common.{arith}
 use Rattle.segment_merge.proofs.Whole.{ascends_from_0, ends_below}
-use Rattle.segment_merge.proofs.kept.Kept.take_over.Goals as goal
+use Rattle.segment_merge.proofs.known.KnownBatches.take_over.Goals as goal
 
 pub invariant_of-self : goal.invariant_of-self
 invariant_of-self c = record {

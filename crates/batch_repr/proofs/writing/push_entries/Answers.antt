@@ -1,7 +1,7 @@
 use Rattle.std.proofs.Common.{◌∙◌, ap, ◌++◌, List, ℕ, sym, take, append_assoc, append-nil}
 use Rattle.batch_repr.specs.Written.{written_entry, written_entries}
 use Rattle.batch_repr.proofs.Sizes.{entries_none, entries_more}
-use Rattle.batch_repr.proofs.unwritten.push_entries.Goals as goal
+use Rattle.batch_repr.proofs.writing.push_entries.Goals as goal
 
 pub loop-entry-init : goal.loop-entry-init
 loop-entry-init c = sym (ap (λ (t : List ℕ). c.args.out.now.items ++ t) entries_none ∙ append-nil c.args.out.now.items)
