@@ -1,5 +1,5 @@
-"""Batches and segments as docs/formats has them, written a second time: to compare the program's log with, and to
-make the directories that it recovers.
+"""Batches, segments and streams as docs/formats has them, written a second time: to compare what the program writes with, and
+to make the directories that it recovers.
 """
 
 BLOCK = 32_768
@@ -154,6 +154,19 @@ def rewritten(content, records, log=LOG):
         append(laid, record, log % 2**32, synced)
         places.add(len(laid))
     return bytes(laid)
+
+
+# ---- streams
+
+
+def frame(text):
+    """A text in the frame that it has in a stream. That of no byte is the end mark."""
+    return len(text).to_bytes(4, "little") + masked(crc32c(text)).to_bytes(4, "little") + text
+
+
+def stream(batches):
+    """The stream of those batches."""
+    return b"".join((b"PBWSHIP1", *map(frame, batches), frame(b"")))
 
 
 # ---- generated loads

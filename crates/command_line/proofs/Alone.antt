@@ -19,21 +19,27 @@ use Rattle.command_line.proofs.Enters.{Enters, comes_to, or_else_none}
 
 -- what holds of each of them, holds of any
 each_alone : (P : Text → Command → Type 0) → P (codes "recover") commands.Recover → P (codes "dump") commands.Dump
-    → P (codes "flush") commands.Flush → P (codes "view") commands.View → (word : Text) (command : Command)
-    → command_alone word ≡ Some command → P word command
-each_alone P recover dump flush view word command is = first (bytes_eq word (codes "recover")) refl
+    → P (codes "flush") commands.Flush → P (codes "view") commands.View → P (codes "ship") commands.Ship
+    → (word : Text) (command : Command) → command_alone word ≡ Some command → P word command
+each_alone P recover dump flush view ship word command is = first (bytes_eq word (codes "recover")) refl
   where
     met : (name : Text) (named : Command) → P name named → bytes_eq word name ≡ true → command_alone word ≡ Some named → P word command
     met name named holds same alone =
         let this : named ≡ command = cc (sym alone ∙ is) in
         subst (P word) this (subst (λ w. P w named) (sym ((bytes_eq-Decides word name).0 same)) holds)
 
+    fifth : (same : Bool) → bytes_eq word (codes "ship") ≡ same → bytes_eq word (codes "view") ≡ false
+        → bytes_eq word (codes "flush") ≡ false → bytes_eq word (codes "dump") ≡ false → bytes_eq word (codes "recover") ≡ false
+        → P word command
+    fifth true e d c b a = met (codes "ship") commands.Ship ship e (rw (a, b, c, d, e) refl)
+    fifth false e d c b a =
+        let none : command_alone word ≡ None = rw (a, b, c, d, e) refl in
+        let bad : None ≡ Some command = sym none ∙ is in cc
+
     fourth : (same : Bool) → bytes_eq word (codes "view") ≡ same → bytes_eq word (codes "flush") ≡ false
         → bytes_eq word (codes "dump") ≡ false → bytes_eq word (codes "recover") ≡ false → P word command
     fourth true d c b a = met (codes "view") commands.View view d (rw (a, b, c, d) refl)
-    fourth false d c b a =
-        let none : command_alone word ≡ None = rw (a, b, c, d) refl in
-        let bad : None ≡ Some command = sym none ∙ is in cc
+    fourth false d c b a = fifth (bytes_eq word (codes "ship")) refl d c b a
 
     third : (same : Bool) → bytes_eq word (codes "flush") ≡ same → bytes_eq word (codes "dump") ≡ false
         → bytes_eq word (codes "recover") ≡ false → P word command
@@ -61,12 +67,13 @@ sort words commands.Dump is = stands (codes "dump") commands.Dump is refl
 sort words (commands.Load seed batches) is = loads seed batches is
 sort words commands.Flush is = stands (codes "flush") commands.Flush is refl
 sort words commands.View is = stands (codes "view") commands.View is refl
+sort words commands.Ship is = stands (codes "ship") commands.Ship is refl
 
 pub alone_is : (words : List Text) (word : Text) (command : Command) → words ≡ word ∷ [] → command_alone word ≡ Some command
     → IsCommandOf words command
 alone_is words word command are is =
     subst (λ ws. IsCommandOf ws command) (sym are)
-    (each_alone (λ w c. IsCommandOf (w ∷ []) c) refl refl refl refl word command is)
+    (each_alone (λ w c. IsCommandOf (w ∷ []) c) refl refl refl refl refl word command is)
 
 -- the texts of a replay mean a replay, and those of a load a load
 pub replay_means : (text : Option (Bor (List ℕ))) (command : Command) → Means (asks.Replay text) command
@@ -77,6 +84,7 @@ replay_means text commands.Dump means = absurd means
 replay_means text (commands.Load seed batches) means = absurd means
 replay_means text commands.Flush means = absurd means
 replay_means text commands.View means = absurd means
+replay_means text commands.Ship means = absurd means
 
 pub load_means : (seed_text count_text : Bor (List ℕ)) (command : Command) → Means (asks.Load seed_text count_text) command
     → (seed batches : ℕ) × (command ≡ commands.Load seed batches) × IsSeed seed_text.now seed × IsCount count_text.now batches
@@ -86,10 +94,11 @@ load_means seed_text count_text commands.Dump means = absurd means
 load_means seed_text count_text (commands.Load seed batches) means = (seed, batches, refl, means.0, means.1)
 load_means seed_text count_text commands.Flush means = absurd means
 load_means seed_text count_text commands.View means = absurd means
+load_means seed_text count_text commands.Ship means = absurd means
 
 -- none of these words is `--`
 pub alone_whole : (word : Text) (command : Command) → command_alone word ≡ Some command → has_end (word ∷ []) ≡ false
-alone_whole = each_alone (λ w c. has_end (w ∷ []) ≡ false) refl refl refl refl
+alone_whole = each_alone (λ w c. has_end (w ∷ []) ≡ false) refl refl refl refl refl
 
 -- no name is met where the word is no command alone
 pub none_alone : (word : Text) → command_alone word ≡ None → find (answers_to word) names_alone ≡ None
@@ -104,13 +113,27 @@ none_alone word is = first (bytes_eq word (codes "recover")) refl
             let no : true ≡ false = sym equal ∙ unlike in cc
         go false same = same
 
+    fifth : (same : Bool) → bytes_eq word (codes "ship") ≡ same → bytes_eq word (codes "view") ≡ false
+        → bytes_eq word (codes "flush") ≡ false → bytes_eq word (codes "dump") ≡ false → bytes_eq word (codes "recover") ≡ false
+        → find (answers_to word) names_alone ≡ None
+    fifth true e d c b a =
+        let some : command_alone word ≡ Some commands.Ship = rw (a, b, c, d, e) refl in
+        let bad : None ≡ Some commands.Ship = sym is ∙ some in cc
+    fifth false e d c b a =
+        rw (
+          other (codes "recover") a,
+          other (codes "dump") b,
+          other (codes "flush") c,
+          other (codes "view") d,
+          other (codes "ship") e,
+        ) refl
+
     fourth : (same : Bool) → bytes_eq word (codes "view") ≡ same → bytes_eq word (codes "flush") ≡ false
         → bytes_eq word (codes "dump") ≡ false → bytes_eq word (codes "recover") ≡ false → find (answers_to word) names_alone ≡ None
     fourth true d c b a =
         let some : command_alone word ≡ Some commands.View = rw (a, b, c, d) refl in
         let bad : None ≡ Some commands.View = sym is ∙ some in cc
-    fourth false d c b a =
-        rw (other (codes "recover") a, other (codes "dump") b, other (codes "flush") c, other (codes "view") d) refl
+    fourth false d c b a = fifth (bytes_eq word (codes "ship")) refl d c b a
 
     third : (same : Bool) → bytes_eq word (codes "flush") ≡ same → bytes_eq word (codes "dump") ≡ false
         → bytes_eq word (codes "recover") ≡ false → find (answers_to word) names_alone ≡ None
@@ -182,5 +205,17 @@ view_enters = record {
       (sym (walk_stopped [] (names_of (built program_app)) (walk_from nothing_held) (codes "view") [] rest));
 }
 
+ship_enters : Enters (codes "ship") []
+unfolding program_app bare_app replay_app load_app threshold_rule clap_on_literals
+ship_enters = record {
+  faults = λ rest.
+      ap₂ comes_to (sym (walk_stopped [] (names_of (built program_app)) (walk_from nothing_held) (codes "ship") [] rest))
+      (stopped_fault (built program_app).top (names_of (built program_app)) (walk_from nothing_held) (codes "ship", []) rest)
+      ∙ or_else_none _;
+  found = λ rest.
+      ap (λ (end : Walk). entered (built program_app) end.stopped)
+      (sym (walk_stopped [] (names_of (built program_app)) (walk_from nothing_held) (codes "ship") [] rest));
+}
+
 pub alone_enters : (word : Text) (command : Command) → command_alone word ≡ Some command → Enters word []
-alone_enters = each_alone (λ w c. Enters w []) recover_enters dump_enters flush_enters view_enters
+alone_enters = each_alone (λ w c. Enters w []) recover_enters dump_enters flush_enters view_enters ship_enters

@@ -2,7 +2,7 @@
 use Rattle.std.specs.Prelude.{◌≡◌, ℕ, ◌-◌, ◌^◌, List, [], ◌∷◌, ◌++◌, codes}
 use Rattle.stall_monitor.specs.declared.verdict.TheConstants.{THRESHOLD_MAX}
 use Rattle.command_line.specs.declared.command.Command.{Command}
-use Rattle.command_line.specs.declared.command.Command.TheVariants.{Replay, Recover, Dump, Load, Flush, View}
+use Rattle.command_line.specs.declared.command.Command.TheVariants.{Replay, Recover, Dump, Load, Flush, View, Ship}
 use Rattle.command_line.specs.declared.command.TheConstants.{THRESHOLD_DEFAULT, LOAD_MAX}
 use Rattle.command_line.specs.Numbers.{IsNumberIn}
 
@@ -49,6 +49,10 @@ AsksToFlush words = words ≡ codes "flush" ∷ []
 abbrev pub AsksToView : List (List ℕ) → Type 0
 AsksToView words = words ≡ codes "view" ∷ []
 
+-- the one word `ship`
+abbrev pub AsksToShip : List (List ℕ) → Type 0
+AsksToShip words = words ≡ codes "ship" ∷ []
+
 -- The words are this command.
 abbrev pub IsCommandOf : List (List ℕ) → Command → Type 0
 IsCommandOf words (Replay threshold) = AsksToReplay words threshold
@@ -57,6 +61,7 @@ IsCommandOf words Dump = AsksToDump words
 IsCommandOf words (Load seed batches) = AsksToLoad words seed batches
 IsCommandOf words Flush = AsksToFlush words
 IsCommandOf words View = AsksToView words
+IsCommandOf words Ship = AsksToShip words
 
 -- The words are no command.
 abbrev pub IsNoCommand : List (List ℕ) → Type 0

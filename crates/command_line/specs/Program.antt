@@ -8,7 +8,7 @@ use Rattle.clap.specs.declared.builder.action.ArgAction.TheVariants.{Set}
 use Rattle.clap.specs.declared.builder.command.Command.{Command}
 use Rattle.clap.specs.declared.builder.command.Command.TheViews.{out-Command}
 use Rattle.command_line.specs.declared.command.Command as commands
-use Rattle.command_line.specs.declared.command.Command.TheVariants.{Recover, Dump, Flush, View}
+use Rattle.command_line.specs.declared.command.Command.TheVariants.{Recover, Dump, Flush, View, Ship}
 
 -- `--threshold`, of which a second use is refused
 unfoldable pub threshold_rule : Rule
@@ -44,9 +44,9 @@ bare_app = record {
 
 unfoldable pub program_app : App
 program_app =
-    with_subcommand (with_subcommand (with_subcommand (with_subcommand (with_subcommand (with_subcommand bare_app replay_app.top)
-    load_app.top) (new_shape (codes "recover"))) (new_shape (codes "dump"))) (new_shape (codes "flush")))
-    (new_shape (codes "view"))
+    with_subcommand (with_subcommand (with_subcommand (with_subcommand (with_subcommand (with_subcommand (with_subcommand bare_app
+    replay_app.top) load_app.top) (new_shape (codes "recover"))) (new_shape (codes "dump"))) (new_shape (codes "flush")))
+    (new_shape (codes "view"))) (new_shape (codes "ship"))
 
 -- the command that a word is alone
 abbrev pub command_alone : Text → Option commands.Command
@@ -54,11 +54,13 @@ command_alone word = if bytes_eq word (codes "recover") then Some Recover
     else if bytes_eq word (codes "dump") then Some Dump
     else if bytes_eq word (codes "flush") then Some Flush
     else if bytes_eq word (codes "view") then Some View
+    else if bytes_eq word (codes "ship") then Some Ship
     else None
 
 -- the names of these, as `clap` has them
 abbrev pub names_alone : Names
-names_alone = (codes "recover", []) ∷ (codes "dump", []) ∷ (codes "flush", []) ∷ (codes "view", []) ∷ []
+names_alone =
+    (codes "recover", []) ∷ (codes "dump", []) ∷ (codes "flush", []) ∷ (codes "view", []) ∷ (codes "ship", []) ∷ []
 
 -- The command is told so, and none of its arguments is of its subcommands too.
 abbrev pub IsToldAs : App → Command → Type 0

@@ -35,6 +35,8 @@ pub enum Command {
     Flush,
     /// Read the store as it was at held numbers.
     View,
+    /// Write the store's batches as a stream.
+    Ship,
 }
 
 impl Command {
@@ -50,6 +52,8 @@ impl Command {
             Some(Command::Flush)
         } else if word == "view" {
             Some(Command::View)
+        } else if word == "ship" {
+            Some(Command::Ship)
         } else {
             None
         }

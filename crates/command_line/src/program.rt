@@ -16,7 +16,8 @@ pub(crate) fn program<'a>(alloc: Global) -> Result<Command<'a>, AllocError>
         .subcommand(Command::new(alloc, "recover"))?
         .subcommand(Command::new(alloc, "dump"))?
         .subcommand(Command::new(alloc, "flush"))?
-        .subcommand(Command::new(alloc, "view"))
+        .subcommand(Command::new(alloc, "view"))?
+        .subcommand(Command::new(alloc, "ship"))
 }
 
 /// No command yet, and none of `clap`'s own words.

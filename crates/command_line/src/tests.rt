@@ -48,6 +48,7 @@ fn words_are_the_commands_of_the_table(rt: HostRuntime) {
     check(&rt, alloc, &["dump"], Command::Dump);
     check(&rt, alloc, &["flush"], Command::Flush);
     check(&rt, alloc, &["view"], Command::View);
+    check(&rt, alloc, &["ship"], Command::Ship);
     check_load(&rt, alloc, &["load", "7", "1"], 7, 1);
     check_load(&rt, alloc, &["load", "0", "2000000"], 0, 2_000_000);
     check_load(
@@ -67,6 +68,7 @@ const NO_COMMANDS: &[&[&str]] = &[
     &["recover", "--threshold", "3"],
     &["flush", "1"],
     &["view", "hold"],
+    &["ship", "x"],
     &["replay", "3"],
     &["load", "7"],
     &["load", "7", "1", "1"],

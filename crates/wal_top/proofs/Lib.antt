@@ -11,6 +11,7 @@ mod Recover
 mod Dump
 mod Flush
 mod View
+mod Ship
 mod ByCommand
 mod Says
 mod Letting

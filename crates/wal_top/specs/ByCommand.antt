@@ -2,7 +2,7 @@
 -- of that command (docs/formats/program.md, "Commands" and "Statuses").
 use Rattle.std.specs.Prelude.{ℕ, Bool, true, false, IsTrue, List, codes}
 use Rattle.command_line.specs.declared.command.Command.{Command}
-use Rattle.command_line.specs.declared.command.Command.TheVariants.{Replay, Load, Recover, Dump, Flush, View}
+use Rattle.command_line.specs.declared.command.Command.TheVariants.{Replay, Load, Recover, Dump, Flush, View, Ship}
 use Rattle.command_line.specs.Commands.{IsCommandOf, IsNoCommand}
 use Rattle.wal_top.specs.declared.status.Status.{Status}
 use Rattle.wal_top.specs.declared.status.Status.TheVariants.{Usage}
@@ -13,10 +13,11 @@ use Rattle.wal_top.specs.Recover.{SaysRecover, RecoverIsDue, LeavesRecover}
 use Rattle.wal_top.specs.Dump.{SaysDump, DumpIsDue, LeavesDump}
 use Rattle.wal_top.specs.Flush.{SaysFlush, FlushIsDue, LeavesFlush}
 use Rattle.wal_top.specs.View.{SaysView, ViewIsDue, LeavesView}
+use Rattle.wal_top.specs.Ship.{SaysShip, ShipIsDue, LeavesShip}
 
 -- the whole text where the words are no command
 abbrev pub usage_text : List ℕ
-usage_text = codes "usage: replay [--threshold N] | recover | dump | load SEED COUNT | flush | view\n"
+usage_text = codes "usage: replay [--threshold N] | recover | dump | load SEED COUNT | flush | view | ship\n"
 
 -- What a command has to say, by its status: why, and the whole text that goes with it.
 abbrev pub SaysOf : Command → Invocation → Status → List ℕ → Type 0
@@ -26,6 +27,7 @@ SaysOf Recover c status text = Stays c.left × SaysRecover c.tells c.disk status
 SaysOf Dump c status text = Stays c.left × SaysDump c.tells c.disk status text
 SaysOf Flush c status text = Stays c.left × SaysFlush c.tells c.disk status text
 SaysOf View c status text = SaysView c status text
+SaysOf Ship c status text = Stays c.left × SaysShip c.tells c.disk status text
 
 -- When a status of it has to come.
 abbrev pub IsDueOf : Command → Invocation → Status → Type 0
@@ -35,6 +37,7 @@ IsDueOf Recover c status = RecoverIsDue c.tells c.disk status
 IsDueOf Dump c status = DumpIsDue c.tells c.disk status
 IsDueOf Flush c status = FlushIsDue c.tells c.disk status
 IsDueOf View c status = ViewIsDue c status
+IsDueOf Ship c status = ShipIsDue c.tells c.disk status
 
 -- What it leaves, whatever the status.
 abbrev pub LeavesOf : Command → Invocation → Type 0
@@ -44,6 +47,7 @@ LeavesOf Recover c = Stays c.left × LeavesRecover c.tells c.disk
 LeavesOf Dump c = Stays c.left × LeavesDump c.tells c.disk
 LeavesOf Flush c = Stays c.left × LeavesFlush c.tells c.disk
 LeavesOf View c = LeavesView c
+LeavesOf Ship c = Stays c.left × LeavesShip c.tells c.disk
 
 -- whether it reads the source
 abbrev pub reads_source : Command → Bool

@@ -11,6 +11,7 @@ pub mod Recover
 pub mod Dump
 pub mod Flush
 pub mod View
+pub mod Ship
 pub mod ByCommand
 pub mod Rightly
 pub mod Run

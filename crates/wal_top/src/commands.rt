@@ -13,6 +13,7 @@ mod flush;
 mod load;
 mod recover;
 mod replay;
+mod ship;
 mod view;
 
 use crate::commands::dump::segments_said;
@@ -20,6 +21,7 @@ use crate::commands::flush::flush_said;
 use crate::commands::load::loaded;
 use crate::commands::recover::store_said;
 use crate::commands::replay::replayed;
+use crate::commands::ship::ship_said;
 use crate::commands::view::view_said;
 use crate::said::{Answered, saying};
 use crate::status::Status;
@@ -32,7 +34,7 @@ use std::thread::Threads;
 use wal_base::{NoMemory, Source};
 
 const USAGE: &str =
-    "usage: replay [--threshold N] | recover | dump | load SEED COUNT | flush | view\n";
+    "usage: replay [--threshold N] | recover | dump | load SEED COUNT | flush | view | ship\n";
 
 /// Everything of a run before its first byte is written. The sessions of a round run beside one another, and have met
 /// before it answers.
@@ -71,6 +73,10 @@ pub(crate) fn answered<S: Source, D: TableDisk + Send, G: Gate + Sync, R: Thread
         }
         Ok(Command::View) => {
             let said = view_said(alloc, src, &mut disk);
+            Answered { said, disk }
+        }
+        Ok(Command::Ship) => {
+            let said = ship_said(alloc, &mut disk);
             Answered { said, disk }
         }
         Err(WordsFault::Usage) => Answered {

@@ -16,7 +16,7 @@ pub enum Status {
     Write,
     /// The disk failed.
     Disk,
-    /// The directories were refused.
+    /// The directories, or the table that a store begins with, were refused.
     Refused,
     /// Memory ran out.
     NoMemory,

@@ -11,6 +11,7 @@ mod orders;
 mod recovery;
 mod replays;
 mod scripts;
+mod ships;
 mod shortages;
 mod stalls;
 mod statuses;

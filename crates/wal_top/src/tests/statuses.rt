@@ -9,7 +9,7 @@ use std::thread::Threads;
 use wal_base::{Blob, MemSink, MemSource, NoMemory, PutErr, ReadFault, Sink, Source};
 
 const USAGE: &[u8] =
-    b"usage: replay [--threshold N] | recover | dump | load SEED COUNT | flush | view\n";
+    b"usage: replay [--threshold N] | recover | dump | load SEED COUNT | flush | view | ship\n";
 
 /// So many bytes of one comment.
 fn comment_of(alloc: Global, len: usize) -> Result<Vec<u8>, AllocError> {

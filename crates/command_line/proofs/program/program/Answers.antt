@@ -23,9 +23,12 @@ returns c =
     let five = c.in_ok-subcommand-5.ensures in
     let five_is = five.shape c.new-3.ensures.local ∙ ap₂ with_subcommand four_is (ap top c.new-3.ensures.app) in
     let five_local = five.globals ∙ ap₂ ◌||◌ four_local c.new-3.ensures.local in
-    IfOk-weaker c.subcommand-6.result _ _
+    let six = c.in_ok-subcommand-6.ensures in
+    let six_is = six.shape c.new-4.ensures.local ∙ ap₂ with_subcommand five_is (ap top c.new-4.ensures.app) in
+    let six_local = six.globals ∙ ap₂ ◌||◌ five_local c.new-4.ensures.local in
+    IfOk-weaker c.subcommand-7.result _ _
     (λ command adds. (
-      adds.shape c.new-4.ensures.local ∙ ap₂ with_subcommand five_is (ap top c.new-4.ensures.app),
-      adds.globals ∙ ap₂ ◌||◌ five_local c.new-4.ensures.local,
+      adds.shape c.new-5.ensures.local ∙ ap₂ with_subcommand six_is (ap top c.new-5.ensures.app),
+      adds.globals ∙ ap₂ ◌||◌ six_local c.new-5.ensures.local,
     ))
-    c.subcommand-6.ensures
+    c.subcommand-7.ensures

@@ -18,6 +18,7 @@ use Rattle.wal_top.proofs.Recover.{recover_told, recover_due, recover_unrun}
 use Rattle.wal_top.proofs.Dump.{dump_told, dump_due, dump_unrun}
 use Rattle.wal_top.proofs.Flush.{flush_told, flush_due, flush_unrun}
 use Rattle.wal_top.proofs.View.{view_told, view_due, view_unrun}
+use Rattle.wal_top.proofs.Ship.{ship_told, ship_due, ship_unrun}
 use Rattle.wal_top.proofs.ByCommand.{says_of, leaves_of}
 use Rattle.wal_top.proofs.commands.answered.Goals as goal
 
@@ -132,6 +133,22 @@ returns-in-Ok-View-clause-unread g c none = absurd (none (
   refl,
 ))
 
+pub returns-in-Ok-Ship-clause-says : goal.returns-in-Ok-Ship-clause-says
+returns-in-Ok-Ship-clause-says g c =
+    let words = map string_bytes c.args.words.now in
+    let over = change_in g.D.Disk.view c.args.disk c.ship_said-said.new.disk in
+    says_of words (call_of g.S.Source.left g.S.Source.faults c.args.src.now c.args.src.now g.D.Disk.tells g.D.Disk.view c.args.disk c.ship_said-said.new.disk)
+    commands.Ship (subst (λ (k : Command). IsCommandOf words k) c.in-Ok-Ship.field-0-is c.in-Ok-Ship.ensures.command)
+    c.ship_said-said.result (ok_map c.ship_said-said.result c.ship_said-said.ensures.says (λ s p. (refl, p)))
+    (λ text said p. ship_told g.D.Disk.tells over text said p.1) (λ text said p. ship_due g.D.Disk.tells over text said p.1)
+
+pub returns-in-Ok-Ship-clause-leaves : goal.returns-in-Ok-Ship-clause-leaves
+returns-in-Ok-Ship-clause-leaves g c =
+    let words = map string_bytes c.args.words.now in
+    leaves_of words (call_of g.S.Source.left g.S.Source.faults c.args.src.now c.args.src.now g.D.Disk.tells g.D.Disk.view c.args.disk c.ship_said-said.new.disk)
+    commands.Ship (subst (λ (k : Command). IsCommandOf words k) c.in-Ok-Ship.field-0-is c.in-Ok-Ship.ensures.command)
+    c.ship_said-said.ensures.went_on (refl, c.ship_said-said.ensures.leaves)
+
 -- ---- words that are none, or were not read
 
 -- a command that was not begun leaves what it may leave
@@ -142,6 +159,7 @@ unrun commands.Recover c unread untouched rests = (unread, recover_unrun c.tells
 unrun commands.Dump c unread untouched rests = (unread, dump_unrun c.tells c.disk untouched rests)
 unrun commands.Flush c unread untouched rests = (unread, flush_unrun c.tells c.disk untouched rests)
 unrun commands.View c unread untouched rests = view_unrun c unread untouched rests
+unrun commands.Ship c unread untouched rests = (unread, ship_unrun c.tells c.disk untouched rests)
 
 leaves_all : (words : List (List ℕ)) (c : Invocation) → Stays c.left → Stays c.disk → NothingInFlight c.disk.after → Leaves words c
 leaves_all words c unread untouched rests = record {
