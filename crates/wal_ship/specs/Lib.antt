@@ -1,1 +1,5 @@
 pub mod Stream
+pub mod Following
+pub mod Course
+pub mod Taking
+pub mod Theorems

@@ -10,7 +10,10 @@ use std::alloc::Global;
 use wal_base::{Buf, NoMemory};
 
 /// The first bytes of a stream.
-const MAGIC: [u8; 8] = *b"PBWSHIP1";
+pub(crate) const MAGIC: [u8; 8] = *b"PBWSHIP1";
+
+/// How many bytes stand before a text in its frame: its length and its checksum.
+pub(crate) const HEAD: usize = 8;
 
 /// Adds a text in its frame. After an `Err` a part of it may stand there.
 #[tactic(auto, unfolding(crate::specs::Stream::in_frame))]
